@@ -1,7 +1,7 @@
 # The common commands. `make check C=toml_edit_key` takes the name of a crate; so do `test` and `edits`.
 C = toml_edit
 RT = PATH="/opt/rattle/bin:$$PATH" rt
-ROWS = toml_edit_rows toml_edit_rows_tables toml_edit_rows_values
+ROWS = test_rows test_rows_tables test_rows_values
 
 help: ## lists these commands
 	@sed -n 's/^\([a-z]*\):.*## /\1\t/p' Makefile

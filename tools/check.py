@@ -25,7 +25,7 @@ import duplicates
 import sources
 from sources import TOP, read
 
-GUIDES = ("toml_edit_guide", "toml_edit_jobs", "toml_edit_example")
+GUIDES = ("toml_edit_guide", "toml_edit_recipes", "toml_edit_example")
 SHOWING = ("README.md", "docs/GUIDE.md", "docs/PROVING.md", "docs/MIGRATING.md")
 # The most bytes that a page may have, and some together.
 SIZES = {
@@ -36,7 +36,7 @@ ALL = 140000
 # References beside code, which are no pages.
 REFERENCES = ("crates/*", "docs/api/*")
 WORDS = 35
-ROWS = ("toml_edit_rows", "toml_edit_rows_tables", "toml_edit_rows_values")
+ROWS = ("test_rows", "test_rows_tables", "test_rows_values")
 PATH = re.compile(r"(?<![\w./*-])(?:crates|docs|bench|tools|\.ci)/[\w*./-]*[\w*]")
 
 

@@ -1,5 +1,5 @@
 #!/usr/bin/env python3
-"""Writes rows of generated documents for crates/toml_edit_rows: always the same ones, as the seed is fixed.
+"""Writes rows of generated documents for crates/test_rows: always the same ones, as the seed is fixed.
 
 A document is made in its settled form, which has to come back as it is. Then it is changed in ways that its normal form takes back:
 lines and pairs of one dotted key are moved apart, keys are spelled and spaced otherwise where they are mentioned again, line endings

@@ -15,7 +15,7 @@ A row with the step `take_no_memory` is run once more with every allocation behi
 import collections, multiprocessing, os, re, subprocess, sys, tempfile
 
 TOP = os.path.dirname(os.path.dirname(os.path.abspath(__file__)))
-PROGRAMS = ["toml_edit_rows", "toml_edit_rows_tables", "toml_edit_rows_values"]
+PROGRAMS = ["test_rows", "test_rows_tables", "test_rows_values"]
 GENERATED = 500
 STEP_WITHOUT = "take_no_memory"
 # The library is loaded before the program. It forks it for each run before `main`, so a run costs no start of a program.
@@ -67,7 +67,7 @@ __attribute__((constructor)) static void run_each(void) {
   }
 }
 """
-# The room that an answer makes at that step: `ROOM` of `crates/toml_edit_rows_read/src/answer.rt`.
+# The room that an answer makes at that step: `ROOM` of `crates/test_rows_read/src/answer.rt`.
 ROOM = 77777
 
 

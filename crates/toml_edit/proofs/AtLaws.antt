@@ -4,17 +4,18 @@ use Rattle.toml_edit_model.specs.Text.{Text}
 use Rattle.toml_edit_model.specs.Tree.{Raw, Node, nothing, leaf, list, inline, table, tables, TableFields, Slots, Tree}
 use Rattle.toml_edit_model.specs.Slots.{Slot, lookup_slot}
 use Rattle.toml_edit_model.specs.Lists.{slot_list, slots_from}
-use Rattle.toml_edit_laws.specs.Commands.{Answer, Refusal, done, refused, no_such_path, wrong_kind, mapped, root_slots, root_item, with_slots, change_slot, drop_slot, present, set_below, set_at, remove_below, remove_at}
+use Rattle.toml_edit_laws.specs.Commands.{Answer, Refusal, done, refused, no_such_path, wrong_kind, mapped, root_slots, root_item}
+use Rattle.toml_edit_laws.specs.Commands.{with_slots, change_slot, drop_slot, present, set_below, set_at, remove_below, remove_at}
 use Rattle.toml_edit_laws.proofs.commands.Setting.{was-mapped}
 use Rattle.toml_edit_tree.specs.View.{fields_view, item_view, table_slots, tree_view}
 use Rattle.toml_edit_tree.specs.declared.item.Item.{the_lemmas}
 use Rattle.toml_edit_tree.specs.declared.item.Item.TheVariants as items
 use Rattle.toml_edit_tree.specs.declared.table.Table.{Table}
-use Rattle.toml_edit_change.specs.Calls.{Change, ChangesFound, TakesFound, item_inside, replaced_at, replaced_below}
-use Rattle.toml_edit_change.specs.Changes.{Changes}
-use Rattle.toml_edit_change.specs.Headed.{set_at_with_headers, set_headed_below}
-use Rattle.toml_edit_change.specs.declared.fault.ChangeFault.{ChangeFault}
-use Rattle.toml_edit_change.specs.declared.fault.ChangeFault.TheVariants.{NoSuchPath, WrongKind, Memory}
+use Rattle.toml_edit_paths.specs.Calls.{Change, ChangesFound, TakesFound, item_inside, replaced_at, replaced_below}
+use Rattle.toml_edit_paths.specs.Changes.{Changes}
+use Rattle.toml_edit_paths.specs.Headed.{set_at_with_headers, set_headed_below}
+use Rattle.toml_edit_paths.specs.declared.fault.ChangeFault.{ChangeFault}
+use Rattle.toml_edit_paths.specs.declared.fault.ChangeFault.TheVariants.{NoSuchPath, WrongKind, Memory}
 use Rattle.toml_edit.specs.DocumentView.{tree_owned}
 use Rattle.toml_edit.specs.Roots.{tree_at, tree_under}
 use Rattle.toml_edit.specs.declared.document.DocumentMut.{DocumentMut}
@@ -32,9 +33,11 @@ tree f ss r = record { root = f; slots = ss; trailing = r }
 
 -- a root of which only the slots change
 module _ (t u : Tree) (trailing : u.trailing ≡ t.trailing) where
-  slots-change : (a : Answer (List (Slot Node))) → mapped (λ xs. table t.root (slots_from xs)) a ≡ done (root_item u) → with_slots t (root_item u) ≡ u
+  slots-change : (a : Answer (List (Slot Node))) → mapped (λ xs. table t.root (slots_from xs)) a ≡ done (root_item u)
+      → with_slots t (root_item u) ≡ u
   slots-change a h =
-      ap (λ f. tree f u.slots t.trailing) (sym (ap (fields-of u.root) (was-mapped (λ xs. table t.root (slots_from xs)) a (root_item u) h).gives))
+      ap (λ f. tree f u.slots t.trailing) (sym (ap (fields-of u.root)
+      (was-mapped (λ xs. table t.root (slots_from xs)) a (root_item u) h).gives))
       ∙ ap (tree u.root u.slots) (sym trailing)
 
   pub set-done : (path : List Text) (v : Node) → set_below v path (root_item t) ≡ done (root_item u) → set_at path v t ≡ done u
@@ -43,13 +46,15 @@ module _ (t u : Tree) (trailing : u.trailing ≡ t.trailing) where
       ap (mapped (with_slots t)) h
       ∙ ap done (slots-change (change_slot true k (set_below v path) (slot_list t.slots) (lookup_slot k (slot_list t.slots))) h)
 
-  pub headers-done : (path : List Text) (v : Node) → set_headed_below v path (root_item t) ≡ done (root_item u) → set_at_with_headers path v t ≡ done u
+  pub headers-done : (path : List Text) (v : Node) → set_headed_below v path (root_item t) ≡ done (root_item u)
+      → set_at_with_headers path v t ≡ done u
   headers-done [] v h = cc
   headers-done (k ∷ path) v h =
       ap (mapped (with_slots t)) h
       ∙ ap done (slots-change (change_slot true k (set_headed_below v path) (slot_list t.slots) (lookup_slot k (slot_list t.slots))) h)
 
-  pub replaced-done : (path : List Text) (m n : Node) → item_inside path (root_item t) ≡ Some n → replaced_below path m (root_item t) ≡ done (root_item u) → replaced_at path m t ≡ done u
+  pub replaced-done : (path : List Text) (m n : Node) → item_inside path (root_item t) ≡ Some n → replaced_below path m (root_item t)
+      ≡ done (root_item u) → replaced_at path m t ≡ done u
   replaced-done [] m n there h = absurd cc
   replaced-done (k ∷ path) m n there h =
       ap (mapped (with_slots t)) h
@@ -58,7 +63,8 @@ module _ (t u : Tree) (trailing : u.trailing ≡ t.trailing) where
   pub remove-done : (path : List Text) → remove_below path (root_item t) ≡ done (root_item u) → remove_at path t ≡ done u
   remove-done [] h = cc
   remove-done (k ∷ []) h =
-      ap (mapped (with_slots t)) h ∙ ap done (slots-change (drop_slot k (slot_list t.slots) (present (lookup_slot k (slot_list t.slots)))) h)
+      ap (mapped (with_slots t)) h ∙ ap done (slots-change (drop_slot k (slot_list t.slots) (present (lookup_slot k (slot_list t.slots))))
+      h)
   remove-done (k ∷ l ∷ path) h =
       ap (mapped (with_slots t)) h
       ∙ ap done (slots-change (change_slot false k (remove_below (l ∷ path)) (slot_list t.slots) (lookup_slot k (slot_list t.slots))) h)
@@ -94,46 +100,55 @@ module _ (d : DocumentMut) (t w : Table) (fields : fields_view t ≡ (tree_owned
 
   -- what is done to the root's node is done to the tree
   changed : (r : Result (Unit {0}) ChangeFault) (meant : Answer Node) (seen : Answer Tree)
-      → (meant ≡ done (node_of w) → seen ≡ done (tree_under (items.Table w) d.trailing)) → ((q : Refusal) → meant ≡ refused q → seen ≡ refused q)
+      → (meant ≡ done (node_of w) → seen ≡ done (tree_under (items.Table w) d.trailing))
+      → ((q : Refusal) → meant ≡ refused q → seen ≡ refused q)
       → Changes meant (node_of t) (node_of w) r → Changes seen (tree_owned d) (tree_under (items.Table w) d.trailing) r
   changed (Ok u) meant seen is_done is_refused h = is_done h
   changed (Err NoSuchPath) meant seen is_done is_refused h = (is_refused no_such_path h.0, stays h.1)
   changed (Err WrongKind) meant seen is_done is_refused h = (is_refused wrong_kind h.0, stays h.1)
   changed (Err Memory) meant seen is_done is_refused h = stays h
 
-  pub set-root : (path : List Text) (v : Node) (r : Result (Unit {0}) ChangeFault) → Changes (set_below v path (node_of t)) (node_of t) (node_of w) r
+  pub set-root : (path : List Text) (v : Node) (r : Result (Unit {0}) ChangeFault)
+      → Changes (set_below v path (node_of t)) (node_of t) (node_of w) r
       → Changes (set_at path v (tree_owned d)) (tree_owned d) (tree_under (items.Table w) d.trailing) r
   set-root path v r =
       changed r (set_below v path (node_of t)) (set_at path v (tree_owned d))
-      (λ h. set-done (tree_owned d) (tree_view w d.trailing) (sym (trailing-at (item_view d.root) d.trailing)) path v (ap (set_below v path) (sym was) ∙ h)
+      (λ h. set-done (tree_owned d) (tree_view w d.trailing) (sym (trailing-at (item_view d.root) d.trailing)) path v
+      (ap (set_below v path) (sym was) ∙ h)
       ∙ ap done is)
       (λ q h. ap (mapped (with_slots (tree_owned d))) (ap (set_below v path) (sym was) ∙ h))
 
-  pub remove-root : (path : List Text) (r : Result (Unit {0}) ChangeFault) → Changes (remove_below path (node_of t)) (node_of t) (node_of w) r
+  pub remove-root : (path : List Text) (r : Result (Unit {0}) ChangeFault)
+      → Changes (remove_below path (node_of t)) (node_of t) (node_of w) r
       → Changes (remove_at path (tree_owned d)) (tree_owned d) (tree_under (items.Table w) d.trailing) r
   remove-root path r =
       changed r (remove_below path (node_of t)) (remove_at path (tree_owned d))
-      (λ h. remove-done (tree_owned d) (tree_view w d.trailing) (sym (trailing-at (item_view d.root) d.trailing)) path (ap (remove_below path) (sym was) ∙ h)
+      (λ h. remove-done (tree_owned d) (tree_view w d.trailing) (sym (trailing-at (item_view d.root) d.trailing)) path
+      (ap (remove_below path) (sym was) ∙ h)
       ∙ ap done is)
       (λ q h. ap (mapped (with_slots (tree_owned d))) (ap (remove_below path) (sym was) ∙ h))
 
-  pub headers-root : (path : List Text) (v : Node) (r : Result (Unit {0}) ChangeFault) → Changes (set_headed_below v path (node_of t)) (node_of t) (node_of w) r
+  pub headers-root : (path : List Text) (v : Node) (r : Result (Unit {0}) ChangeFault)
+      → Changes (set_headed_below v path (node_of t)) (node_of t) (node_of w) r
       → Changes (set_at_with_headers path v (tree_owned d)) (tree_owned d) (tree_under (items.Table w) d.trailing) r
   headers-root path v r =
       changed r (set_headed_below v path (node_of t)) (set_at_with_headers path v (tree_owned d))
-      (λ h. headers-done (tree_owned d) (tree_view w d.trailing) (sym (trailing-at (item_view d.root) d.trailing)) path v (ap (set_headed_below v path) (sym was) ∙ h)
+      (λ h. headers-done (tree_owned d) (tree_view w d.trailing) (sym (trailing-at (item_view d.root) d.trailing)) path v
+      (ap (set_headed_below v path) (sym was) ∙ h)
       ∙ ap done is)
       (λ q h. ap (mapped (with_slots (tree_owned d))) (ap (set_headed_below v path) (sym was) ∙ h))
 
   -- a closure that may be called on an item below it may be called there
-  pub change-takes : {F R : Type 0} (g : Change F R) (f : F) (path : List Text) → TakesFound g f (item_inside path (root_item (tree_owned d)))
+  pub change-takes : {F R : Type 0} (g : Change F R) (f : F) (path : List Text)
+      → TakesFound g f (item_inside path (root_item (tree_owned d)))
       → TakesFound g f (item_inside path (node_of t))
   change-takes g f path h = λ item is. h item (ap (item_inside path) (sym was) ∙ is)
 
   -- and so is what a closure does to an item below it
   pub change-root : {F R : Type 0} (g : Change F R) (f : F) (path : List Text) (r : Option R)
       → ChangesFound g f (item_inside path (node_of t)) (λ left. replaced_below path left (node_of t)) (node_of t) (node_of w) r
-      → ChangesFound g f (item_inside path (root_item (tree_owned d))) (λ left. replaced_at path left (tree_owned d)) (tree_owned d) (tree_under (items.Table w) d.trailing) r
+      → ChangesFound g f (item_inside path (root_item (tree_owned d))) (λ left. replaced_at path left (tree_owned d)) (tree_owned d)
+      (tree_under (items.Table w) d.trailing) r
   change-root g f path None h = (ap (item_inside path) (sym was) ∙ h.0, stays h.1)
   change-root g f path (Some r) h =
       let found : item_inside path (root_item (tree_owned d)) ≡ Some (item_view h.item) = ap (item_inside path) (sym was) ∙ h.found_it in
@@ -142,7 +157,8 @@ module _ (d : DocumentMut) (t w : Table) (fields : fields_view t ≡ (tree_owned
         left = h.left;
         found_it = found;
         returned = h.returned;
-        put_back = replaced-done (tree_owned d) (tree_view w d.trailing) (sym (trailing-at (item_view d.root) d.trailing)) path (item_view h.left) (item_view h.item) found
+        put_back = replaced-done (tree_owned d) (tree_view w d.trailing) (sym (trailing-at (item_view d.root) d.trailing)) path
+            (item_view h.left) (item_view h.item) found
             (ap (replaced_below path (item_view h.left)) (sym was) ∙ h.put_back)
             ∙ ap done is;
       }

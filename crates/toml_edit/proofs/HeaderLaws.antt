@@ -1,16 +1,19 @@
 -- The turns of the walk over the tables, and the text of a header by its parts.
-use Rattle.std.proofs.Common.{◌≡◌, ℕ, ◌+◌, ◌<◌, Bool, true, false, List, [], ◌∷◌, ◌++◌, length, get_or, drop, refl, sym, ap, ◌∙◌, rules, append_assoc, Some, eqb-true}
+use Rattle.std.proofs.Common.{◌≡◌, ℕ, ◌+◌, ◌<◌, Bool, true, false, List, [], ◌∷◌, ◌++◌, length, get_or, drop, refl, sym, ap, ◌∙◌, rules}
+use Rattle.std.proofs.Common.{append_assoc, Some, eqb-true}
 use Rattle.std.specs.Prelude.{not, ◌||◌, ◌==◌, if◌then◌else◌}
 use Rattle.std.proofs.lemmas.List.{drop_more}
 use Rattle.std.proofs.lemmas.Option.{same_Some}
 use Rattle.toml_edit_model.specs.Mode.{Mode, plain, exact, shown_text}
 use Rattle.toml_edit_model.specs.Syntax.{closing_brackets, opening_brackets, path_text}
 use Rattle.toml_edit_model.specs.Text.{Text, carriage_return, has_byte, line_feed, newline, without_returns}
-use Rattle.toml_edit_model.specs.Tree.{Decor, Items, Key, Node, Raw, Tree, inline, item, leaf, list, nothing, owned, shown_prefix, shown_raw, span, shown_suffix, table, tables}
+use Rattle.toml_edit_model.specs.Tree.{Decor, Items, Key, Node, Raw, Tree, inline, item, leaf, list, nothing, owned, shown_prefix}
+use Rattle.toml_edit_model.specs.Tree.{shown_raw, span, shown_suffix, table, tables}
 use Rattle.toml_edit_model.specs.Shown.{is_table_node}
 use Rattle.toml_edit_model.specs.Order.{sorted_by}
 use Rattle.toml_edit_model.specs.Print.{header_default, print_in, segments}
-use Rattle.toml_edit_laws.specs.PrintByVisits.{Headed, Walked, begins, by_place, enter, headed_tables, headers_text, root_lines, header_parts, header_text, holds_newline, inside_brackets, walked, walked_items}
+use Rattle.toml_edit_laws.specs.PrintByVisits.{Headed, Walked, begins, by_place, enter, headed_tables, headers_text, root_lines}
+use Rattle.toml_edit_laws.specs.PrintByVisits.{header_parts, header_text, holds_newline, inside_brackets, walked, walked_items}
 use Rattle.toml_edit_laws.proofs.print_by_visits.KeyTexts.{last_leaf-end}
 use Rattle.toml_edit_laws.proofs.print_by_visits.PrintParts.{print-by-visits}
 use Rattle.toml_edit_repr.specs.Views.{text_of}
@@ -37,7 +40,8 @@ from-item xs i x h is =
     ap items_view (drop_more xs i x h) ∙ ap (λ (y : Item). item (item_view y) (items_view (drop (i + 1) xs))) (sym is)
 
 -- what is no table is passed over
-passed : (n : Node) (xs : Items) (ks : List Key) (w : Walked) → is_table_node n ≡ false → walked_items (item n xs) ks w ≡ walked_items xs ks w
+passed : (n : Node) (xs : Items) (ks : List Key) (w : Walked) → is_table_node n ≡ false → walked_items (item n xs) ks w
+    ≡ walked_items xs ks w
 passed (table f ss) xs ks w h = absurd cc
 passed (tables e us) xs ks w h = refl
 passed (leaf s spelling d) xs ks w h = refl
@@ -126,14 +130,18 @@ module _ (mode : Mode) where
   pub header-written : (is_first : Bool) (h : Headed) (ks : List Key) (k : Key) → h.keys ≡ ks ++ (k ∷ [])
       → (if holds_newline mode k.leaf then shown_prefix mode [] k.leaf else [])
       ++ (shown_prefix mode (header_default is_first) h.fields.decor
-      ++ ((opening_brackets h.is_element ++ (inside_brackets mode k.leaf (path_text (segments mode (ks ++ (k ∷ [])))) ++ closing_brackets h.is_element))
+      ++ ((opening_brackets h.is_element ++ (inside_brackets mode k.leaf (path_text (segments mode (ks ++ (k ∷ []))))
+      ++ closing_brackets h.is_element))
       ++ (shown_suffix mode [] h.fields.decor ++ newline)))
       ≡ header_text mode is_first h
   header-written is_first h ks k e =
-      parts (if holds_newline mode k.leaf then shown_prefix mode [] k.leaf else []) (shown_prefix mode (header_default is_first) h.fields.decor)
-      (opening_brackets h.is_element) (inside_brackets mode k.leaf (path_text (segments mode (ks ++ (k ∷ []))))) (closing_brackets h.is_element)
+      parts (if holds_newline mode k.leaf then shown_prefix mode [] k.leaf
+      else []) (shown_prefix mode (header_default is_first) h.fields.decor)
+      (opening_brackets h.is_element) (inside_brackets mode k.leaf (path_text (segments mode (ks ++ (k ∷ [])))))
+      (closing_brackets h.is_element)
       (shown_suffix mode [] h.fields.decor) newline
-      ∙ ap (λ (d : Decor). header_parts mode is_first h.is_element d (path_text (segments mode (ks ++ (k ∷ [])))) h.fields) (sym (last_leaf-end ks k))
+      ∙ ap (λ (d : Decor). header_parts mode is_first h.is_element d (path_text (segments mode (ks ++ (k ∷ [])))) h.fields)
+      (sym (last_leaf-end ks k))
       ∙ ap (λ (js : List Key). header_text mode is_first (record h { keys = js })) (sym e)
 
   -- the same where its parts are known to be these
@@ -141,7 +149,8 @@ module _ (mode : Mode) where
       → (b : Bool) (p d s : Text) → b ≡ holds_newline mode k.leaf → p ≡ shown_prefix mode [] k.leaf
       → d ≡ shown_prefix mode (header_default is_first) h.fields.decor → s ≡ shown_suffix mode [] h.fields.decor
       → (if b then p else [])
-      ++ (d ++ ((opening_brackets h.is_element ++ (inside_brackets mode k.leaf (path_text (segments mode (ks ++ (k ∷ [])))) ++ closing_brackets h.is_element))
+      ++ (d ++ ((opening_brackets h.is_element ++ (inside_brackets mode k.leaf (path_text (segments mode (ks ++ (k ∷ []))))
+      ++ closing_brackets h.is_element))
       ++ (s ++ newline)))
       ≡ header_text mode is_first h
   header-by-parts is_first h ks k e b p d s eb ep ed es = rw (eb, ep, ed, es) (header-written is_first h ks k e)

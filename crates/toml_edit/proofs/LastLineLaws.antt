@@ -7,10 +7,13 @@ use Rattle.toml_edit_model.specs.Mode.{Mode}
 use Rattle.toml_edit_model.specs.Text.{Text, is_empty}
 use Rattle.toml_edit_model.specs.Paths.{Path}
 use Rattle.toml_edit_model.specs.Syntax.{newline_after}
-use Rattle.toml_edit_model.specs.Tree.{Decor, Key, Node, nothing, leaf, list, inline, table, tables, TableFields, Slots, no_slots, slot, Tree, node_decor}
-use Rattle.toml_edit_model.specs.HeaderOrder.{PlacedVisit, comes_before, in_header_order, is_root, place_of, places_from, slots_walk, visit_of}
+use Rattle.toml_edit_model.specs.Tree.{Decor, Key, Node, nothing, leaf, list, inline, table, tables, TableFields, Slots, no_slots, slot}
+use Rattle.toml_edit_model.specs.Tree.{Tree, node_decor}
+use Rattle.toml_edit_model.specs.HeaderOrder.{PlacedVisit, comes_before, in_header_order, is_root, place_of, places_from, slots_walk}
+use Rattle.toml_edit_model.specs.HeaderOrder.{visit_of}
 use Rattle.toml_edit_model.specs.Order.{sorted_by}
-use Rattle.toml_edit_model.specs.Print.{Line, Printed, dotted_lines, inside_lines, is_line_node, line_of, lines_inside, lines_of, printed_line, printed_table, printed_tables, statements_of, table_lines, value_of}
+use Rattle.toml_edit_model.specs.Print.{Line, Printed, dotted_lines, inside_lines, is_line_node, line_of, lines_inside, lines_of}
+use Rattle.toml_edit_model.specs.Print.{printed_line, printed_table, printed_tables, statements_of, table_lines, value_of}
 use Rattle.toml_edit_laws.specs.OpenEnds.{last_newline}
 use Rattle.toml_edit_laws.specs.PrintByVisits.{Headed, by_place, last_pair, last_pair_in}
 use Rattle.toml_edit_laws.proofs.common.OrderLaws.{all-sorted, sorted-alike}
@@ -31,7 +34,8 @@ behind-append : (t : Text) (ps qs : List Printed) → newline_behind t (ps ++ qs
 behind-append t [] qs = refl
 behind-append t (p ∷ ps) qs = behind-append (newline_after p.statement) ps qs
 
-last-behind : (t : Text) (p : Printed) (ps : List Printed) → last_newline (map (λ (q : Printed). q.statement) (p ∷ ps)) ≡ newline_behind t (p ∷ ps)
+last-behind : (t : Text) (p : Printed) (ps : List Printed) → last_newline (map (λ (q : Printed). q.statement) (p ∷ ps))
+    ≡ newline_behind t (p ∷ ps)
 last-behind t p [] = refl
 last-behind t p (q ∷ ps) = last-behind (newline_after p.statement) q ps
 
@@ -75,7 +79,8 @@ module _ (mode : Mode) where
   behind-lines p o (l ∷ ls) = behind-lines p (Some (node_decor l.item)) ls
 
   -- the lines of a slot, and those behind it
-  slot-last : (k : Key) (n : Node) (ks : List Key) (inner rest : List Line) (o : Option Decor) (in_slot : Option Decor) (behind : Option Decor → Option Decor) (b : Bool)
+  slot-last : (k : Key) (n : Node) (ks : List Key) (inner rest : List Line) (o : Option Decor) (in_slot : Option Decor)
+      (behind : Option Decor → Option Decor) (b : Bool)
       → last_shown o inner ≡ in_slot → ((d : Option Decor) → last_shown d rest ≡ behind d)
       → last_shown o (elim b [ true ↦ line_of (ks ++ (k ∷ [])) n (value_of mode n) | false ↦ inner ] ++ rest)
       ≡ behind (elim b [ true ↦ Some (node_decor n) | false ↦ in_slot ])
@@ -87,7 +92,8 @@ module _ (mode : Mode) where
     inside-last : (ss : Slots) (ks : List Key) (o : Option Decor) → last_shown o (inside_lines mode ss ks) ≡ last_pair ss o
     inside-last no_slots ks o = refl
     inside-last (slot k n ss) ks o =
-        slot-last k n ks (lines_inside mode n (ks ++ (k ∷ []))) (inside_lines mode ss ks) o (last_pair_in n o) (last_pair ss) (is_line_node n)
+        slot-last k n ks (lines_inside mode n (ks ++ (k ∷ []))) (inside_lines mode ss ks) o (last_pair_in n o) (last_pair ss)
+        (is_line_node n)
         (node-last n (ks ++ (k ∷ [])) o) (λ d. inside-last ss ks d)
 
     node-last : (n : Node) (ks : List Key) (o : Option Decor) → last_shown o (lines_inside mode n ks) ≡ last_pair_in n o
@@ -98,7 +104,8 @@ module _ (mode : Mode) where
     node-last (tables e xs) ks o = refl
     node-last nothing ks o = refl
 
-  if-dotted : (b : Bool) (ls : List Line) (o last : Option Decor) → last_shown o ls ≡ last → last_shown o (if b then ls else []) ≡ (if b then last else o)
+  if-dotted : (b : Bool) (ls : List Line) (o last : Option Decor) → last_shown o ls ≡ last → last_shown o (if b then ls else [])
+      ≡ (if b then last else o)
   if-dotted true ls o last e = e
   if-dotted false ls o last e = refl
 
@@ -127,7 +134,8 @@ module _ (mode : Mode) where
   with-header : (b : Bool) (v : PlacedVisit) → is_root v.1 ≡ false → shows_header v ≡ true
       → printed_table mode b v.1 ≡ own_header mode b v.1 ∷ map (printed_line mode v.1.path) (lines_of mode v.1)
   with-header b v below e =
-      ap (λ (c : Bool). (if c then own_header mode b v.1 ∷ [] else []) ++ map (printed_line mode v.1.path) (lines_of mode v.1)) (has-header mode v below ∙ e)
+      ap (λ (c : Bool). (if c then own_header mode b v.1 ∷ [] else [])
+      ++ map (printed_line mode v.1.path) (lines_of mode v.1)) (has-header mode v below ∙ e)
 
   -- the newline behind tables below the root is that of the last of them with a header
   headers-behind : (b : Bool) (vs : List PlacedVisit) (o : Option Decor) → AllByRecursion IsBelow vs
@@ -135,29 +143,39 @@ module _ (mode : Mode) where
   headers-behind b [] o h = refl
   headers-behind b (v ∷ vs) o h =
       elim (cases_Bool (shows_header v)) [
-        | inl e ↦ ap (λ (t : List Printed). newline_behind (newline_of mode o) (t ++ printed_tables mode (b && is_empty t) vs)) (with-header b v h.0 e)
-            ∙ behind-append (newline_of mode (Some v.1.fields.decor)) (map (printed_line mode v.1.path) (lines_of mode v.1)) (printed_tables mode (b && false) vs)
-            ∙ ap (λ (t : Text). newline_behind t (printed_tables mode (b && false) vs)) (lines-behind v.1.path v.1.slots (Some v.1.fields.decor))
+        | inl e ↦ ap (λ (t : List Printed). newline_behind (newline_of mode o) (t ++ printed_tables mode (b && is_empty t) vs))
+            (with-header b v h.0 e)
+            ∙ behind-append (newline_of mode (Some v.1.fields.decor)) (map (printed_line mode v.1.path) (lines_of mode v.1))
+            (printed_tables mode (b && false) vs)
+            ∙ ap (λ (t : Text). newline_behind t (printed_tables mode (b && false) vs))
+            (lines-behind v.1.path v.1.slots (Some v.1.fields.decor))
             ∙ headers-behind (b && false) vs (last_line v.1.slots (Some v.1.fields.decor)) h.1
-            ∙ sym (ap (λ (c : Bool). newline_of mode (last_headed (map head_of (if c then v ∷ filter shows_header vs else filter shows_header vs)) o)) e)
-        | inr e ↦ ap (λ (t : List Printed). newline_behind (newline_of mode o) (t ++ printed_tables mode (b && is_empty t) vs)) (without-header mode b v h.0 e)
+            ∙ sym (ap (λ (c : Bool). newline_of mode (last_headed (map head_of (if c then v ∷ filter shows_header vs
+            else filter shows_header vs)) o)) e)
+        | inr e ↦ ap (λ (t : List Printed). newline_behind (newline_of mode o) (t ++ printed_tables mode (b && is_empty t) vs))
+            (without-header mode b v h.0 e)
             ∙ headers-behind (b && true) vs o h.1
-            ∙ sym (ap (λ (c : Bool). newline_of mode (last_headed (map head_of (if c then v ∷ filter shows_header vs else filter shows_header vs)) o)) e)
+            ∙ sym (ap (λ (c : Bool). newline_of mode (last_headed (map head_of (if c then v ∷ filter shows_header vs
+            else filter shows_header vs)) o)) e)
       ]
 
   in-order : (b : Bool) (hs : List PlacedVisit) (o : Option Decor) → AllByRecursion IsBelow hs
-      → newline_behind (newline_of mode o) (printed_tables mode b (sorted_by comes_before hs)) ≡ newline_of mode (last_headed (sorted_by by_place (shown_heads hs)) o)
+      → newline_behind (newline_of mode o) (printed_tables mode b (sorted_by comes_before hs))
+      ≡ newline_of mode (last_headed (sorted_by by_place (shown_heads hs)) o)
   in-order b hs o h =
       headers-behind b (sorted_by comes_before hs) o (all-sorted IsBelow comes_before hs h)
-      ∙ ap (λ (vs : List PlacedVisit). newline_of mode (last_headed (shown_heads vs) o)) (sorted-alike IsBelow comes_before placed_before same-order hs h)
+      ∙ ap (λ (vs : List PlacedVisit). newline_of mode (last_headed (shown_heads vs) o))
+      (sorted-alike IsBelow comes_before placed_before same-order hs h)
       ∙ ap (λ (heads : List Headed). newline_of mode (last_headed heads o)) (shown-sorted hs)
 
   -- ---- the root
 
   -- the root's lines, and the headers behind them
   root-behind : (f : TableFields) (ss : Slots) (p : ℤ) (b : Bool)
-      → newline_behind [] (printed_tables mode true (sorted_by comes_before (if b then places_from (pos 0) (slots_walk ss [] []) else (p, visit_of [] [] false f ss) ∷ places_from p (slots_walk ss [] []))))
-      ≡ newline_of mode (last_headed (sorted_by by_place (shown_heads (places_from (if b then pos 0 else p) (slots_walk ss [] [])))) (if b then None else last_line ss None))
+      → newline_behind [] (printed_tables mode true (sorted_by comes_before (if b then places_from (pos 0) (slots_walk ss [] [])
+      else (p, visit_of [] [] false f ss) ∷ places_from p (slots_walk ss [] []))))
+      ≡ newline_of mode (last_headed (sorted_by by_place (shown_heads (places_from (if b then pos 0 else p) (slots_walk ss [] [])))) (if b
+      then None else last_line ss None))
   root-behind f ss p true = in-order true (places_from (pos 0) (slots_walk ss [] [])) None (places-below (pos 0) ss)
   root-behind f ss p false =
       let sorted = sorted_by comes_before (places_from p (slots_walk ss [] [])) in
@@ -172,4 +190,5 @@ module _ (mode : Mode) where
   last-newline-is t =
       last-newline (printed_tables mode true (in_header_order t))
       ∙ root-behind t.root t.slots (place_of (pos 0) (visit_of [] [] false t.root t.slots)) t.root.is_dotted
-      ∙ ap (λ (heads : List Headed). newline_of mode (last_headed (sorted_by by_place heads) (last_of_root t.root t.slots))) (sym (headed-are t.root t.slots))
+      ∙ ap (λ (heads : List Headed). newline_of mode (last_headed (sorted_by by_place heads) (last_of_root t.root t.slots)))
+      (sym (headed-are t.root t.slots))

@@ -1,5 +1,6 @@
 -- The text with an open end is that with a closed one, but for the newline of the last statement, which may be cut off.
-use Rattle.std.proofs.Common.{◌≡◌, ℕ, suc, ◌+◌, ◌-◌, ◌<◌, ◌≤◌, Bool, true, false, [], ◌∷◌, ◌++◌, length, get_or, take, refl, sym, ap, subst, ◌∙◌, arith, length-append, IsUtf8, IsCharBoundary, lit<}
+use Rattle.std.proofs.Common.{◌≡◌, ℕ, suc, ◌+◌, ◌-◌, ◌<◌, ◌≤◌, Bool, true, false, [], ◌∷◌, ◌++◌, length, get_or, take, refl, sym, ap, subst}
+use Rattle.std.proofs.Common.{◌∙◌, arith, length-append, IsUtf8, IsCharBoundary, lit<}
 use Rattle.std.specs.Prelude.{◌==◌, slice_index}
 use Rattle.std.proofs.lemmas.List.{take-append-le}
 use Rattle.std.proofs.lemmas.Str.{IsCharBoundary-at_seam}
@@ -21,7 +22,8 @@ open-print exact false t e = absurd cc
 open-print exact true t e = ap (λ (n : Text). print_in exact true t ++ n) (sym (last-newline-is exact t)) ∙ (open-prints exact t).0 e
 
 -- else nothing is
-pub closed-print : (mode : Mode) (is_open : Bool) (t : Tree) → leaves_open mode is_open t ≡ false → print_in mode is_open t ≡ print_in mode false t
+pub closed-print : (mode : Mode) (is_open : Bool) (t : Tree) → leaves_open mode is_open t ≡ false → print_in mode is_open t
+    ≡ print_in mode false t
 closed-print mode true t e = (open-prints mode t).1 e
 closed-print mode false t e = refl
 
@@ -44,7 +46,8 @@ module _ (whole front end : Text) (n : ℕ) (e : front ++ end ≡ whole) (is : n
 
   pub front-taken : take (length whole - n) whole ≡ front
   front-taken =
-      ap (λ m. take m whole) where-cut ∙ ap (take (length front)) (sym e) ∙ take-append-le (length front) front end (omega arith) ∙ take-all front
+      ap (λ m. take m whole) where-cut ∙ ap (take (length front)) (sym e) ∙ take-append-le (length front) front end (omega arith)
+      ∙ take-all front
     where
       take-all : (t : Text) → take (length t) t ≡ t
       take-all [] = refl

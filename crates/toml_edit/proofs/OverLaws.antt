@@ -41,14 +41,17 @@ parsed-later mode version t slots trailing is_open h =
 -- ---- a root that holds these slots
 
 -- the tree of the root that holds what was parsed
-root-tree : (mode : Mode) (root : Table) (slots : Slots) (trailing : Raw) → fields_view root ≡ root_fields (spanned_in mode) → table_slots root ≡ slots
+root-tree : (mode : Mode) (root : Table) (slots : Slots) (trailing : Raw) → fields_view root ≡ root_fields (spanned_in mode)
+    → table_slots root ≡ slots
     → tree_of slots trailing ≡ tree_under (items.Table root) trailing
 root-tree mode root slots trailing fields same =
     sym
-    (tree-under (items.Table root) root trailing refl ∙ ap (λ f. record (tree_view root trailing) { root = f }) fields ∙ ap (λ ss. tree_of ss trailing) same)
+    (tree-under (items.Table root) root trailing refl ∙ ap (λ f. record (tree_view root trailing) { root = f }) fields
+    ∙ ap (λ ss. tree_of ss trailing) same)
 
 -- what was parsed, of a text that is this one
-module _ (mode : Mode) (t u : Text) (root : Table) (slots : Slots) (trailing : Raw) (same : u ≡ t) (utf8 : IsUtf8 u) (h : IsParsedAs mode u slots trailing)
+module _ (mode : Mode) (t u : Text) (root : Table) (slots : Slots) (trailing : Raw) (same : u
+    ≡ t) (utf8 : IsUtf8 u) (h : IsParsedAs mode u slots trailing)
     (fields : fields_view root ≡ root_fields (spanned_in mode)) (held : table_slots root ≡ slots) where
   pub is-text : IsUtf8 t
   is-text = subst IsUtf8 same utf8
@@ -88,8 +91,10 @@ accepted-in mode version t u slots trailing is_open same h d cut =
     (cut, ap (is_accepted_in version) (h.only d (subst (IsCut d) (sym same) cut)) ∙ h.accepted.1)
 
 -- What a version accepts is read as in TOML 1.1, with an open end where that is kept.
-pub root-reading-in : (mode : Mode) (version : Version) (t u : Text) (root : Table) (slots : Slots) (trailing : Raw) (is_open keeps left : Bool)
-    → u ≡ t → IsUtf8 u → IsParsedWith mode version u slots trailing is_open → fields_view root ≡ root_fields (spanned_in mode) → table_slots root ≡ slots
+pub root-reading-in : (mode : Mode) (version : Version) (t u : Text) (root : Table) (slots : Slots) (trailing : Raw)
+    (is_open keeps left : Bool)
+    → u ≡ t → IsUtf8 u → IsParsedWith mode version u slots trailing is_open → fields_view root ≡ root_fields (spanned_in mode)
+    → table_slots root ≡ slots
     → keeps ≡ is_exact mode → left ≡ (keeps && is_open) → IsReadingIn mode version t (tree_under (items.Table root) trailing) left
 root-reading-in mode version t u root slots trailing is_open keeps left same utf8 h fields held kept is_left =
     record {

@@ -66,8 +66,10 @@ stays-so : (mode : Mode) (version : Version) (d : Document) (x : Tree)
 stays-so plain version d x h = h
 stays-so exact version d x h = h
 
--- The tree of an accepted text stays its tree, fits and is steady in each mode, and prints as the normal text, which each version accepts that accepts the text.
-pub stays-tree : (mode : Mode) (t : Text) (x y : Tree) → y ≡ owned_tree t x → (d : Document) → AcceptedAs t d → IsTreeOf (spanned_in mode) d x
+-- The tree of an accepted text stays its tree, fits and is steady in each mode, and prints as the normal text, which each version accepts
+-- that accepts the text.
+pub stays-tree : (mode : Mode) (t : Text) (x y : Tree) → y ≡ owned_tree t x → (d : Document) → AcceptedAs t d
+    → IsTreeOf (spanned_in mode) d x
     → IsOwnedTreeWith mode t d y
 stays-tree mode t x y e d accepted is =
     let own = subst (IsTreeOf (owned_in mode) d) (sym e) (owned_trees mode t d accepted.0 x is) in
@@ -94,7 +96,8 @@ module _ (mode m : Mode) (mode-is : m ≡ mode) (t u : Text) (same : u ≡ t) (x
   pub owns : (r : IsReadingWith mode t x) → IsOwnedTreeWith mode t r.document y
   owns r =
       let asked : Stays mode u x y = subst (λ k. Stays k u x y) mode-is stays in
-      subst (λ v. IsOwnedTreeWith mode v r.document y) same (asked r.document (subst (λ v. AcceptedAs v r.document) (sym same) r.accepted) r.tree)
+      subst (λ v. IsOwnedTreeWith mode v r.document y) same
+      (asked r.document (subst (λ v. AcceptedAs v r.document) (sym same) r.accepted) r.tree)
 
   -- What is made of a reading of a text is one that owns its texts.
   abbrev pub own-reading : IsReadingWith mode t x → IsOwnedReadingWith mode t y

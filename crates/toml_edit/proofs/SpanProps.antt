@@ -2,7 +2,8 @@
 use denote.Struct.Props.{props}
 use Rattle.std.proofs.Common.{Option, Some, None}
 use Rattle.toml_edit_model.specs.Text.{Text}
-use Rattle.toml_edit_model.specs.Tree.{Raw, owned, span, Decor, Key, Node, nothing, leaf, list, inline, table, tables, Items, no_items, item, Slots, no_slots, slot}
+use Rattle.toml_edit_model.specs.Tree.{Raw, owned, span, Decor, Key, Node, nothing, leaf, list, inline, table, tables, Items, no_items}
+use Rattle.toml_edit_model.specs.Tree.{item, Slots, no_slots, slot}
 use Rattle.toml_edit_model.specs.OwnedForm.{RawFits, OptionFits, DecorFits, KeyFits, NodeFits, ItemsFit, SlotsFit}
 
 -- of a text

@@ -1,5 +1,6 @@
 -- What a text ends in, told by its last two bytes, and what is held back of it.
-use Rattle.std.proofs.Common.{◌≡◌, ℕ, zero, suc, ◌+◌, ◌-◌, ◌<◌, ◌≤◌, ◌⊎◌, inl, inr, Bool, true, false, [], ◌∷◌, ◌++◌, length, get_or, take, refl, sym, ap, subst, ◌∙◌, arith, append-nil, length-append, IsUtf8, IsCharBoundary}
+use Rattle.std.proofs.Common.{◌≡◌, ℕ, zero, suc, ◌+◌, ◌-◌, ◌<◌, ◌≤◌, ◌⊎◌, inl, inr, Bool, true, false, [], ◌∷◌, ◌++◌, length, get_or, take}
+use Rattle.std.proofs.Common.{refl, sym, ap, subst, ◌∙◌, arith, append-nil, length-append, IsUtf8, IsCharBoundary}
 use Rattle.std.specs.Prelude.{◌==◌}
 use Rattle.std.proofs.lemmas.Bool.{eqb-true}
 use Rattle.std.proofs.lemmas.Str.{IsCharBoundary-at_seam}
@@ -32,12 +33,14 @@ feed-feed Return = refl
 feed-feed Feed = refl
 feed-feed Both = refl
 
-step-feed : (h : Tail) (a : ℕ) → (a ≡ carriage_return) ⊎ ((a ≡ line_feed) ⊎ IsOther a) → after_feed (tail_step h a) ≡ after_feed (tail_step Nothing a)
+step-feed : (h : Tail) (a : ℕ) → (a ≡ carriage_return) ⊎ ((a ≡ line_feed) ⊎ IsOther a) → after_feed (tail_step h a)
+    ≡ after_feed (tail_step Nothing a)
 step-feed h a (inl e) = rw e refl
 step-feed h a (inr (inl e)) = rw e (feed-feed h)
 step-feed h a (inr (inr o)) = ap after_feed (o.step h ∙ sym (o.step Nothing))
 
-two-steps-by : (h : Tail) (a b : ℕ) → (b ≡ carriage_return) ⊎ ((b ≡ line_feed) ⊎ IsOther b) → tail_step (tail_step h a) b ≡ tail_step (tail_step Nothing a) b
+two-steps-by : (h : Tail) (a b : ℕ) → (b ≡ carriage_return) ⊎ ((b ≡ line_feed) ⊎ IsOther b) → tail_step (tail_step h a) b
+    ≡ tail_step (tail_step Nothing a) b
 two-steps-by h a b (inl e) = rw e refl
 two-steps-by h a b (inr (inl e)) = rw e (step-feed h a (kind a))
 two-steps-by h a b (inr (inr o)) = o.step (tail_step h a) ∙ sym (o.step (tail_step Nothing a))
@@ -45,7 +48,8 @@ two-steps-by h a b (inr (inr o)) = o.step (tail_step h a) ∙ sym (o.step (tail_
 two-steps : (h : Tail) (a b : ℕ) → tail_step (tail_step h a) b ≡ tail_step (tail_step Nothing a) b
 two-steps h a b = two-steps-by h a b (kind b)
 
-pub last-two : (h : Tail) (t : Text) → 2 ≤ length t → tail_step (tail_step Nothing (get_or t (length t - 2) 0)) (get_or t (length t - 1) 0) ≡ tail_after h t
+pub last-two : (h : Tail) (t : Text) → 2 ≤ length t → tail_step (tail_step Nothing (get_or t (length t - 2) 0)) (get_or t (length t - 1) 0)
+    ≡ tail_after h t
 last-two h [] le = absurd (omega arith)
 last-two h (a ∷ []) le = absurd (omega arith)
 last-two h (a ∷ b ∷ []) le = sym (two-steps h a b)
@@ -78,19 +82,22 @@ feed-alone Return le = absurd (omega arith)
 feed-alone Feed le = refl
 feed-alone Both le = refl
 
-one-ends : (h : Tail) (a : ℕ) → (a ≡ carriage_return) ⊎ ((a ≡ line_feed) ⊎ IsOther a) → length (tail_text (tail_step h a)) ≤ 1 → EndsIn (a ∷ []) (tail_text (tail_step h a))
+one-ends : (h : Tail) (a : ℕ) → (a ≡ carriage_return) ⊎ ((a ≡ line_feed) ⊎ IsOther a) → length (tail_text (tail_step h a)) ≤ 1
+    → EndsIn (a ∷ []) (tail_text (tail_step h a))
 one-ends h a (inl e) le = rw e refl
 one-ends h a (inr (inl e)) le =
     let f : tail_step h a ≡ Feed = ap (tail_step h) e ∙ feed-alone h (subst (λ c. length (tail_text (tail_step h c)) ≤ 1) e le) in
     rw (f, e) refl
 one-ends h a (inr (inr o)) le = rw (o.step h) refl
 
-two-ends-feed : (h : Tail) (a : ℕ) → (a ≡ carriage_return) ⊎ ((a ≡ line_feed) ⊎ IsOther a) → EndsIn (a ∷ line_feed ∷ []) (tail_text (after_feed (tail_step h a)))
+two-ends-feed : (h : Tail) (a : ℕ) → (a ≡ carriage_return) ⊎ ((a ≡ line_feed) ⊎ IsOther a)
+    → EndsIn (a ∷ line_feed ∷ []) (tail_text (after_feed (tail_step h a)))
 two-ends-feed h a (inl e) = rw e refl
 two-ends-feed h a (inr (inl e)) = rw (e, feed-feed h) refl
 two-ends-feed h a (inr (inr o)) = rw (o.step h) refl
 
-two-ends : (h : Tail) (a b : ℕ) → (b ≡ carriage_return) ⊎ ((b ≡ line_feed) ⊎ IsOther b) → EndsIn (a ∷ b ∷ []) (tail_text (tail_step (tail_step h a) b))
+two-ends : (h : Tail) (a b : ℕ) → (b ≡ carriage_return) ⊎ ((b ≡ line_feed) ⊎ IsOther b)
+    → EndsIn (a ∷ b ∷ []) (tail_text (tail_step (tail_step h a) b))
 two-ends h a b (inl e) = rw e refl
 two-ends h a b (inr (inl e)) = rw e (two-ends-feed h a (kind a))
 two-ends h a b (inr (inr o)) = rw (o.step (tail_step h a)) refl
@@ -120,7 +127,8 @@ cut-at t end utf8 e le =
     subst (IsCharBoundary t) at (IsCharBoundary-at_seam t front end e utf8)
 
 -- a tail that is longer than the text is what was held with it
-one-joined : (h : Tail) (a : ℕ) → (a ≡ carriage_return) ⊎ ((a ≡ line_feed) ⊎ IsOther a) → 1 < length (tail_text (tail_step h a)) → tail_text h ++ (a ∷ []) ≡ tail_text (tail_step h a)
+one-joined : (h : Tail) (a : ℕ) → (a ≡ carriage_return) ⊎ ((a ≡ line_feed) ⊎ IsOther a) → 1 < length (tail_text (tail_step h a))
+    → tail_text h ++ (a ∷ []) ≡ tail_text (tail_step h a)
 one-joined h a (inl e) lt = absurd (omega (arith, subst (λ c. 1 < length (tail_text (tail_step h c))) e lt))
 one-joined Return a (inr (inl e)) lt = rw e refl
 one-joined Nothing a (inr (inl e)) lt = absurd (omega (arith, subst (λ c. 1 < length (tail_text (tail_step Nothing c))) e lt))
@@ -148,11 +156,14 @@ feed-held Both = ([], refl)
 
 -- a line feed at the end is held back
 pub feed-is-held : (h : Tail) (x : Text) → EndsWith (tail_text (tail_after h (x ++ line_feed ∷ []))) (line_feed ∷ [])
-feed-is-held h x = subst (λ t. EndsWith (tail_text t) (line_feed ∷ [])) (sym (after-append h x (line_feed ∷ []))) (feed-held (tail_after h x))
+feed-is-held h x = subst (λ t. EndsWith (tail_text t) (line_feed ∷ [])) (sym (after-append h x (line_feed ∷ [])))
+    (feed-held (tail_after h x))
 
 -- so is a carriage return before it
-pub both-are-held : (h : Tail) (x : Text) → EndsWith (tail_text (tail_after h (x ++ carriage_return ∷ line_feed ∷ []))) (carriage_return ∷ line_feed ∷ [])
-both-are-held h x = subst (λ t. EndsWith (tail_text t) (carriage_return ∷ line_feed ∷ [])) (sym (after-append h x (carriage_return ∷ line_feed ∷ []))) ([], refl)
+pub both-are-held : (h : Tail) (x : Text) → EndsWith (tail_text (tail_after h (x ++ carriage_return ∷ line_feed ∷ []))) (carriage_return
+    ∷ line_feed ∷ [])
+both-are-held h x = subst (λ t. EndsWith (tail_text t) (carriage_return ∷ line_feed ∷ []))
+    (sym (after-append h x (carriage_return ∷ line_feed ∷ []))) ([], refl)
 
 -- nothing at the end is held back
 pub none-is-held : (t : Text) → EndsWith t []

@@ -5,7 +5,8 @@ use Rattle.toml_edit_model.specs.Mode.{Mode}
 use Rattle.toml_edit_model.specs.Text.{Text, same_text}
 use Rattle.toml_edit_model.specs.Syntax.{Document}
 use Rattle.toml_edit_model.specs.Accepted.{AcceptedAs}
-use Rattle.toml_edit_model.specs.Tree.{Raw, owned, span, Node, nothing, leaf, list, inline, table, tables, Items, no_items, item, Slots, no_slots, slot, Tree, has_key, HasTrueSpelling, IsWellMade, ItemsAreWellMade, SlotsAreWellMade}
+use Rattle.toml_edit_model.specs.Tree.{Raw, owned, span, Node, nothing, leaf, list, inline, table, tables, Items, no_items, item, Slots}
+use Rattle.toml_edit_model.specs.Tree.{no_slots, slot, Tree, has_key, HasTrueSpelling, IsWellMade, ItemsAreWellMade, SlotsAreWellMade}
 use Rattle.toml_edit_model.specs.TreeOf.{spanned_in, owned_in, IsTreeOf}
 use Rattle.toml_edit_model.specs.Fits.{FitsIn}
 use Rattle.toml_edit_model.specs.OwnedForm.{owned_raw, owned_node, owned_items, owned_slots, owned_tree}

@@ -7,10 +7,13 @@ use Rattle.toml_edit_model.specs.Mode.{Mode, plain, exact, ends_in_return, but_l
 use Rattle.toml_edit_model.specs.Text.{Text, carriage_return, line_feed, one, has_byte, without_returns}
 use Rattle.toml_edit_model.specs.Trivia.{IsWhiteSpace, IsWholeTrivia, IsLineEnd, IsFinalTrivia}
 use Rattle.toml_edit_model.specs.Syntax.{IsSpacedSegment}
-use Rattle.toml_edit_model.specs.Tree.{Raw, owned, span, Key, Node, nothing, leaf, list, inline, table, tables, Items, no_items, item, Slots, no_slots, slot, Tree, shown_side, node_decor, is_value_node}
+use Rattle.toml_edit_model.specs.Tree.{Raw, owned, span, Key, Node, nothing, leaf, list, inline, table, tables, Items, no_items, item}
+use Rattle.toml_edit_model.specs.Tree.{Slots, no_slots, slot, Tree, shown_side, node_decor, is_value_node}
 use Rattle.toml_edit_model.specs.HeaderOrder.{Visit, PlacedVisit, in_header_order}
-use Rattle.toml_edit_model.specs.Print.{one_space, Line, segments, segments_after, last_leaf, is_line_node, lines_of, has_header, key_prefix, is_lifted}
-use Rattle.toml_edit_model.specs.Fits.{LineSuits, ElementSuits, Suits, ItemsSuit, InsideSuits, NodeSuitsInside, EndsLine, PrintedLineSuits, InnerDecorSuits, HeaderSuits, TableSuits, DecorsSuit, FitsIn}
+use Rattle.toml_edit_model.specs.Print.{one_space, Line, segments, segments_after, last_leaf, is_line_node, lines_of, has_header}
+use Rattle.toml_edit_model.specs.Print.{key_prefix, is_lifted}
+use Rattle.toml_edit_model.specs.Fits.{LineSuits, ElementSuits, Suits, ItemsSuit, InsideSuits, NodeSuitsInside, EndsLine, PrintedLineSuits}
+use Rattle.toml_edit_model.specs.Fits.{InnerDecorSuits, HeaderSuits, TableSuits, DecorsSuit, FitsIn}
 use Rattle.toml_edit_laws.proofs.common.Each.{all-map}
 use Rattle.toml_edit_laws.proofs.common.Tests.{append-nil}
 use Rattle.toml_edit_laws.proofs.common.Trivia.{returns-append, end-returns}
@@ -34,7 +37,8 @@ lean-line t h = by_test (ends_in_return t) refl h
     by_test true e h =
         subst IsLineEnd
         (sym
-        (ap without_returns (sym (last-kept t e)) ∙ returns-append (but_last t) (one carriage_return) ∙ append-nil (without_returns (but_last t))
+        (ap without_returns (sym (last-kept t e)) ∙ returns-append (but_last t) (one carriage_return)
+        ∙ append-nil (without_returns (but_last t))
         ∙ end-returns (but_last t) h))
         h
 
@@ -71,7 +75,8 @@ feed-side (Some (span i j)) = refl
 
 -- ---- lines
 
-after-spaced : (ks : List Key) → AllByRecursion IsSpacedSegment (segments_after exact ks) → AllByRecursion IsSpacedSegment (segments_after plain ks)
+after-spaced : (ks : List Key) → AllByRecursion IsSpacedSegment (segments_after exact ks)
+    → AllByRecursion IsSpacedSegment (segments_after plain ks)
 after-spaced [] h = tt
 after-spaced (k ∷ []) h = ((white-side [] k.dotted.prefix h.0.0, refl), tt)
 after-spaced (k ∷ l ∷ rest) h = ((white-side [] k.dotted.prefix h.0.0, white-side [] k.dotted.suffix h.0.1), after-spaced (l ∷ rest) h.1)
@@ -118,7 +123,8 @@ mutual
   inside-suits (slot k n ss) ks h = (
     by-test (is_line_node n) (LineSuits exact IsWholeTrivia (ks ++ one k) n × Suits exact n) (NodeSuitsInside exact n (ks ++ one k))
         (LineSuits plain IsWholeTrivia (ks ++ one k) n × Suits plain n) (NodeSuitsInside plain n (ks ++ one k))
-        (λ g. (line-suits IsWholeTrivia IsWholeTrivia (trivia-side []) (ks ++ one k) n g.0, node-suits n g.1)) (λ g. made-suits n (ks ++ one k) g) h.0,
+        (λ g. (line-suits IsWholeTrivia IsWholeTrivia (trivia-side []) (ks ++ one k) n g.0, node-suits n g.1)) (λ g. made-suits n (ks
+        ++ one k) g) h.0,
     inside-suits ss ks h.1,
   )
 
@@ -131,7 +137,8 @@ mutual
   made-suits nothing ks h = tt
 
 -- the printed lines of a table in the two modes
-lines-suit : (ls ms : List Line) → AlikeLines ls ms → AllByRecursion (PrintedLineSuits exact) ls → AllByRecursion (PrintedLineSuits plain) ms
+lines-suit : (ls ms : List Line) → AlikeLines ls ms → AllByRecursion (PrintedLineSuits exact) ls
+    → AllByRecursion (PrintedLineSuits plain) ms
 lines-suit [] [] h g = tt
 lines-suit (l ∷ ls) (m ∷ ms) h g = (
   subst (λ js. LineSuits plain (EndsLine plain) js m.item × Suits plain m.item) h.0.0
@@ -146,11 +153,16 @@ lines-suit (l ∷ ls) [] h g = absurd h
 
 inner-suits : (v : Visit) → InnerDecorSuits exact v → InnerDecorSuits plain v
 inner-suits v h =
-    subst (λ b. MatchBool b (IsWholeTrivia (key_prefix plain v)) (IsWhiteSpace (key_prefix plain v) × IsWhiteSpace (shown_side plain [] (last_leaf v.keys).suffix)))
+    subst (λ b. MatchBool b (IsWholeTrivia (key_prefix plain v)) (IsWhiteSpace (key_prefix plain v)
+    × IsWhiteSpace (shown_side plain [] (last_leaf v.keys).suffix)))
     (feed-side (last_leaf v.keys).prefix)
-    (by-test (is_lifted exact v) (IsWholeTrivia (key_prefix exact v)) (IsWhiteSpace (key_prefix exact v) × IsWhiteSpace (shown_side exact [] (last_leaf v.keys).suffix))
+    (by-test (is_lifted exact v) (IsWholeTrivia (key_prefix exact v)) (IsWhiteSpace (key_prefix exact v)
+    × IsWhiteSpace (shown_side exact [] (last_leaf v.keys).suffix))
     (IsWholeTrivia (key_prefix plain v)) (IsWhiteSpace (key_prefix plain v) × IsWhiteSpace (shown_side plain [] (last_leaf v.keys).suffix))
-    (trivia-side [] (last_leaf v.keys).prefix) (λ g. (white-side [] (last_leaf v.keys).prefix g.0, white-side [] (last_leaf v.keys).suffix g.1)) h)
+    (trivia-side [] (last_leaf v.keys).prefix) (λ g. (
+      white-side [] (last_leaf v.keys).prefix g.0,
+      white-side [] (last_leaf v.keys).suffix g.1,
+    )) h)
 
 header-suits : (v : Visit) → HeaderSuits exact v → HeaderSuits plain v
 header-suits v h =
@@ -164,7 +176,8 @@ header-suits v h =
 table-suits : (g : PlacedVisit) → TableSuits exact g → TableSuits plain g
 table-suits g h = (
   subst (λ b. MatchBool b (HeaderSuits plain g.1) (Unit {0})) (header-same exact plain g.1)
-      (by-test (has_header exact g.1) (HeaderSuits exact g.1) (Unit {0}) (HeaderSuits plain g.1) (Unit {0}) (header-suits g.1) (λ u. u) h.0),
+      (by-test (has_header exact g.1) (HeaderSuits exact g.1) (Unit {0}) (HeaderSuits plain g.1) (Unit {0}) (header-suits g.1) (λ u. u)
+      h.0),
   lines-suit (lines_of exact g.1) (lines_of plain g.1) (table-alike exact plain g.1) h.1,
 )
 

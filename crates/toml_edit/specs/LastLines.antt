@@ -2,7 +2,8 @@
 use Rattle.std.specs.Prelude.{true, false, if◌then◌else◌, List, [], ◌∷◌, Option, None, Some}
 use Rattle.toml_edit_model.specs.Text.{Text}
 use Rattle.toml_edit_model.specs.Mode.{Mode, line_newline}
-use Rattle.toml_edit_model.specs.Tree.{Decor, Node, nothing, leaf, list, inline, table, tables, TableFields, Slots, no_slots, slot, node_decor, shown_suffix}
+use Rattle.toml_edit_model.specs.Tree.{Decor, Node, nothing, leaf, list, inline, table, tables, TableFields, Slots, no_slots, slot}
+use Rattle.toml_edit_model.specs.Tree.{node_decor, shown_suffix}
 use Rattle.toml_edit_model.specs.Order.{sorted_by}
 use Rattle.toml_edit_model.specs.Print.{is_line_node}
 use Rattle.toml_edit_laws.specs.PrintByVisits.{Headed, by_place, headed_tables, last_pair, last_pair_in}

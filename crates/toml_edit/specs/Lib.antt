@@ -17,10 +17,10 @@ pub use Rattle.toml_edit_datetime.specs as datetime
 pub use Rattle.toml_edit_repr.specs as repr
 pub use Rattle.toml_edit_key.specs as key
 pub use Rattle.toml_edit_slots.specs as slots
-pub use Rattle.toml_edit_stream.specs as stream
+pub use Rattle.toml_edit_io.specs as stream
 pub use Rattle.toml_edit_tree.specs as tree
 pub use Rattle.toml_edit_table_like.specs as table_like
 pub use Rattle.toml_edit_parser.specs as parser
-pub use Rattle.toml_edit_change.specs as change
+pub use Rattle.toml_edit_paths.specs as change
 pub use Rattle.toml_edit_fits.specs as fits
-pub use Rattle.toml_edit_edits.specs as edits
+pub use Rattle.toml_edit_edit_laws.specs as edits

@@ -1,5 +1,5 @@
 //! Putting documents into sinks.
-#![tactic(auto, using(toml_edit_stream::proofs::Puts::put_steps))]
+#![tactic(auto, using(toml_edit_io::proofs::Puts::put_steps))]
 
 ghost use Rattle.std.specs.Prelude.{◌≡◌, false, ◌++◌, [], map, if◌then◌else◌};
 ghost use Rattle.std.specs.Fmt.{WritesInCalls};
@@ -16,9 +16,9 @@ ghost use Rattle.toml_edit.specs.HeadersView.{header_view, keys_in_brackets};
 ghost use Rattle.toml_edit.specs.Ordered.{ArePrintedInOrder};
 
 use crate::headers::Header;
+use toml_edit_io::Sink;
 use toml_edit_key::Key;
 use toml_edit_repr::{Mode, RawString, put_raw, put_side};
-use toml_edit_stream::Sink;
 use toml_edit_tree::{Path, Table, put_path, put_table_lines, table_has_lines};
 
 /// Puts the document with these headers in order, with a newline after each statement.

@@ -78,17 +78,17 @@ mod tail;
 
 pub use document::{Document, DocumentMut, PrintFault, SourceText};
 pub use item::value;
-pub use toml_edit_change::ChangeFault;
 pub use toml_edit_datetime::{Date, Datetime, DatetimeFault, FloatText, Offset, Time};
 pub use toml_edit_error::{Excerpt, ParseFault, TomlError, line_column};
 pub use toml_edit_fits::{FitRule, Misfit};
+pub use toml_edit_io::{Broken, Input, Output, Printed, Sink, Watched, print_to};
 pub use toml_edit_key::{Key, KeyMut};
 pub use toml_edit_parser::{FromStr, FromStrWith, ParseOptions, Version};
+pub use toml_edit_paths::ChangeFault;
 pub use toml_edit_repr::{
     CommentFault, Comments, Decor, Formatted, Mem, RawString, Repr, ScalarValue, ValueRepr,
 };
 pub use toml_edit_slots::{NoMemory, Refused, Renamed, Slot, Slots};
-pub use toml_edit_stream::{Broken, Input, Output, Printed, Sink, Watched, print_to};
 pub use toml_edit_table_like::{
     AnyTable, AsTableLike, HasSlots, TableLike, TableLikeEntry, TableLikeSlot, TableRef,
     TableRefMut,

@@ -1,5 +1,5 @@
 //! The text of a document. If its end is open, the last statement has no newline.
-#![tactic(auto, using(toml_edit_stream::proofs::Puts::put_steps))]
+#![tactic(auto, using(toml_edit_io::proofs::Puts::put_steps))]
 
 ghost use Rattle.std.specs.Prelude.{◌≡◌, [], IfOk, length, map};
 ghost use Rattle.std.specs.Fmt.{WritesInCalls};
@@ -20,8 +20,8 @@ use crate::headers::{Header, headers_in_order};
 use crate::last_line::last_decor;
 use crate::tail::put_but_newline;
 use bumpalo::Bump;
+use toml_edit_io::{Printed, Sink};
 use toml_edit_repr::{Decor, Mem, Mode, RawString};
-use toml_edit_stream::{Printed, Sink};
 use toml_edit_tree::{Path, Table};
 
 /// A document with its headers in the order of the print.

@@ -7,7 +7,7 @@ ghost use Rattle.toml_edit_model.specs.Tree.{Decor};
 ghost use Rattle.toml_edit.specs.LastLines.{newline_of};
 ghost use Rattle.toml_edit.specs.Tails.{tail_step, tail_after, tail_text};
 
-use toml_edit_stream::{Printed, Sink};
+use toml_edit_io::{Printed, Sink};
 
 /// The end of a text that may be a newline: a carriage return (CR), a line feed (LF), both in this
 /// order, or nothing.

@@ -34,7 +34,8 @@ pub record LastBatch (t : Text) (d : Document) (es : List Event) : Type 0 where
   pub events : es ≡ shortened 0 (events_from start here ++ end_event t d ∷ [])
   pub place : length t - length d.final ≡ start + length (joined (map statement_text here))
 
-pub last_batch : (mode : Mode) (version : Version) (t : Text) (d : Document) (rest : Text) (h : Building) (end : BatchEnd) (behind_it : Text) (es : List Event) (p : Between mode version t d rest h)
+pub last_batch : (mode : Mode) (version : Version) (t : Text) (d : Document) (rest : Text) (h : Building) (end : BatchEnd)
+    (behind_it : Text) (es : List Event) (p : Between mode version t d rest h)
     → IsBatch (length t) (length t - length rest) p.left d.final es end behind_it → end ≡ WholeText → LastBatch t d es
 last_batch mode version t d rest h end behind_it es p b is =
     let start = length t - length rest in
@@ -57,7 +58,8 @@ last_batch mode version t d rest h end behind_it es p b is =
 
 -- whether the document's last statement has no newline
 pub open_end : (t : Text) (d : Document) (es : List Event) (is_open : Bool) → LastBatch t d es → is_accepted d ≡ true
-    → ((start : ℕ) (ss : List Statement) (final : Event) → es ≡ events_from start ss ++ (final ∷ []) → final.span.start ≡ start + length (joined (map statement_text ss)) → is_open ≡ has_open_end ss)
+    → ((start : ℕ) (ss : List Statement) (final : Event) → es ≡ events_from start ss ++ (final ∷ []) → final.span.start ≡ start
+    + length (joined (map statement_text ss)) → is_open ≡ has_open_end ss)
     → is_open ≡ has_open_end d.statements
 open_end t d es is_open l accepted told =
     let shallow : list_any has_deep_value l.here ≡ false =

@@ -50,21 +50,24 @@ last-at [] d h = absurd (omega arith)
 last-at (y ∷ []) d h = refl
 last-at (y ∷ z ∷ xs) d h =
     let e : length (y ∷ z ∷ xs) - 1 ≡ suc (length (z ∷ xs) - 1) = omega arith in
-    subst (λ (n : ℕ). last_item (items_view (z ∷ xs)) ≡ Some (item_view (get_or (y ∷ z ∷ xs) n d))) (sym e) (last-at (z ∷ xs) d (omega arith))
+    subst (λ (n : ℕ). last_item (items_view (z ∷ xs)) ≡ Some (item_view (get_or (y ∷ z ∷ xs) n d))) (sym e) (last-at (z
+    ∷ xs) d (omega arith))
 
 pub last-set : (xs : List Item) (y : Item) → items_view (set xs (length xs - 1) y) ≡ with_last (item_view y) (items_view xs)
 last-set [] y = refl
 last-set (x ∷ []) y = refl
 last-set (x ∷ z ∷ xs) y =
     let e : length (x ∷ z ∷ xs) - 1 ≡ suc (length (z ∷ xs) - 1) = omega arith in
-    subst (λ (n : ℕ). items_view (set (x ∷ z ∷ xs) n y) ≡ with_last (item_view y) (items_view (x ∷ z ∷ xs))) (sym e) (ap (item (item_view x)) (last-set (z ∷ xs) y))
+    subst (λ (n : ℕ). items_view (set (x ∷ z ∷ xs) n y)
+    ≡ with_last (item_view y) (items_view (x ∷ z ∷ xs))) (sym e) (ap (item (item_view x)) (last-set (z ∷ xs) y))
 
 pub no-items : (xs : List Item) → (0 < length xs → ⊥) → xs ≡ []
 no-items [] h = refl
 no-items (x ∷ xs) h = absurd (h (omega arith))
 
 -- an array of tables with another item at a place
-pub tables-set : (a : ArrayOfTables) (at : ℕ) (y : Item) → items_view (set (out-ArrayOfTables a).values.items at y) ≡ with_last (item_view y) (items_view (out-ArrayOfTables a).values.items)
+pub tables-set : (a : ArrayOfTables) (at : ℕ) (y : Item) → items_view (set (out-ArrayOfTables a).values.items at y)
+    ≡ with_last (item_view y) (items_view (out-ArrayOfTables a).values.items)
     → tables_view (roll-ArrayOfTables (record { values = with_item (out-ArrayOfTables a).values at y; span = (out-ArrayOfTables a).span }))
     ≡ record { extent = (tables_view a).extent; items = with_last (item_view y) (tables_view a).items }
 tables-set a at y e = rw (tables-is a, ← e) (search (rules, the_lemmas))

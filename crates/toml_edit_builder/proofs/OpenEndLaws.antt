@@ -1,9 +1,11 @@
 -- The newline of the last statement of a text, by the last two of the text's events.
-use Rattle.std.proofs.Common.{◌≡◌, ℕ, ◌+◌, ◌-◌, ◌<◌, ◌≤◌, Bool, false, nat_eq, List, [], ◌∷◌, ◌++◌, length, map, get_or, codes, refl, sym, ap, ap₂, subst₂, ◌∙◌, append_assoc, append-nil, arith}
+use Rattle.std.proofs.Common.{◌≡◌, ℕ, ◌+◌, ◌-◌, ◌<◌, ◌≤◌, Bool, false, nat_eq, List, [], ◌∷◌, ◌++◌, length, map, get_or, codes, refl, sym}
+use Rattle.std.proofs.Common.{ap, ap₂, subst₂, ◌∙◌, append_assoc, append-nil, arith}
 use Rattle.std.proofs.lemmas.Bool.{eq-eqb, ne_eqb}
 use Rattle.std.proofs.lemmas.List.{length-append, get_or-append-add}
 use Rattle.toml_edit_model.specs.Text.{Text, joined, is_empty}
-use Rattle.toml_edit_model.specs.Syntax.{Statement, key_line, header, path_text, value_text, frame_text, brackets_text, opening_brackets, closing_brackets, statement_text, newline_after}
+use Rattle.toml_edit_model.specs.Syntax.{Statement, key_line, header, path_text, value_text, frame_text, brackets_text, opening_brackets}
+use Rattle.toml_edit_model.specs.Syntax.{closing_brackets, statement_text, newline_after}
 use Rattle.toml_edit_model.specs.Normal.{has_open_end}
 use Rattle.toml_edit_syntax.specs.declared.event.Event.{Event}
 use Rattle.toml_edit_syntax.specs.declared.event.EventKind.TheVariants.{Leading, BeforeKey, AfterKey, HeaderClose, LineEnd}
@@ -22,7 +24,8 @@ nothing-between : (newline : Text) (place byte : ℕ) → byte ≡ place + lengt
 nothing-between [] place byte e = eq-eqb place byte (omega (arith, e))
 nothing-between (c ∷ t) place byte e = ne_eqb place byte (λ same. omega (arith, e, same))
 
-statement-end : (start : ℕ) (s : Statement) → End (statement_events start s) (start + length (statement_text s)) (is_empty (newline_after s))
+statement-end : (start : ℕ) (s : Statement) → End (statement_events start s) (start
+    + length (statement_text s)) (is_empty (newline_after s))
 statement-end start (key_line f v end) =
     let value = value_at_byte start f in
     let last = event LineEnd (value + length (value_text v)) f.trailing in
@@ -45,7 +48,8 @@ statement-end start (header h end) =
     let key = before + length h.opening in
     let after = key + length (path_text h.path) in
     let close = after + length h.closing in
-    let first = event Leading start h.leading ∷ event (header_open h.is_array) brackets (opening_brackets h.is_array) ∷ event BeforeKey before h.opening ∷ path_events key h.path in
+    let first = event Leading start h.leading ∷ event (header_open h.is_array) brackets (opening_brackets h.is_array)
+    ∷ event BeforeKey before h.opening ∷ path_events key h.path in
     let closing = event AfterKey after h.closing ∷ event HeaderClose close (closing_brackets h.is_array) ∷ [] in
     let last = event LineEnd (close + length (closing_brackets h.is_array)) h.trailing in
     let behind : Text = h.closing ++ closing_brackets h.is_array in
@@ -66,7 +70,8 @@ statement-end start (header h end) =
 end-of : (start : ℕ) (s : Statement) (rest : List Statement)
     → End (events_from start (s ∷ rest)) (start + length (joined (map statement_text (s ∷ rest)))) (has_open_end (s ∷ rest))
 end-of start s [] =
-    subst₂ (λ (es : List Event) (t : Text). End es (start + length t) (is_empty (newline_after s))) (sym (append-nil (statement_events start s)))
+    subst₂ (λ (es : List Event) (t : Text). End es (start + length t) (is_empty (newline_after s)))
+    (sym (append-nil (statement_events start s)))
     (sym (append-nil (statement_text s))) (statement-end start s)
 end-of start s (r ∷ rest) =
     let events = statement_events start s in
@@ -83,7 +88,8 @@ end-of start s (r ∷ rest) =
 
 -- ---- the last two events
 
-last-two : (before es : List Event) (a b other : Event) → es ≡ before ++ (a ∷ b ∷ []) → (get_or es (length es - 2) other ≡ a) × (get_or es (length es - 1) other ≡ b)
+last-two : (before es : List Event) (a b other : Event) → es ≡ before ++ (a ∷ b ∷ []) → (get_or es (length es - 2) other ≡ a)
+    × (get_or es (length es - 1) other ≡ b)
 last-two before es a b other parts =
     let two : List Event = a ∷ b ∷ [] in
     let size = ap (λ (x : List Event). length x) parts ∙ length-append before two in
@@ -105,7 +111,8 @@ open-by start (s ∷ rest) es final other is place some =
     ap₂ (λ (x y : Event). nat_eq x.span.end y.span.start) two.0 two.1 ∙ ap (nat_eq end.last.span.end) place ∙ end.told
 
 -- one alone is of a text without statements
-pub none-by : (start : ℕ) (ss : List Statement) (es : List Event) (final : Event) → es ≡ events_from start ss ++ (final ∷ []) → length es < 2 → false ≡ has_open_end ss
+pub none-by : (start : ℕ) (ss : List Statement) (es : List Event) (final : Event) → es ≡ events_from start ss ++ (final ∷ [])
+    → length es < 2 → false ≡ has_open_end ss
 none-by start [] es final is few = refl
 none-by start (s ∷ rest) es final is few =
     let end = end-of start s rest in
@@ -115,7 +122,8 @@ none-by start (s ∷ rest) es final is few =
 
 -- ---- the statements of the last batch
 
-open-behind : (earlier : List Statement) (s : Statement) (here : List Statement) → has_open_end (s ∷ here) ≡ has_open_end (earlier ++ (s ∷ here))
+open-behind : (earlier : List Statement) (s : Statement) (here : List Statement) → has_open_end (s ∷ here)
+    ≡ has_open_end (earlier ++ (s ∷ here))
 open-behind [] s here = refl
 open-behind (a ∷ []) s here = refl
 open-behind (a ∷ b ∷ earlier) s here = open-behind (b ∷ earlier) s here

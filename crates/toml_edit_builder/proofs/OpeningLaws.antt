@@ -1,9 +1,11 @@
 -- The first events of a statement, which tell what it is.
 use Rattle.std.proofs.Common.{◌≡◌, ℕ, ◌+◌, Bool, true, false, refl, sym, ap, ◌∙◌, List, [], ◌∷◌, ◌++◌, length, append_assoc, Option, Some}
 use Rattle.toml_edit_model.specs.Text.{Text}
-use Rattle.toml_edit_model.specs.Syntax.{Segment, Frame, Value, Header, Statement, key_line, header, IsPath, closing_brackets, opening_brackets, path_text, value_text}
+use Rattle.toml_edit_model.specs.Syntax.{Segment, Frame, Value, Header, Statement, key_line, header, IsPath, closing_brackets}
+use Rattle.toml_edit_model.specs.Syntax.{opening_brackets, path_text, value_text}
 use Rattle.toml_edit_syntax.specs.declared.event.Event.{Event}
-use Rattle.toml_edit_syntax.specs.declared.event.EventKind.TheVariants.{Leading, Key, BeforeKey, AfterKey, HeaderClose, LineEnd, HeaderOpen, ArrayHeaderOpen}
+use Rattle.toml_edit_syntax.specs.declared.event.EventKind.TheVariants.{Leading, Key, BeforeKey, AfterKey, HeaderClose, LineEnd, HeaderOpen}
+use Rattle.toml_edit_syntax.specs.declared.event.EventKind.TheVariants.{ArrayHeaderOpen}
 use Rattle.toml_edit_syntax.specs.Events.{header_open, statement_events}
 use Rattle.toml_edit_syntax.specs.ValueEvents.{event, path_events, shortened, value_at_byte, value_events}
 use Rattle.toml_edit_parser.specs.PairRead.{key_events}
@@ -12,7 +14,8 @@ use Rattle.toml_edit_parser.specs.ValueRead.{split_first, span_at}
 use Rattle.toml_edit_builder.specs.StatementRead.{IsWhole}
 
 -- the first event, and those behind it
-pub first-is : (es : List Event) (x : Event) (rest : List Event) → ◌≡◌ {A = Option (Event × List Event)} (Some (x, rest)) (split_first es) → es ≡ x ∷ rest
+pub first-is : (es : List Event) (x : Event) (rest : List Event) → ◌≡◌ {A = Option (Event × List Event)} (Some (x, rest)) (split_first es)
+    → es ≡ x ∷ rest
 first-is [] x rest h = absurd cc
 first-is (y ∷ ys) x rest h =
     let e : ◌≡◌ {A = Event × List Event} (x, rest) (y, ys) = cc in
@@ -27,7 +30,8 @@ same_events x y xs ys e =
 -- ---- a key line
 
 line_parts : (start : ℕ) (f : Frame) (v : Value) (end : Text) (more : List Event)
-    → shortened 0 (statement_events start (key_line f v end) ++ more) ≡ event Leading start f.leading ∷ shortened 0 (line_behind start f v more)
+    → shortened 0 (statement_events start (key_line f v end) ++ more) ≡ event Leading start f.leading
+    ∷ shortened 0 (line_behind start f v more)
 line_parts start f v end more =
     let value = value_at_byte start f in
     let last = event LineEnd (value + length (value_text v)) f.trailing in
@@ -66,7 +70,8 @@ header_parts start h end more =
     ∷ [] in
     ap (λ (es : List Event). event Leading start h.leading ∷ es)
     (open_kept h.is_array brackets (opening_brackets h.is_array) ((front ++ behind) ++ more)
-    ∙ ap (λ (es : List Event). event (header_open h.is_array) brackets (opening_brackets h.is_array) ∷ shortened 0 es) (append_assoc front behind more))
+    ∙ ap (λ (es : List Event). event (header_open h.is_array) brackets (opening_brackets h.is_array)
+    ∷ shortened 0 es) (append_assoc front behind more))
 
 same_open : (x y : Bool) → header_open x ≡ header_open y → x ≡ y
 same_open true true e = refl
@@ -84,11 +89,14 @@ opens_header false one two = one refl
 
 -- ---- by the second event
 
-module _ (start : ℕ) (more es behind inside : List Event) (first opening : Event) (at : es ≡ first ∷ behind) (next : behind ≡ opening ∷ inside) where
+module _ (start : ℕ) (more es behind inside : List Event) (first opening : Event) (at : es ≡ first ∷ behind) (next : behind ≡ opening
+    ∷ inside) where
   -- a header where it is an opening bracket
-  pub header-case : (x : Bool) (s : Statement) (P : Statement → Type 0) → IsWhole s → es ≡ shortened 0 (statement_events start s ++ more) → opening.kind ≡ header_open x
+  pub header-case : (x : Bool) (s : Statement) (P : Statement → Type 0) → IsWhole s → es ≡ shortened 0 (statement_events start s ++ more)
+      → opening.kind ≡ header_open x
       → ((h : Header) (end : Text) → first.span ≡ span_at start h.leading → x ≡ h.is_array
-      → opening.span ≡ span_at (start + length h.leading) (opening_brackets h.is_array) → inside ≡ shortened 0 (header_behind start h more) → P (header h end))
+      → opening.span ≡ span_at (start + length h.leading) (opening_brackets h.is_array) → inside ≡ shortened 0 (header_behind start h more)
+      → P (header h end))
       → P s
   header-case x (key_line f v end) P is e kind told =
       let parts = same_events first _ behind _ (sym at ∙ e ∙ line_parts start f v end more) in
@@ -97,12 +105,15 @@ module _ (start : ℕ) (more es behind inside : List Event) (first opening : Eve
   header-case x (header h end) P is e kind told =
       let parts = same_events first _ behind _ (sym at ∙ e ∙ header_parts start h end more) in
       let second = same_events opening _ inside _ (sym next ∙ parts.1) in
-      told h end (ap (λ (y : Event). y.span) parts.0) (same_open x h.is_array (sym kind ∙ ap (λ (y : Event). y.kind) second.0)) (ap (λ (y : Event). y.span) second.0) second.1
+      told h end (ap (λ (y : Event). y.span) parts.0) (same_open x h.is_array (sym kind ∙ ap (λ (y : Event). y.kind) second.0))
+      (ap (λ (y : Event). y.span) second.0) second.1
 
   -- a key line where it is none
-  pub line-case : (s : Statement) (P : Statement → Type 0) → IsWhole s → es ≡ shortened 0 (statement_events start s ++ more) → (opening.kind ≡ HeaderOpen → ⊥)
+  pub line-case : (s : Statement) (P : Statement → Type 0) → IsWhole s → es ≡ shortened 0 (statement_events start s ++ more)
+      → (opening.kind ≡ HeaderOpen → ⊥)
       → (opening.kind ≡ ArrayHeaderOpen → ⊥)
-      → ((f : Frame) (v : Value) (end : Text) → first.span ≡ span_at start f.leading → behind ≡ shortened 0 (line_behind start f v more) → P (key_line f v end))
+      → ((f : Frame) (v : Value) (end : Text) → first.span ≡ span_at start f.leading → behind ≡ shortened 0 (line_behind start f v more)
+      → P (key_line f v end))
       → P s
   line-case (key_line f v end) P is e one two told =
       let parts = same_events first _ behind _ (sym at ∙ e ∙ line_parts start f v end more) in

@@ -5,7 +5,8 @@ use Rattle.std.proofs.lemmas.Bool.{leb-true}
 use Rattle.std.specs.Prelude.{◌&&◌, nat_le}
 use Rattle.std.specs.List.{list_any}
 use Rattle.toml_edit_model.specs.Text.{one}
-use Rattle.toml_edit_model.specs.Syntax.{Value, Statement, key_line, header, Document, depth, nesting_limit, is_short, has_short_keys, keeps_limits, is_ranged, statement_text}
+use Rattle.toml_edit_model.specs.Syntax.{Value, Statement, key_line, header, Document, depth, nesting_limit, is_short, has_short_keys}
+use Rattle.toml_edit_model.specs.Syntax.{keeps_limits, is_ranged, statement_text}
 use Rattle.toml_edit_model.specs.Paths.{Placed, Context, source_of, mentions_of, context_after, placed_from, start_context}
 use Rattle.toml_edit_model.specs.Accepted.{has_agreeing_tables, is_sound, is_accepted}
 use Rattle.toml_edit_model.specs.Faults.{own_faults}
@@ -29,14 +30,16 @@ sound-shallow (key_line f v end) h =
     let s = key_line f v end in
     let limits = and_left (keeps_limits s) (is_ranged s) (and_left (keeps_limits s && is_ranged s) (has_agreeing_tables s) h) in
     within-depth v (leb-true (depth v) nesting_limit
-    (and_left (nat_le (depth v) nesting_limit) (has_short_keys v) (and_right (is_short f.path) (nat_le (depth v) nesting_limit && has_short_keys v) limits)))
+    (and_left (nat_le (depth v) nesting_limit) (has_short_keys v) (and_right (is_short f.path) (nat_le (depth v) nesting_limit
+    && has_short_keys v) limits)))
 sound-shallow (header h end) is = refl
 
 -- nor of one without a fault
 pub added-shallow : (start : ℕ) (s : Statement) → own_faults start s ≡ [] → has_deep_value s ≡ false
 added-shallow start s none = sound-shallow s (sound-of-none start s none)
 
-right-shallow : (c : Context) (earlier : List Placed) (ss : List Statement) → all_right_after earlier (placed_from c ss) ≡ true → list_any has_deep_value ss ≡ false
+right-shallow : (c : Context) (earlier : List Placed) (ss : List Statement) → all_right_after earlier (placed_from c ss) ≡ true
+    → list_any has_deep_value ss ≡ false
 right-shallow c earlier [] h = refl
 right-shallow c earlier (s ∷ ss) h =
     let here : Placed = record { source = source_of c s; mentions = mentions_of c s } in
@@ -44,7 +47,8 @@ right-shallow c earlier (s ∷ ss) h =
     let right = and_left (is_right_after earlier here) (all_right_after (earlier ++ one here) later) h in
     let rest = and_right (is_right_after earlier here) (all_right_after (earlier ++ one here) later) h in
     let sound : is_sound (source_of c s).statement ≡ true = and_left (is_sound (source_of c s).statement) _ right in
-    rw (sound-shallow s (subst (λ x. is_sound x ≡ true) (source-statement c s) sound)) (right-shallow (context_after c s) (earlier ++ one here) ss rest)
+    rw (sound-shallow s (subst (λ x. is_sound x ≡ true) (source-statement c s) sound)) (right-shallow (context_after c s) (earlier
+    ++ one here) ss rest)
 
 pub accepted-shallow : (d : Document) → is_accepted d ≡ true → list_any has_deep_value d.statements ≡ false
 accepted-shallow d h = right-shallow (start_context d) [] d.statements (accepted-right d h)

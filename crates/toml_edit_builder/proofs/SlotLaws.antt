@@ -1,5 +1,6 @@
 -- The slots of a table as the definitions see them, at the place of a key.
-use Rattle.std.proofs.Common.{◌≡◌, ℕ, zero, suc, true, false, List, [], ◌∷◌, cond, Bool, refl, sym, ap, inl, inr, arith, Option, Some, None, option_map, slice_get, take, length, ◌∙◌}
+use Rattle.std.proofs.Common.{◌≡◌, ℕ, zero, suc, true, false, List, [], ◌∷◌, cond, Bool, refl, sym, ap, inl, inr, arith, Option, Some, None}
+use Rattle.std.proofs.Common.{option_map, slice_get, take, length, ◌∙◌}
 use Rattle.std.proofs.lemmas.Bool.{cases_Bool}
 use Rattle.std.proofs.lemmas.Cmp.{nat_list_eq_equiv}
 use Rattle.std.proofs.lemmas.Option.{same_Some}
@@ -14,7 +15,8 @@ use Rattle.toml_edit_slots.specs.InPlace.{replaced}
 use Rattle.toml_edit_tree.specs.declared.item.Item.{Item}
 use Rattle.toml_edit_tree.specs.View.{item_view, slots_view}
 
-node_none : (b : Bool) (n : Node) (o : Option Node) (i : Option ℕ) → cond b (Some 0) (option_map suc i) ≡ None → (i ≡ None → o ≡ None) → cond b (Some n) o ≡ None
+node_none : (b : Bool) (n : Node) (o : Option Node) (i : Option ℕ) → cond b (Some 0) (option_map suc i) ≡ None → (i ≡ None → o ≡ None)
+    → cond b (Some n) o ≡ None
 node_none true n o i h f = absurd cc
 node_none false n o None h f = f refl
 node_none false n o (Some j) h f = absurd cc
@@ -41,7 +43,8 @@ node_some false e es o (Some j) (suc at) x h g f = f at (ap Some (same_place j a
 pub node-some : (k : Text) (es : List (repr.Slot Item)) (at : ℕ) (x : Item) → place k es ≡ Some at → Some x ≡ slice_get (items_of es) at
     → node_at k (slots_view es) ≡ Some (item_view x)
 node-some k [] at x h g = absurd cc
-node-some k (e ∷ es) at x h g = node_some (is_at k e) e es (node_at k (slots_view es)) (place k es) at x h g (λ j same there. node-some k es j x same there)
+node-some k (e ∷ es) at x h g =
+    node_some (is_at k e) e es (node_at k (slots_view es)) (place k es) at x h g (λ j same there. node-some k es j x same there)
 
 with_some : (b : Bool) (e : repr.Slot Item) (es : List (repr.Slot Item)) (i : Option ℕ) (at : ℕ) (y : Item) (ss : Slots)
     → cond b (Some 0) (option_map suc i) ≡ Some at → ((j : ℕ) → i ≡ Some j → slots_view (with_item j y es) ≡ ss)
@@ -56,7 +59,8 @@ with_some false e es (Some j) (suc at) y ss h f = ap (slot e.key (item_view e.it
 pub with-place : (k : Text) (es : List (repr.Slot Item)) (at : ℕ) (y : Item) → place k es ≡ Some at
     → slots_view (with_item at y es) ≡ with_node k (item_view y) (slots_view es)
 with-place k [] at y h = absurd cc
-with-place k (e ∷ es) at y h = with_some (is_at k e) e es (place k es) at y (with_node k (item_view y) (slots_view es)) h (λ j same. with-place k es j y same)
+with-place k (e ∷ es) at y h =
+    with_some (is_at k e) e es (place k es) at y (with_node k (item_view y) (slots_view es)) h (λ j same. with-place k es j y same)
 
 -- the places of keys stay, where an item changes
 pub place-with : (k : Text) (es : List (repr.Slot Item)) (at : ℕ) (y : Item) → place k (with_item at y es) ≡ place k es
@@ -65,7 +69,8 @@ place-with k (e ∷ es) zero y = refl
 place-with k (e ∷ es) (suc at) y = ap (λ (i : Option ℕ). cond (is_at k e) (Some 0) (option_map suc i)) (place-with k es at y)
 
 -- a slot in the place of that of its name
-pub replaced-view : (s : repr.Slot Item) (es : List (repr.Slot Item)) → slots_view (replaced s es) ≡ replace_slot s.key.name s.key (item_view s.item) (slots_view es)
+pub replaced-view : (s : repr.Slot Item) (es : List (repr.Slot Item)) → slots_view (replaced s es)
+    ≡ replace_slot s.key.name s.key (item_view s.item) (slots_view es)
 replaced-view s [] = refl
 replaced-view s (e ∷ es) =
     elim (cases_Bool (is_at s.key.name e)) [
@@ -91,13 +96,15 @@ node-same k n (slot l m ss) h =
       | inr other ↦ rw other (ap (slot l m) (node-same k n ss (rw other at h)))
     ]
 
-place_last : (b : Bool) (i j : Option ℕ) (at : ℕ) → cond b (Some 0) (option_map suc i) ≡ None → (i ≡ None → j ≡ Some at) → cond b (Some 0) (option_map suc j) ≡ Some (suc at)
+place_last : (b : Bool) (i j : Option ℕ) (at : ℕ) → cond b (Some 0) (option_map suc i) ≡ None → (i ≡ None → j ≡ Some at)
+    → cond b (Some 0) (option_map suc j) ≡ Some (suc at)
 place_last true i j at h f = absurd cc
 place_last false None j at h f = ap (option_map suc) (f refl)
 place_last false (Some i) j at h f = absurd cc
 
 -- the place of a key, where no slot before it has its name
-pub place-last : (es : List (repr.Slot Item)) (at : ℕ) (s : repr.Slot Item) → slice_get es at ≡ Some s → place s.key.name (take at es) ≡ None
+pub place-last : (es : List (repr.Slot Item)) (at : ℕ) (s : repr.Slot Item) → slice_get es at ≡ Some s → place s.key.name (take at es)
+    ≡ None
     → place s.key.name es ≡ Some at
 place-last [] at s here h = absurd cc
 place-last (e ∷ es) zero s here h = rw (same_Some e s here, nat_list_eq_equiv.refl s.key.name) refl
@@ -107,7 +114,8 @@ place-last (e ∷ es) (suc at) s here h =
 -- ---- a slot that was pushed
 
 -- the slots are one more
-pub pushed-length : (es fs : List (repr.Slot Item)) (k : Key) (n : Node) → slots_view fs ≡ with_slot (slots_view es) k n → length fs ≡ suc (length es)
+pub pushed-length : (es fs : List (repr.Slot Item)) (k : Key) (n : Node) → slots_view fs ≡ with_slot (slots_view es) k n → length fs
+    ≡ suc (length es)
 pushed-length [] [] k n h = absurd cc
 pushed-length [] (f ∷ []) k n h = refl
 pushed-length [] (f ∷ g ∷ fs) k n h = absurd cc
@@ -115,7 +123,8 @@ pushed-length (e ∷ es) [] k n h = absurd cc
 pushed-length (e ∷ es) (f ∷ fs) k n h = ap suc (pushed-length es fs k n (cc))
 
 -- its item
-pub pushed-item : (es fs : List (repr.Slot Item)) (k : Key) (n : Node) (x : Item) → slots_view fs ≡ with_slot (slots_view es) k n → Some x ≡ slice_get (items_of fs) (length es)
+pub pushed-item : (es fs : List (repr.Slot Item)) (k : Key) (n : Node) (x : Item) → slots_view fs ≡ with_slot (slots_view es) k n → Some x
+    ≡ slice_get (items_of fs) (length es)
     → item_view x ≡ n
 pushed-item [] [] k n x h g = absurd cc
 pushed-item [] (f ∷ fs) k n x h g = let e = same_Some x f.item g in let d : item_view f.item ≡ n = cc in ap item_view e ∙ d

@@ -1,5 +1,6 @@
 -- What a statement does to the whole, by what it does to what is held.
-use Rattle.std.proofs.Common.{◌≡◌, ℕ, ◌+◌, ◌-◌, ◌<◌, ◌≤◌, length-append, Bool, true, false, refl, sym, ap, subst, ◌∙◌, List, [], ◌∷◌, ◌++◌, length, arith, Option, Some, None, Vec}
+use Rattle.std.proofs.Common.{◌≡◌, ℕ, ◌+◌, ◌-◌, ◌<◌, ◌≤◌, length-append, Bool, true, false, refl, sym, ap, subst, ◌∙◌, List, [], ◌∷◌, ◌++◌}
+use Rattle.std.proofs.Common.{length, arith, Option, Some, None, Vec}
 use Rattle.std.specs.declared.borrow.CowStr.{CowStr}
 use Rattle.std.specs.declared.alloc.Global.{Global}
 use Rattle.std.specs.Prelude.{map, option_map, option_and_then, Contains}
@@ -7,7 +8,8 @@ use Rattle.std.proofs.lemmas.List.Elements.{Contains-append_left, Contains-appen
 use Rattle.toml_edit_model.specs.Faults.{Fault, own_faults}
 use Rattle.toml_edit_model.specs.Mode.{Mode}
 use Rattle.toml_edit_model.specs.Text.{Text}
-use Rattle.toml_edit_model.specs.Syntax.{Segment, Frame, Value, Header, Statement, key_line, header, IsPath, brackets_text, closing_brackets, frame_text, opening_brackets, path_text, statement_text, value_text}
+use Rattle.toml_edit_model.specs.Syntax.{Segment, Frame, Value, Header, Statement, key_line, header, IsPath, brackets_text}
+use Rattle.toml_edit_model.specs.Syntax.{closing_brackets, frame_text, opening_brackets, path_text, statement_text, value_text}
 use Rattle.toml_edit_model.specs.Paths.{Mention, Source, path_start}
 use Rattle.toml_edit_model.specs.Tree.{Node, nothing, Slots}
 use Rattle.toml_edit_model.specs.TreeOf.{spanned_in, frame_leaf, header_leaf, brackets_from, brackets_to}
@@ -82,7 +84,8 @@ module _ (mode : Mode) (b : Builder) (old : Building) (held : IsHeld b old) wher
     abbrev behind_line : ℕ
     behind_line = b.start + length (statement_text (key_line f v end))
 
-    pub line-clashes : option_map table_way_fault (clash_at b (key_line f v end)) ≡ option_map table_way_fault (line_clash ms (slots_view old.current))
+    pub line-clashes : option_map table_way_fault (clash_at b (key_line f v end))
+        ≡ option_map table_way_fault (line_clash ms (slots_view old.current))
     line-clashes =
         ap (λ o. option_map table_way_fault (option_and_then (line_clash ms) o)) ordered-here
         ∙ clashes_in_order (a_value nothing) ms b.start (slots_view old.current) current-placed
@@ -96,11 +99,13 @@ module _ (mode : Mode) (b : Builder) (old : Building) (held : IsHeld b old) wher
       line-added new e =
           along_lens b.block (add_line mode ms n) b.slots (slots_by_place (slots_view old.current)) ordered-here
           ∙ ap (option_map (λ us. put_along b.block us b.slots))
-          (adds_in_order mode (a_value n) ms b.start behind_line (slots_view old.current) (addition_real mode b.start (key_line f v end) n node) within current-placed
+          (adds_in_order mode (a_value n) ms b.start behind_line (slots_view old.current)
+          (addition_real mode b.start (key_line f v end) n node) within current-placed
           ∙ ap (option_map slots_by_place) e)
           ∙ ap (λ (us : Slots). Some us) (put-there new)
 
-      pub line-held : (new : Building) → add_line mode ms n (slots_view old.current) ≡ Some (slots_view new.current) → new.block ≡ old.block → new.headers ≡ old.headers
+      pub line-held : (new : Building) → add_line mode ms n (slots_view old.current) ≡ Some (slots_view new.current) → new.block ≡ old.block
+          → new.headers ≡ old.headers
           → slots_view new.root ≡ slots_view old.root
           → IsHeld (behind b (key_line f v end) (slots_by_place (put_along b.block (slots_view new.current) (slots_view old.root)))) new
       line-held new e block headers root =
@@ -117,8 +122,10 @@ module _ (mode : Mode) (b : Builder) (old : Building) (held : IsHeld b old) wher
             slots = ap (λ us. slots_by_place (put_along b.block (slots_view new.current) us)) (sym root);
             placed =
                 subst (ArePlaced behind_line)
-                (put_put b.block (slots_view old.current) (slots_view new.current) (slots_view old.root) ∙ ap (put_along b.block (slots_view new.current)) (sym root))
-                (put_placed b.block behind_line (slots_view new.current) (whole_of b old) kept (later b.start behind_line (whole_of b old) on held.placed));
+                (put_put b.block (slots_view old.current) (slots_view new.current) (slots_view old.root)
+                ∙ ap (put_along b.block (slots_view new.current)) (sym root))
+                (put_placed b.block behind_line (slots_view new.current) (whole_of b old) kept
+                (later b.start behind_line (whole_of b old) on held.placed));
           }
 
   -- ---- a header is added to the whole, and the slots of its table are taken out
@@ -134,7 +141,8 @@ pub some-text : (h : Header) (end : Text) → 0 < length (statement_text (header
 some-text h end =
     let whole = length-append h.leading (brackets_text h ++ (h.trailing ++ end)) in
     let inside = length-append (brackets_text h) (h.trailing ++ end) in
-    let opened = length-append (opening_brackets h.is_array) (h.opening ++ (path_text h.path ++ (h.closing ++ closing_brackets h.is_array))) in
+    let opened = length-append (opening_brackets h.is_array) (h.opening
+    ++ (path_text h.path ++ (h.closing ++ closing_brackets h.is_array))) in
     let some = opens-some h.is_array in
     omega (arith, whole, inside, opened, some)
   where
@@ -143,7 +151,8 @@ some-text h end =
     opens-some false = omega arith
 
 -- so fewer headers than bytes are before it
-pub fewer-headers : (t : Text) (b : Builder) (h : Header) (end : Text) (old : Building) → IsHeld b old → Stands t b.start (statement_text (header h end)) → old.headers < length t
+pub fewer-headers : (t : Text) (b : Builder) (h : Header) (end : Text) (old : Building) → IsHeld b old
+    → Stands t b.start (statement_text (header h end)) → old.headers < length t
 fewer-headers t b h end old held stands =
     let whole = ap (λ (x : Text). length x) stands.text ∙ length-append stands.before (statement_text (header h end) ++ stands.after) in
     let both = length-append (statement_text (header h end)) stands.after in
@@ -154,9 +163,12 @@ fewer-headers t b h end old held stands =
     omega (arith, whole, both, some, same, low, place)
 
 -- what is held once the slots of the header's table are taken out of the whole
-pub header-held : (b : Builder) (h : Header) (end : Text) (whole empty : Slots) (new : Building) → ArePlaced (b.start + length (statement_text (header h end))) whole
-    → (behind b (header h end) whole).block ≡ names new.block.items → (behind b (header h end) whole).headers ≡ new.headers → b.headers ≤ b.start
-    → Swaps (slots_along (behind b (header h end) whole).block whole) empty whole (put_along (behind b (header h end) whole).block empty whole)
+pub header-held : (b : Builder) (h : Header) (end : Text) (whole empty : Slots) (new : Building)
+    → ArePlaced (b.start + length (statement_text (header h end))) whole
+    → (behind b (header h end) whole).block ≡ names new.block.items → (behind b (header h end) whole).headers ≡ new.headers
+    → b.headers ≤ b.start
+    → Swaps (slots_along (behind b (header h end) whole).block whole) empty whole
+    (put_along (behind b (header h end) whole).block empty whole)
     (slots_view new.current) (slots_view new.root)
     → (inner : Slots) → slots_along (behind b (header h end) whole).block (slots_by_place whole) ≡ Some inner
     → IsHeld (behind b (header h end) (slots_by_place whole)) new
@@ -165,7 +177,16 @@ header-held b h end whole empty new placed block headers low s inner there =
     let after = b.start + length (statement_text (header h end)) in
     let (us, found, _) = map_some (slots_along ks whole) slots_by_place inner (sym (along_in_order ks after whole placed) ∙ there) in
     let (left, is) = taken-out ks empty whole us (slots_view new.current) (slots_view new.root) found s in
-    record { block = block; headers = headers; counted = let some = some-text h end in omega (arith, low, some); left = empty; there = left; slots = ap slots_by_place is; placed = subst (ArePlaced after) is placed }
+    record {
+      block = block;
+      headers = headers;
+      counted = let some = some-text h end in omega (arith, low, some);
+      left = empty;
+      there =
+          left;
+      slots = ap slots_by_place is;
+      placed = subst (ArePlaced after) is placed;
+    }
 
 -- ---- faults
 
@@ -181,7 +202,8 @@ later-named t own more Memory h = tt
 
 -- what stands in the way of it
 pub way-named : (t : Text) (own : List Fault) (way : Option (Mention Source × Node)) (e : ParseFault)
-    → IfToml e (λ r. (r.input ≡ t) × (option_map table_way_fault way ≡ Some (fault_of r))) → IfToml e (NamesOne t (own ++ table_way_faults way))
+    → IfToml e (λ r. (r.input ≡ t) × (option_map table_way_fault way ≡ Some (fault_of r)))
+    → IfToml e (NamesOne t (own ++ table_way_faults way))
 way-named t own None (Toml r) h = absurd (let g = h.1 in cc)
 way-named t own (Some c) (Toml r) h = (
   h.0,
@@ -196,7 +218,8 @@ path-ends : (p : List Segment) → IsPath p → IsEndOfPath p
 path-ends [] is = absurd (let e = is.begins in cc)
 path-ends (s ∷ p) is = record { some = refl; ends = is.ends; spelled = is.spelled }
 
-module _ (mode : Mode) (t : Text) (b : Builder) (f : Frame) (v : Value) (end : Text) (is : IsWhole (key_line f v end)) (stands : Stands t b.start (statement_text (key_line f v end))) where
+module _ (mode : Mode) (t : Text) (b : Builder) (f : Frame) (v : Value) (end : Text) (is : IsWhole (key_line f v end))
+    (stands : Stands t b.start (statement_text (key_line f v end))) where
   frame-stands : Stands t b.start (frame_text f (value_text v))
   frame-stands = stands-left t b.start (frame_text f (value_text v)) end stands
 
@@ -213,7 +236,8 @@ module _ (mode : Mode) (t : Text) (b : Builder) (f : Frame) (v : Value) (end : T
         read = read;
       }
 
-module _ (mode : Mode) (t : Text) (b : Builder) (h : Header) (end : Text) (is : IsWhole (header h end)) (stands : Stands t b.start (statement_text (header h end))) where
+module _ (mode : Mode) (t : Text) (b : Builder) (h : Header) (end : Text) (is : IsWhole (header h end))
+    (stands : Stands t b.start (statement_text (header h end))) where
   -- its key
   pub key-ends : IsEndOfPath h.path
   key-ends = path-ends h.path is.0.1
@@ -226,7 +250,8 @@ module _ (mode : Mode) (t : Text) (b : Builder) (h : Header) (end : Text) (is : 
       let key = start + length (opening_brackets h.is_array) in
       stands-left t (key + length h.opening) (path_text h.path) _ (stands-right t key h.opening _ inside)
 
-  pub header-path : (parts : HeaderParts) → AreHeaderParts mode h end b.start parts → IsPathOf mode t (source_at b (header h end)) (mentions_at b (header h end)) parts.path
+  pub header-path : (parts : HeaderParts) → AreHeaderParts mode h end b.start parts
+      → IsPathOf mode t (source_at b (header h end)) (mentions_at b (header h end)) parts.path
   header-path parts at =
       let s = source_at b (header h end) in
       let behind = b.start + length h.leading + length (opening_brackets h.is_array) in
@@ -250,8 +275,10 @@ module _ (mode : Mode) (b : Builder) (f : Frame) (v : Value) (end : Text) (old :
   abbrev line : Statement
   line = key_line f v end
 
-  pub line-is-added : (more : List Event) (n : Node) (path : KeyPath) (rest : List Event) (new : Building) → IsWhole line → IsLineRead mode f v end b.start more n path rest
-      → add_line mode (mentions_at b line) n (slots_view old.current) ≡ Some (slots_view new.current) → new.block ≡ old.block → new.headers ≡ old.headers
+  pub line-is-added : (more : List Event) (n : Node) (path : KeyPath) (rest : List Event) (new : Building) → IsWhole line
+      → IsLineRead mode f v end b.start more n path rest
+      → add_line mode (mentions_at b line) n (slots_view old.current) ≡ Some (slots_view new.current) → new.block ≡ old.block → new.headers
+      ≡ old.headers
       → slots_view new.root ≡ slots_view old.root → IsAdded mode b line more new rest
   line-is-added more n path rest new is read adds block headers root =
       record {
@@ -266,17 +293,22 @@ module _ (mode : Mode) (b : Builder) (f : Frame) (v : Value) (end : Text) (old :
 
   -- what stands in its way is named
   pub line-stopped : (t : Text) (e : ParseFault)
-      → IfToml e (λ r. (r.input ≡ t) × (option_map table_way_fault (line_clash (mentions_at b line) (slots_view old.current)) ≡ Some (fault_of r)))
+      → IfToml e (λ r. (r.input ≡ t) × (option_map table_way_fault (line_clash (mentions_at b line) (slots_view old.current))
+      ≡ Some (fault_of r)))
       → IfToml e (NamesOne t (faults_at b line))
   line-stopped t e h =
       way-named t (own_faults b.start line) (clash_at b line) e
       (subst (λ (o : Option Fault). IfToml e (λ r. (r.input ≡ t) × (o ≡ Some (fault_of r)))) (sym (line-clashes mode b old held f v end)) h)
 
 -- the item of a header
-pub header-item : (mode : Mode) (s : Source) (h : Header) (end : Text) (n : Node) (is_array : Bool) (brackets : Span) → s.statement ≡ header h end
+pub header-item : (mode : Mode) (s : Source) (h : Header) (end : Text) (n : Node) (is_array : Bool) (brackets : Span) → s.statement
+    ≡ header h end
     → brackets ≡ span_at (s.start + length h.leading) (brackets_text h) → IsHeaded mode s n → IsItemFor mode (kind_of is_array brackets) s n
-header-item mode s h end n true brackets is at head =
-    (head, at ∙ ap (λ (x : Statement). record { start = brackets_from (spanned_in mode) s x; end = brackets_to (spanned_in mode) s x }) (sym is))
+header-item mode s h end n true brackets is at head = (
+  head,
+  at ∙ ap (λ (x : Statement). record { start = brackets_from (spanned_in mode) s x; end = brackets_to (spanned_in mode) s x })
+      (sym is),
+)
 header-item mode s h end n false brackets is at head = head
 
 header_added : (mode : Mode) (is_array : Bool) (brackets : Span) (n : Node) (ms : List (Mention Source)) (ss : Slots)
@@ -289,7 +321,8 @@ header_real : (is_array : Bool) (brackets : Span) (n : Node) → IsRealAddition 
 header_real true brackets n = tt
 header_real false brackets n = tt
 
-module _ (mode : Mode) (b : Builder) (h : Header) (end : Text) (kind : Kind) (parts : HeaderParts) (n : Node) (ss : Slots) (at : AreHeaderParts mode h end b.start parts)
+module _ (mode : Mode) (b : Builder) (h : Header) (end : Text) (kind : Kind) (parts : HeaderParts) (n : Node) (ss : Slots)
+    (at : AreHeaderParts mode h end b.start parts)
     (kind_is : kind ≡ kind_of parts.is_array parts.brackets) (old : Building) (held : IsHeld b old) (whole : ss ≡ whole_of b old) where
   abbrev head : Statement
   head = header h end
@@ -299,22 +332,27 @@ module _ (mode : Mode) (b : Builder) (h : Header) (end : Text) (kind : Kind) (pa
 
   -- what stands in its way is named
   pub header-stopped : (t : Text) (e : ParseFault)
-      → IfToml e (λ r. (r.input ≡ t) × (option_map table_way_fault (path_clash (addition_for kind n) (mentions_at b head) ss) ≡ Some (fault_of r)))
+      → IfToml e (λ r. (r.input ≡ t) × (option_map table_way_fault (path_clash (addition_for kind n) (mentions_at b head) ss)
+      ≡ Some (fault_of r)))
       → IfToml e (NamesOne t (table_way_faults (clash_at b head)))
   header-stopped t e h' =
       let fault_at : Slots → Option Fault = λ us. option_map table_way_fault (path_clash adding (mentions_at b head) us) in
-      let way : option_map table_way_fault (path_clash (addition_for kind n) (mentions_at b head) ss) ≡ option_map table_way_fault (clash_at b head) =
+      let way : option_map table_way_fault (path_clash (addition_for kind n) (mentions_at b head) ss)
+      ≡ option_map table_way_fault (clash_at b head) =
       ap (λ (k : Kind). option_map table_way_fault (path_clash (addition_for k n) (mentions_at b head) ss)) kind_is
       ∙ ap fault_at whole
       ∙ sym (clashes_in_order adding (mentions_at b head) b.start (whole_of b old) held.placed)
       ∙ ap fault_at (sym held.slots)
       ∙ ap (option_map table_way_fault)
-      ((header_added mode parts.is_array parts.brackets n (mentions_at b head) b.slots).1 ∙ ap (λ (x : Bool). header_clash x (mentions_at b head) b.slots) at.is_array) in
+      ((header_added mode parts.is_array parts.brackets n (mentions_at b head) b.slots).1
+      ∙ ap (λ (x : Bool). header_clash x (mentions_at b head) b.slots) at.is_array) in
       way-named t [] (clash_at b head) e (subst (λ (o : Option Fault). IfToml e (λ r. (r.input ≡ t) × (o ≡ Some (fault_of r)))) way h')
 
-  pub header-is-opened : (new : Building) (empty out : Slots) → IsWhole head → add_in_place mode (addition_for kind n) (mentions_at b head) ss ≡ Some out
+  pub header-is-opened : (new : Building) (empty out : Slots) → IsWhole head
+      → add_in_place mode (addition_for kind n) (mentions_at b head) ss ≡ Some out
       → names new.block.items ≡ map (λ g. g.key) h.path → new.headers ≡ old.headers + 1
-      → Swaps (slots_along (names new.block.items) out) empty out (put_along (names new.block.items) empty out) (slots_view new.current) (slots_view new.root)
+      → Swaps (slots_along (names new.block.items) out) empty out (put_along (names new.block.items) empty out) (slots_view new.current)
+      (slots_view new.root)
       → IsOpened mode b head new
   header-is-opened new empty out is adds block headers swaps =
       let ms = mentions_at b head in
@@ -327,20 +365,32 @@ module _ (mode : Mode) (b : Builder) (h : Header) (end : Text) (kind : Kind) (pa
       record {
         slots = slots_by_place out;
         added_is =
-            sym ((header_added mode parts.is_array parts.brackets n ms b.slots).0 ∙ ap (λ (x : Bool). add_header mode x ms b.slots) at.is_array)
+            sym ((header_added mode parts.is_array parts.brackets n ms b.slots).0
+            ∙ ap (λ (x : Bool). add_header mode x ms b.slots) at.is_array)
             ∙ ap (add_path mode adding ms) held.slots
             ∙ adds_in_order mode adding ms b.start after (whole_of b old) real within held.placed
             ∙ ap (option_map slots_by_place) in_place;
-        held = header-held b h end out empty new (stays_placed mode adding ms b.start after (whole_of b old) out on real within held.placed in_place)
+        held = header-held b h end out empty new (stays_placed mode adding ms b.start after (whole_of b old) out on real within held.placed
+            in_place)
             (sym block) (let one = held.headers in omega (arith, one, headers)) held.counted
-            (subst (λ (ks : List Text). Swaps (slots_along ks out) empty out (put_along ks empty out) (slots_view new.current) (slots_view new.root)) block swaps);
+            (subst (λ (ks : List Text). Swaps (slots_along ks out) empty out (put_along ks empty out) (slots_view new.current)
+            (slots_view new.root)) block swaps);
       }
 
 -- the parts of a header that was read
-pub parts-are : (mode : Mode) (b : Builder) (h : Header) (end : Text) (more : List Event) (leading opening : Span) (is_array : Bool) (read : HeaderSpans) (rest : List Event) → leading ≡ span_at b.start h.leading
-    → is_array ≡ h.is_array → opening ≡ span_at (b.start + length h.leading) (opening_brackets h.is_array) → IsHeaderRead mode h end b.start more read rest
+pub parts-are : (mode : Mode) (b : Builder) (h : Header) (end : Text) (more : List Event) (leading opening : Span) (is_array : Bool)
+    (read : HeaderSpans) (rest : List Event) → leading ≡ span_at b.start h.leading
+    → is_array ≡ h.is_array → opening ≡ span_at (b.start + length h.leading) (opening_brackets h.is_array)
+    → IsHeaderRead mode h end b.start more read rest
     → AreHeaderParts mode h end b.start
-    (record { leading = leading; is_array = is_array; brackets = record { start = opening.start; end = read.end }; path = read.path; trailing = read.trailing })
+    (record {
+      leading = leading;
+      is_array = is_array;
+      brackets = record { start = opening.start; end = read.end };
+      path =
+          read.path;
+      trailing = read.trailing;
+    })
 parts-are mode b h end more leading opening is_array read rest front array opens is =
     record {
       leading = front;
@@ -352,7 +402,8 @@ parts-are mode b h end more leading opening is_array read rest front array opens
       trailing = is.trailing;
     }
 
-pub header-is-added : (mode : Mode) (b : Builder) (h : Header) (end : Text) (more : List Event) (read : HeaderSpans) (rest : List Event) (new : Building)
+pub header-is-added : (mode : Mode) (b : Builder) (h : Header) (end : Text) (more : List Event) (read : HeaderSpans) (rest : List Event)
+    (new : Building)
     → IsHeaderRead mode h end b.start more read rest → IsOpened mode b (header h end) new → IsAdded mode b (header h end) more new rest
 header-is-added mode b h end more read rest new is opened =
     record {

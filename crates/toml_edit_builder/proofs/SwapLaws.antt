@@ -18,7 +18,8 @@ use Rattle.toml_edit_builder.specs.BlockRead.{Swaps, split_name}
 
 -- ---- at a name
 
-pub name-is : (block : List Text) (k : Text) (rest : List Text) → ◌≡◌ {A = Option (Text × List Text)} (Some (k, rest)) (split_name block) → block ≡ k ∷ rest
+pub name-is : (block : List Text) (k : Text) (rest : List Text) → ◌≡◌ {A = Option (Text × List Text)} (Some (k, rest)) (split_name block)
+    → block ≡ k ∷ rest
 name-is [] k rest h = absurd cc
 name-is (j ∷ js) k rest h = let e : ◌≡◌ {A = Text × List Text} (k, rest) (j, js) = cc in ap (λ (p : Text × List Text). p.0 ∷ p.1) (sym e)
 
@@ -26,11 +27,13 @@ pub swap-all : (block : List Text) (others ss out new : Slots) → block ≡ [] 
     → Swaps (slots_along block ss) others ss (put_along block others ss) out new
 swap-all block others ss out new p e f = rw p (λ inner h. (e ∙ some-is ss inner h, f), λ h. absurd cc)
 
-pub swap-none : (block : List Text) (k : Text) (rest : List Text) (others ss out new : Slots) → block ≡ k ∷ rest → node_at k ss ≡ None → out ≡ others → new ≡ ss
+pub swap-none : (block : List Text) (k : Text) (rest : List Text) (others ss out new : Slots) → block ≡ k ∷ rest → node_at k ss ≡ None → out
+    ≡ others → new ≡ ss
     → Swaps (slots_along block ss) others ss (put_along block others ss) out new
 swap-none block k rest others ss out new p e same stays = rw (p, e) (λ inner h. absurd cc, λ h. (same, stays))
 
-pub swap-there : (block : List Text) (k : Text) (rest : List Text) (others ss out new : Slots) (old changed : Node) → block ≡ k ∷ rest → node_at k ss ≡ Some old
+pub swap-there : (block : List Text) (k : Text) (rest : List Text) (others ss out new : Slots) (old changed : Node) → block ≡ k ∷ rest
+    → node_at k ss ≡ Some old
     → new ≡ with_node k changed ss
     → Swaps (option_and_then (slots_along rest) (block_slots old)) others old (put_in (put_along rest others) old) out changed
     → Swaps (slots_along block ss) others ss (put_along block others ss) out new
@@ -47,7 +50,8 @@ last-found no_items last h = absurd cc
 last-found (item x no_items) last h = ap (λ (n : Node). last_slots (item n no_items)) (some-is x last h)
 last-found (item x (item m xs)) last h = last-found (item m xs) last h
 
-last-put : (put : Slots → Slots) (xs : Items) (last changed : Node) → last_item xs ≡ Some last → item changed no_items ≡ put_last put (item last no_items)
+last-put : (put : Slots → Slots) (xs : Items) (last changed : Node) → last_item xs ≡ Some last → item changed no_items
+    ≡ put_last put (item last no_items)
     → with_last changed xs ≡ put_last put xs
 last-put put no_items last changed h e = absurd cc
 last-put put (item x no_items) last changed h e = e ∙ ap (λ (n : Node). put_last put (item n no_items)) (sym (some-is x last h))
@@ -65,7 +69,8 @@ pub swap-last : (block : List Text) (others out : Slots) (e : Extent) (xs ys : I
     → last_item xs ≡ Some last → ys ≡ with_last changed xs
     → Swaps (option_and_then (slots_along block) (last_slots (item last no_items))) others (item last no_items)
     (put_last (put_along block others) (item last no_items)) out (item changed no_items)
-    → Swaps (option_and_then (slots_along block) (last_slots xs)) others (tables e xs) (tables e (put_last (put_along block others) xs)) out new
+    → Swaps (option_and_then (slots_along block) (last_slots xs)) others (tables e xs) (tables e (put_last (put_along block others) xs)) out
+    new
 swap-last block others out e xs ys new last changed is one put f =
     let found = ap (option_and_then (slots_along block)) (sym (last-found xs last one)) in (
       λ inner h.
@@ -90,7 +95,8 @@ pub taken-out : (ks : List Text) (empty whole inner out new : Slots) → slots_a
 taken-out ks empty whole inner out new there s =
     let (is, left) = s.0 inner there in (
       ap (slots_along ks) left ∙ along_put ks empty whole inner there,
-      sym (ap (put_along ks out) left ∙ put_put ks empty out whole ∙ ap (λ (us : Slots). put_along ks us whole) is ∙ put_same ks whole inner there),
+      sym (ap (put_along ks out) left ∙ put_put ks empty out whole ∙ ap (λ (us : Slots). put_along ks us whole) is
+          ∙ put_same ks whole inner there),
     )
 
 -- ---- an array of tables as it is seen
@@ -101,5 +107,6 @@ tables_items a = search (rules, the_lemmas)
 pub tables_extent : (a : ArrayOfTables) → (tables_view a).extent ≡ (out-ArrayOfTables a).span
 tables_extent a = search (rules, the_lemmas)
 
-pub tables-made : (e : Extent) (v : Vec Item Global) → tables_node (tables_view (roll-ArrayOfTables (record { values = v; span = e }))) ≡ tables e (items_view v.items)
+pub tables-made : (e : Extent) (v : Vec Item Global) → tables_node (tables_view (roll-ArrayOfTables (record { values = v; span = e })))
+    ≡ tables e (items_view v.items)
 tables-made e v = search (rules, the_lemmas)

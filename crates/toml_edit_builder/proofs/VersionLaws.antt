@@ -1,5 +1,6 @@
 -- Whether the statement that comes first is one of the version.
-use Rattle.std.proofs.Common.{◌≡◌, ℕ, ◌+◌, ◌-◌, Option, None, Some, Result, Ok, Err, ap, sym, subst, ◌∙◌, true, false, List, [], ◌∷◌, ◌++◌, inl, inr, refl, lit<, arith}
+use Rattle.std.proofs.Common.{◌≡◌, ℕ, ◌+◌, ◌-◌, Option, None, Some, Result, Ok, Err, ap, sym, subst, ◌∙◌, true, false, List, [], ◌∷◌, ◌++◌}
+use Rattle.std.proofs.Common.{inl, inr, refl, lit<, arith}
 use Rattle.std.specs.Prelude.{Contains, IfErr, IfSome}
 use Rattle.std.specs.Borrow.{Bor}
 use Rattle.std.proofs.lemmas.List.Elements.{Contains-append_left, Contains-append_right}
@@ -28,7 +29,8 @@ use Rattle.toml_edit_builder.proofs.WholeLaws.{of_report}
 -- ---- in TOML 1.0
 
 -- a part of it that is not there is a fault
-pub late_named : (version : Version) (start : ℕ) (s : Statement) (o : Option Span) → version ≡ v1_0 → IfSome o (NamesLate (late_places start s))
+pub late_named : (version : Version) (start : ℕ) (s : Statement) (o : Option Span) → version ≡ v1_0
+    → IfSome o (NamesLate (late_places start s))
     → IfSome o (λ span. Contains (late_faults version start s) (fault needs_message span.start (span.end - span.start)))
 late_named version start s None is h = h
 late_named version start s (Some span) is h =
@@ -36,7 +38,8 @@ late_named version start s (Some span) is h =
     (late-named start s (span.start, span.end - span.start) h)
 
 -- without one it is of the version
-pub early_statement : (version : Version) (start : ℕ) (s : Statement) → version ≡ v1_0 → late_places start s ≡ [] → is_of_version version s ≡ true
+pub early_statement : (version : Version) (start : ℕ) (s : Statement) → version ≡ v1_0 → late_places start s ≡ [] → is_of_version version s
+    ≡ true
 early_statement version start s is h = ap (λ v. is_of_version v s) is ∙ early-of-none start s h
 
 -- ---- in each version
@@ -50,15 +53,19 @@ names_late version t b s span e has within told =
     of_report e _ _
     (λ r same. let there : span.start + (span.end - span.start) ≡ span.end = (let order = within.order in omega (arith, order)) in
     let f : Fault = record { message = needs_message; span = Some (span.start, span.end) } in
-    let named : Contains (late_faults version b.start s) f = subst (λ n. Contains (late_faults version b.start s) (record { message = needs_message; span = Some (span.start, n) })) there has in (
+    let named : Contains (late_faults version b.start s) f =
+    subst (λ n. Contains (late_faults version b.start s) (record { message = needs_message; span = Some (span.start, n) })) there has in (
       ap (λ x. x.input) same,
-      Contains-append_left (late_faults version b.start s) (faults_at b s) (fault_of r) (subst (Contains (late_faults version b.start s)) (sym (ap fault_of same)) named),
+      Contains-append_left (late_faults version b.start s) (faults_at b s) (fault_of r)
+          (subst (Contains (late_faults version b.start s)) (sym (ap fault_of same)) named),
     ))
     told
 
 -- where it is one of the version once it is known to be right, what reading it answers
-pub reads_in_version : (mode : Mode) (version : Version) (t : Text) (b : Builder) (s : Statement) (more : List Event) (new : Building) (r : Result (Bor (List Event)) ParseFault)
-    → (has_deep_value s ≡ false → is_of_version version s ≡ true) → ReadsStatement mode t b s more new r → ReadsInVersion mode version t b s more new r
+pub reads_in_version : (mode : Mode) (version : Version) (t : Text) (b : Builder) (s : Statement) (more : List Event) (new : Building)
+    (r : Result (Bor (List Event)) ParseFault)
+    → (has_deep_value s ≡ false → is_of_version version s ≡ true) → ReadsStatement mode t b s more new r
+    → ReadsInVersion mode version t b s more new r
 reads_in_version mode version t b s more new (Ok rest) early h = (early (added-shallow b.start s h.faultless), h)
 reads_in_version mode version t b s more new (Err e) early h =
     of_report e _ _ (λ r is. (is.0, Contains-append_right (late_faults version b.start s) (faults_at b s) (fault_of r) is.1)) h
@@ -74,7 +81,8 @@ listed-later v1_0 m h = Contains-append_right (needs_message ∷ []) fault_messa
 listed-later v1_1 m h = h
 
 -- what is said in TOML 1.1 may be said in each version
-pub listed-in : {A : Type 0} (version : Version) (r : Result A ParseFault) → IfErr r (λ e. IfToml e IsListed) → IfErr r (λ e. IfToml e (IsListedIn version))
+pub listed-in : {A : Type 0} (version : Version) (r : Result A ParseFault) → IfErr r (λ e. IfToml e IsListed)
+    → IfErr r (λ e. IfToml e (IsListedIn version))
 listed-in version (Ok x) h = tt
 listed-in version (Err e) h =
     of_report e _ _

@@ -7,13 +7,15 @@ use Rattle.toml_edit_model.specs.Text.{Text}
 use Rattle.toml_edit_model.specs.Syntax.{Segment, path_text}
 use Rattle.toml_edit_model.specs.Paths.{Mention, Source}
 use Rattle.toml_edit_model.specs.Tree.{Key, TableFields, Node, item, no_items, table, tables, Slots, no_slots}
-use Rattle.toml_edit_model.specs.TreeOf.{made_by_path, spanned_form, spanned_in, header_fields, statement_leaf, key_at, brackets_from, brackets_to}
+use Rattle.toml_edit_model.specs.TreeOf.{made_by_path, spanned_form, spanned_in, header_fields, statement_leaf, key_at, brackets_from}
+use Rattle.toml_edit_model.specs.TreeOf.{brackets_to}
 use Rattle.toml_edit_laws.specs.Standing.{Stands}
 use Rattle.toml_edit_laws.specs.InlineTree.{node_at}
 use Rattle.toml_edit_laws.specs.FlatTree.{with_slot}
 use Rattle.toml_edit_laws.specs.TableTree.{change_table, reaching, with_item}
 use Rattle.toml_edit_laws.specs.TableClash.{clash_in_last, table_way_fault}
-use Rattle.toml_edit_laws.specs.AddPath.{Addition, a_value, a_table, an_element, makes_dotted, path_clash, inside, clash_inside, last_key_clash, AreMentionsOf}
+use Rattle.toml_edit_laws.specs.AddPath.{Addition, a_value, a_table, an_element, makes_dotted, path_clash, inside, clash_inside}
+use Rattle.toml_edit_laws.specs.AddPath.{last_key_clash, AreMentionsOf}
 use Rattle.toml_edit_laws.specs.InPlace.{add_in_place, put_in_place}
 use Rattle.toml_edit_error.specs.Report.{fault_of}
 use Rattle.toml_edit_error.specs.Fault.{IfToml}

@@ -1,5 +1,6 @@
 -- How a run ends.
-use Rattle.std.proofs.Common.{◌≡◌, ◌⊎◌, refl, sym, ap, subst, ◌∙◌, Bool, true, false, List, [], ◌∷◌, length, Option, None, Some, Result, Ok, Err, OnOk, IfErr, inl, inr, arith, string_bytes}
+use Rattle.std.proofs.Common.{◌≡◌, ◌⊎◌, refl, sym, ap, subst, ◌∙◌, Bool, true, false, List, [], ◌∷◌, length, Option, None, Some, Result, Ok}
+use Rattle.std.proofs.Common.{Err, OnOk, IfErr, inl, inr, arith, string_bytes}
 use Rattle.std.proofs.lemmas.Bool.{false≢true}
 use Rattle.std.specs.Prelude.{IfSome}
 use Rattle.std.specs.Io.KnownBytes.{IsAtEnd}
@@ -9,9 +10,11 @@ use Rattle.toml_edit_model.specs.Mode.{Mode}
 use Rattle.toml_edit_model.specs.Version.{Version}
 use Rattle.toml_edit_model.specs.Tree.{Node}
 use Rattle.toml_edit_command.specs.Mistakes.{InRead, InTree, InWords, IsMisworded, usage_line}
-use Rattle.toml_edit_command.specs.Run.{Begins, BeginsAction, Does, DoesAction, IsNotAccepted, OutputChange, Tells, TellsFault, TellsMistake, TellsRefusal}
+use Rattle.toml_edit_command.specs.Run.{Begins, BeginsAction, Does, DoesAction, IsNotAccepted, OutputChange, Tells, TellsFault}
+use Rattle.toml_edit_command.specs.Run.{TellsMistake, TellsRefusal}
 use Rattle.toml_edit_command.specs.Steps.{BeganToWrite, HasReadAll, StopsActing, StopsDoing, StopsInWords, TellsError, WroteRead, status_of}
-use Rattle.toml_edit_command.specs.Words.{Action, printing, getting, setting, removing, Request, IsCommand, IsSet, Says, SpellsPath, SpellsValue, TakesPath}
+use Rattle.toml_edit_command.specs.Words.{Action, printing, getting, setting, removing, Request, IsCommand, IsSet, Says, SpellsPath}
+use Rattle.toml_edit_command.specs.Words.{SpellsValue, TakesPath}
 use Rattle.toml_edit_command.specs.Written.{Held, IsHeldAs, IsHeldOf, IsReadOf}
 use Rattle.toml_edit_command.specs.declared.error.CommandError.{CommandError}
 use Rattle.toml_edit_command.specs.declared.error.CommandError.TheVariants as mistakes
@@ -41,7 +44,8 @@ third [] = []
 third (w ∷ ws) = second ws
 
 -- the PATH of words that say what is to be done is a path
-path-spelled : (q : Request) (a : Action) → Says q a → (path : Text) → TakesPath q.command path → (names : List Text) × SpellsPath path names
+path-spelled : (q : Request) (a : Action) → Says q a → (path : Text) → TakesPath q.command path → (names : List Text)
+    × SpellsPath path names
 unfolding first second
 path-spelled q printing said path takes =
     elim takes [
@@ -69,7 +73,8 @@ path-spelled q (removing names) said path takes =
     ]
 
 -- and their VALUE a value
-value-spelled : (q : Request) (a : Action) → Says q a → (path value : Text) → IsSet q.command path value → (n : Node) × SpellsValue q.version value n
+value-spelled : (q : Request) (a : Action) → Says q a → (path value : Text) → IsSet q.command path value → (n : Node)
+    × SpellsValue q.version value n
 unfolding first second third
 value-spelled q printing said path value set = absurd (omega (arith, ap length (sym said ∙ set)))
 value-spelled q (getting names) said path value set = absurd (omega (arith, ap length (sym said.1 ∙ set)))
@@ -105,7 +110,8 @@ wrong-words q WriteFailed s stops wrong told = absurd stops
 
 -- ---- what was done, and what stopped it
 
-module _ (q : Request) (a : Action) (said : Says q a) (mode : Mode) (in_mode : mode ≡ q.mode) (version : Version) (same : version ≡ q.version)
+module _ (q : Request) (a : Action) (said : Says q a) (mode : Mode) (in_mode : mode ≡ q.mode) (version : Version) (same : version
+    ≡ q.version)
     (known : Option Text) where
   -- what is said in this mode and version is said in those that are asked for
   as_asked : (P : Mode → Version → Type 0) → P mode version → P q.mode q.version
@@ -113,15 +119,18 @@ module _ (q : Request) (a : Action) (said : Says q a) (mode : Mode) (in_mode : m
 
   does-action : (known : Option Text) (s : OutputChange) → WroteRead mode version a known s → DoesAction mode version a known s
   does-action None s wrote = tt
-  does-action (Some bytes) s (d, h, is, (x, made, grew)) = (d, h.tree, is.read, (x, made-written mode version bytes d h is q a said x made, grew))
+  does-action (Some bytes) s (d, h, is, (x, made, grew)) =
+      (d, h.tree, is.read, (x, made-written mode version bytes d h is q a said x made, grew))
 
   pub does : (s : OutputChange) → WroteRead mode version a known s → Does q known s
   does s wrote = (a, said, as_asked (λ m v. DoesAction m v a known s) (does-action known s wrote))
 
   begins-action : (known : Option Text) (s : OutputChange)
-      → IfSome known (λ bytes. (d : Document) × (h : Held) × IsHeldAs mode version bytes d h × BeganToWrite a h s) → BeginsAction mode version a known s
+      → IfSome known (λ bytes. (d : Document) × (h : Held) × IsHeldAs mode version bytes d h × BeganToWrite a h s)
+      → BeginsAction mode version a known s
   begins-action None s began = tt
-  begins-action (Some bytes) s (d, h, is, (x, made, grew)) = (d, h.tree, is.read, (x, made-written mode version bytes d h is q a said x made, grew))
+  begins-action (Some bytes) s (d, h, is, (x, made, grew)) =
+      (d, h.tree, is.read, (x, made-written mode version bytes d h is q a said x made, grew))
 
   module _ (failed : Bool) (s : OutputChange) where
     pub begins : (stop : RunError) → StopsDoing mode version a known failed s stop → s.failed ≡ true → Begins q known s
@@ -146,7 +155,8 @@ module _ (q : Request) (a : Action) (said : Says q a) (mode : Mode) (in_mode : m
         → status_of stop ≡ 1 → TellsError stop told
         → IfSome known (λ bytes. IsNotAccepted version bytes × TellsFault version bytes told)
     tells-refusal-in stop told None stops one line = tt
-    tells-refusal-in NotUtf8 told (Some bytes) stops one line = (λ d utf8 accepted. stops.0.0 utf8, (λ _. line, λ utf8. absurd (stops.0.0 utf8)))
+    tells-refusal-in NotUtf8 told (Some bytes) stops one line =
+        (λ d utf8 accepted. stops.0.0 utf8, (λ _. line, λ utf8. absurd (stops.0.0 utf8)))
     tells-refusal-in (Refused e) told (Some bytes) stops one line =
         (λ d utf8 accepted. stops.0.0.1 d accepted, (λ bad. absurd (bad stops.0.0.0), λ _. (string_bytes e, stops.0.0.2, line)))
     tells-refusal-in (Mistaken m) told (Some bytes) stops one line = absurd (omega (arith, one))
@@ -157,11 +167,13 @@ module _ (q : Request) (a : Action) (said : Says q a) (mode : Mode) (in_mode : m
     pub tells-refusal : (stop : RunError) (told : OutputChange) → StopsDoing mode version a known failed s stop → status_of stop ≡ 1
         → TellsError stop told → TellsRefusal q known told
     tells-refusal stop told stops one line =
-        subst (λ v. IfSome known (λ bytes. IsNotAccepted v bytes × TellsFault v bytes told)) same (tells-refusal-in stop told known stops one line)
+        subst (λ v. IfSome known (λ bytes. IsNotAccepted v bytes × TellsFault v bytes told)) same
+        (tells-refusal-in stop told known stops one line)
 
 -- what stops the action on what is held of what was read stops the command
 module _ (mode : Mode) (version : Version) (a : Action) (h : Held) (in_mode : h.mode ≡ mode) where
-  read-of : (known : Option Text) → IfSome known (λ bytes. IsHeldOf mode version bytes h) → IfSome known (λ bytes. IsReadOf mode version bytes h.tree)
+  read-of : (known : Option Text) → IfSome known (λ bytes. IsHeldOf mode version bytes h)
+      → IfSome known (λ bytes. IsReadOf mode version bytes h.tree)
   read-of None is = tt
   read-of (Some bytes) (d, is) = (d, is.read)
 
@@ -170,7 +182,8 @@ module _ (mode : Mode) (version : Version) (a : Action) (h : Held) (in_mode : h.
   began None s is wrote = tt
   began (Some bytes) s (d, is) wrote = (d, h, is, wrote)
 
-  pub stops-doing : (known : Option Text) → IfSome known (λ bytes. IsHeldOf mode version bytes h) → (failed : Bool) → failed ≡ false → (s : OutputChange)
+  pub stops-doing : (known : Option Text) → IfSome known (λ bytes. IsHeldOf mode version bytes h) → (failed : Bool) → failed ≡ false
+      → (s : OutputChange)
       → (stop : RunError) → StopsActing a h s stop → StopsDoing mode version a known failed s stop
   stops-doing known is failed works s (Mistaken m) stops =
       ((h.tree, subst (λ n. InTree n a h.tree m) in_mode stops.0, read-of known is), works, stops.1)
@@ -219,7 +232,8 @@ module _ (left : Option Text) where
 
   -- and its words
   pub words-refuse-none : (q : Request) (stop : RunError) → StopsInWords q stop → (status_of stop ≡ 0) ⊎ (status_of stop ≡ 1) → IsAtEnd left
-  words-refuse-none q (Mistaken m) stops status = elim status [ inl none ↦ absurd (omega (arith, none)) | inr one ↦ absurd (omega (arith, one)) ]
+  words-refuse-none q (Mistaken m) stops status =
+      elim status [ inl none ↦ absurd (omega (arith, none)) | inr one ↦ absurd (omega (arith, one)) ]
   words-refuse-none q NotUtf8 stops status = absurd stops
   words-refuse-none q (Refused e) stops status = absurd stops
   words-refuse-none q Memory stops status = elim status [ inl none ↦ absurd (omega (arith, none)) | inr one ↦ absurd (omega (arith, one)) ]

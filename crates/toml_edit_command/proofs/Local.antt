@@ -23,7 +23,8 @@ use Rattle.toml_edit_command.specs.Written.{Held, IsHeldAs, IsPrintFor, IsPrintO
 use Rattle.toml_edit_command.proofs.Spelled.{spelled-plain}
 
 -- a command at one path has one answer
-one-answer : (at : List Text → Answer Tree) (names path : List Text) (u w : Tree) → names ≡ path → at names ≡ done u → at path ≡ done w → w ≡ u
+one-answer : (at : List Text → Answer Tree) (names path : List Text) (u w : Tree) → names ≡ path → at names ≡ done u → at path ≡ done w → w
+    ≡ u
 one-answer at names path u w same is other = done-is w u (sym other ∙ ap at (sym same) ∙ is)
 
 module _ (mode : Mode) (d : Document) (t u : Tree) (names : List Text) (read : IsRead mode d t) where

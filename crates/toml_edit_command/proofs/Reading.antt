@@ -54,7 +54,8 @@ path-stops q path stop takes may =
       | inr bad ↦ subst (StopsInWords q) (sym bad.0) (path, takes, bad.1)
     ]
 
-pub value-stops : (q : Request) (path value : Text) (names : List Text) (stop : RunError) → IsSet q.command path value → SpellsPath path names
+pub value-stops : (q : Request) (path value : Text) (names : List Text) (stop : RunError) → IsSet q.command path value
+    → SpellsPath path names
     → MayStopValue q.version value stop → StopsInWords q stop
 value-stops q path value names stop set spelled may =
     elim may [

@@ -18,7 +18,8 @@ lone-names before (s ∷ []) after = refl
 lone-names before (s ∷ r ∷ rest) after = ap (λ xs. s.key ∷ xs) (lone-names before (r ∷ rest) after)
 
 -- the item of a value is no dotted inline table
-plain-item : (v : Value) (i : ℕ) (before after : Text) (m : Node) → IsValueNode owned_form v i before after m → is_plain_value (with_decor unset m) ≡ true
+plain-item : (v : Value) (i : ℕ) (before after : Text) (m : Node) → IsValueNode owned_form v i before after m
+    → is_plain_value (with_decor unset m) ≡ true
 plain-item (scalar s t) i before after (leaf r spelling d) h = refl
 plain-item (array es comma t) i before after (list f xs) h = refl
 plain-item (inline_table ps comma t) i before after (inline f ss) h = ap (λ g. not g.is_dotted) h.0

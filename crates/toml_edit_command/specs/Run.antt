@@ -10,7 +10,7 @@ use Rattle.toml_edit_model.specs.Excerpt.{excerpt}
 use Rattle.toml_edit_model.specs.Tree.{Tree}
 use Rattle.toml_edit_error.specs.Report.{Report}
 use Rattle.toml_edit.specs.Documents.{IsRefusalIn}
-use Rattle.toml_edit_stream.specs.Streams.{AppendsBeginning}
+use Rattle.toml_edit_io.specs.Streams.{AppendsBeginning}
 use Rattle.toml_edit_command.specs.Words.{Action, Request, Says}
 use Rattle.toml_edit_command.specs.Written.{IsReadAs, Writes}
 use Rattle.toml_edit_command.specs.Mistakes.{IsMistaken, encoding_line, mistake_line}

@@ -15,7 +15,7 @@ use crate::words::Command;
 use std::alloc::Global;
 use std::mem;
 use toml_edit::{DocumentMut, ParseOptions, PrintFault};
-use toml_edit_stream::{Input, Output};
+use toml_edit_io::{Input, Output};
 
 /// Reads the document from the input, by these options, and runs the command on it. The memory of
 /// the document is not given back.

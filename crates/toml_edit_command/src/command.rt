@@ -10,7 +10,7 @@ use crate::error::RunError;
 use crate::tell::end;
 use crate::words::Command;
 use std::alloc::Global;
-use toml_edit_stream::{Input, Output};
+use toml_edit_io::{Input, Output};
 
 /// The exit status of a command that is done.
 const DONE: u8 = 0;

@@ -1,7 +1,7 @@
 //! The commands `set` and `remove`.
 ghost use Rattle.std.specs.Prelude.{◌≡◌, false, IfErr, OnOk};
 ghost use Rattle.toml_edit_tree.specs.View.{value_view};
-ghost use Rattle.toml_edit_change.specs.Changes.{names};
+ghost use Rattle.toml_edit_paths.specs.Changes.{names};
 ghost use Rattle.toml_edit_command.specs.Run.{written};
 ghost use Rattle.toml_edit_command.specs.Steps.{Printed, StopsActing, StopsPrinting, Wrote, error_for};
 ghost use Rattle.toml_edit_command.specs.Words.{removing, setting};
@@ -11,7 +11,7 @@ use crate::act::print;
 use crate::error::{CommandError, RunError};
 use std::alloc::Global;
 use toml_edit::{ChangeFault, DocumentMut, Key, Value};
-use toml_edit_stream::Output;
+use toml_edit_io::Output;
 
 /// Puts the value at the path, and writes the document.
 pub fn set<O: Output>(

@@ -5,7 +5,7 @@ ghost use Rattle.toml_edit_model.specs.Text.{newline};
 ghost use Rattle.toml_edit_laws.specs.Commands as commands;
 ghost use Rattle.toml_edit_tree.specs.Containers.{tables_node};
 ghost use Rattle.toml_edit_tree.specs.View.{item_view, tables_view};
-ghost use Rattle.toml_edit_change.specs.Changes.{names};
+ghost use Rattle.toml_edit_paths.specs.Changes.{names};
 ghost use Rattle.toml_edit_command.specs.Run.{written};
 ghost use Rattle.toml_edit_command.specs.Steps.{StopsActing, StopsWriting, Wrote};
 ghost use Rattle.toml_edit_command.specs.Words.{getting};
@@ -14,7 +14,7 @@ ghost use Rattle.toml_edit_command.specs.Written.{held};
 use crate::error::{CommandError, RunError};
 use std::alloc::Global;
 use toml_edit::{ArrayOfTables, DocumentMut, Item, Key};
-use toml_edit_stream::{Output, Printed, Sink, print_to};
+use toml_edit_io::{Output, Printed, Sink, print_to};
 use toml_edit_tree::Bare;
 
 /// Writes the text of the item at the path.
@@ -107,7 +107,7 @@ struct Line<'a, T>(&'a T);
 impl<T: Printed> Printed for Line<'_, T> {
     ghost text = { λ line. T.text line.0.now ++ newline };
 
-    #[tactic(auto, using(toml_edit_stream::proofs::Puts::put_steps))]
+    #[tactic(auto, using(toml_edit_io::proofs::Puts::put_steps))]
     fn put_into<S: Sink>(&self, out: &mut S) {
         self.0.put_into(out);
         out.put("\n")

@@ -13,7 +13,7 @@ ghost use Rattle.toml_edit_parser.specs.Options.{mode_of, version_of};
 use crate::error::RunError;
 use std::alloc::Global;
 use toml_edit::{Document, DocumentMut, ParseFault, ParseOptions};
-use toml_edit_stream::{Input, ReadFault, read_to_end};
+use toml_edit_io::{Input, ReadFault, read_to_end};
 
 /// Reads the input to its end, and parses the document that it holds by these options.
 pub fn read_document<I: Input>(

@@ -5,7 +5,7 @@ ghost use Rattle.toml_edit_command.specs.Run.{Tells, written};
 ghost use Rattle.toml_edit_command.specs.Steps.{TellsError, status_of};
 
 use crate::error::{CommandError, RunError};
-use toml_edit_stream::{Output, write_all};
+use toml_edit_io::{Output, write_all};
 
 /// Writes to `errors` why a run stopped, and returns its exit status.
 pub fn end<E: Output>(error: &RunError, errors: &mut E) -> u8

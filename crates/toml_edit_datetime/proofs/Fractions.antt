@@ -1,5 +1,6 @@
 -- The digits of a fraction, one at a time.
-use Rattle.std.proofs.Common.{◌≡◌, ℕ, zero, suc, ◌+◌, ◌-◌, ◌*◌, ◌/◌, ◌%◌, ◌^◌, ◌<◌, ◌≤◌, true, List, [], ◌∷◌, ◌++◌, length, get_or, take, codes, refl, sym, ap, ◌∙◌, arith, add-one, length-append, eq-eqb, ne_eqb}
+use Rattle.std.proofs.Common.{◌≡◌, ℕ, zero, suc, ◌+◌, ◌-◌, ◌*◌, ◌/◌, ◌%◌, ◌^◌, ◌<◌, ◌≤◌, true, List, [], ◌∷◌, ◌++◌, length, get_or, take}
+use Rattle.std.proofs.Common.{codes, refl, sym, ap, ◌∙◌, arith, add-one, length-append, eq-eqb, ne_eqb}
 use Rattle.std.specs.Char.{is_ascii_digit, digit_value}
 use Rattle.std.specs.Str.Parse.{digits_value}
 use Rattle.std.proofs.lemmas.Int.Digits.{digits_value_more}
@@ -26,7 +27,8 @@ pub digit_more : (ds : List ℕ) (i : ℕ) → i < length ds → is_ascii_digit 
     → digits_value 10 (take (i + 1) (ds ++ zeros)) ≡ digits_value 10 (take i (ds ++ zeros)) * 10 + (get_or ds i 0 - 48)
 digit_more ds i h d =
     let within : i < length (ds ++ zeros) = omega (arith, length-append ds zeros) in
-    digits_value_more 10 (ds ++ zeros) i within ∙ ap (λ x. digits_value 10 (take i (ds ++ zeros)) * 10 + x) (ap digit_value (get_or_append_left ds zeros 0 i h) ∙ digit_worth _ d)
+    digits_value_more 10 (ds ++ zeros) i within ∙ ap (λ x. digits_value 10 (take i (ds ++ zeros)) * 10
+    + x) (ap digit_value (get_or_append_left ds zeros 0 i h) ∙ digit_worth _ d)
 
 -- the zeros are zeros
 zero_at : (j : ℕ) → j < 9 → digit_value (get_or zeros j 0) ≡ 0
@@ -48,7 +50,8 @@ zero_more ds i h past =
     let within : i < length (ds ++ zeros) = omega (arith, length-append ds zeros) in
     let place : length ds + (i - length ds) ≡ i = omega arith in
     let here : digit_value (get_or (ds ++ zeros) i 0) ≡ 0 =
-    ap (λ (k : ℕ). digit_value (get_or (ds ++ zeros) k 0)) (sym place) ∙ ap digit_value (get_or-append-add ds zeros (i - length ds) 0) ∙ zero_at (i - length ds) (omega arith) in
+    ap (λ (k : ℕ). digit_value (get_or (ds ++ zeros) k 0)) (sym place) ∙ ap digit_value (get_or-append-add ds zeros (i - length ds) 0)
+    ∙ zero_at (i - length ds) (omega arith) in
     digits_value_more 10 (ds ++ zeros) i within ∙ omega (arith, here)
 
 -- a digit is below ten

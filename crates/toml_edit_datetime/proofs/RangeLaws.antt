@@ -1,9 +1,11 @@
 -- What is read is in range exactly where its parts exist.
-use Rattle.std.proofs.Common.{◌≡◌, ℕ, Bool, true, false, cond, ◌&&◌, List, Option, Some, None, Result, Ok, Err, is_some, IsTrue, refl, sym, ap, subst, ◌∙◌, inl, inr}
+use Rattle.std.proofs.Common.{◌≡◌, ℕ, Bool, true, false, cond, ◌&&◌, List, Option, Some, None, Result, Ok, Err, is_some, IsTrue, refl, sym}
+use Rattle.std.proofs.Common.{ap, subst, ◌∙◌, inl, inr}
 use Rattle.std.specs.Prelude.{option_map, ◌↔◌}
 use Rattle.std.specs.Result.{result_ok}
 use Rattle.std.proofs.lemmas.Bool.{false≢true, cases_Bool}
-use Rattle.toml_edit_model.specs.Scalars.{Date as DateRecord, Time as TimeRecord, Offset as OffsetData, Datetime as DatetimeRecord, datetime, is_real_date, is_real_time, is_absent_or}
+use Rattle.toml_edit_model.specs.Scalars.{Date as DateRecord, Time as TimeRecord, Offset as OffsetData, Datetime as DatetimeRecord}
+use Rattle.toml_edit_model.specs.Scalars.{datetime, is_real_date, is_real_time, is_absent_or}
 use Rattle.toml_edit_model.specs.Spelling.{SpellsDatetime, is_in_range}
 use Rattle.toml_edit_model.specs.Tree.{has_real_parts}
 use Rattle.toml_edit_datetime.specs.declared.datetime.Datetime.{Datetime}
@@ -66,13 +68,15 @@ time_refused t p e none =
     let bad = held_back (time_is_real p) p.time none in
     sym (ranged_step t p e ∙ rw bad (refused_right (date_is_real p) (offset_is_real p) p))
 
-pub offset_refused : (t : List ℕ) (p : Parts) → parts_of t ≡ Some p → None ≡ cond (offset_is_real p) (Some (option_map (λ o. o.offset) p.offset)) None → None ≡ ranged_of t
+pub offset_refused : (t : List ℕ) (p : Parts) → parts_of t ≡ Some p → None
+    ≡ cond (offset_is_real p) (Some (option_map (λ o. o.offset) p.offset)) None → None ≡ ranged_of t
 offset_refused t p e none =
     let bad = held_back (offset_is_real p) (option_map (λ o. o.offset) p.offset) none in
     sym (ranged_step t p e ∙ rw bad (refused_last (date_is_real p && time_is_real p) p))
 
 -- all parts exist
-pub joined : (t : List ℕ) (p : Parts) (date : Option DateRecord) (time : Option TimeRecord) (offset : Option OffsetData) (r : Option DatetimeRecord) → parts_of t ≡ Some p
+pub joined : (t : List ℕ) (p : Parts) (date : Option DateRecord) (time : Option TimeRecord) (offset : Option OffsetData)
+    (r : Option DatetimeRecord) → parts_of t ≡ Some p
     → Some date ≡ cond (date_is_real p) (Some p.date) None
     → Some time ≡ cond (time_is_real p) (Some p.time) None
     → Some offset ≡ cond (offset_is_real p) (Some (option_map (λ o. o.offset) p.offset)) None

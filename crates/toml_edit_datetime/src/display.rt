@@ -1,5 +1,5 @@
 //! Putting the default spellings of dates and times into sinks.
-#![tactic(auto, using(toml_edit_stream::proofs::Puts::put_steps))]
+#![tactic(auto, using(toml_edit_io::proofs::Puts::put_steps))]
 
 ghost use Rattle.std.specs.Prelude.{◌≡◌, ◌+◌, ◌<◌, true, [], ◌∷◌, ◌++◌, option_map};
 ghost use Rattle.std.specs.Fmt.{WritesInCalls};
@@ -17,7 +17,7 @@ use crate::datetime::{Datetime, Offset};
 use crate::time::Time;
 use std::fmt;
 use std::fmt::{Formatter, Write};
-use toml_edit_stream::{Printed, Sink, show};
+use toml_edit_io::{Printed, Sink, show};
 
 /// Writes the date, the time of day and the offset, as far as there are such, with a `T` between a
 /// date and a time: `1979-05-27T07:32:00Z`, for example.
@@ -141,7 +141,7 @@ impl Printed for Time {
 }
 
 /// Puts `:ss` and the fraction, if they are there.
-#[tactic(auto, using(toml_edit_stream::proofs::Puts::put_steps), unfolding(crate::specs::FractionText::fraction_text))]
+#[tactic(auto, using(toml_edit_io::proofs::Puts::put_steps), unfolding(crate::specs::FractionText::fraction_text))]
 fn put_seconds<S: Sink>(out: &mut S, second: Option<u8>, nanosecond: Option<u32>)
     requires second { is_absent_or_below 61 second ≡ true }
     requires nanosecond { is_absent_or_below 1000000000 nanosecond ≡ true }

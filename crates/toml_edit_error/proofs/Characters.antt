@@ -1,5 +1,6 @@
 -- The characters of a text are counted by the bytes that begin one.
-use Rattle.std.proofs.Common.{◌≡◌, refl, sym, ap, ◌∙◌, ℕ, suc, ◌+◌, ◌/◌, ◌%◌, ◌<◌, ◌≤◌, true, false, cond, not, [], ◌∷◌, ◌++◌, List, length, IsUtf8, inl, inr, arith, lt-ltb, le-ltb}
+use Rattle.std.proofs.Common.{◌≡◌, refl, sym, ap, ◌∙◌, ℕ, suc, ◌+◌, ◌/◌, ◌%◌, ◌<◌, ◌≤◌, true, false, cond, not, [], ◌∷◌, ◌++◌, List, length}
+use Rattle.std.proofs.Common.{IsUtf8, inl, inr, arith, lt-ltb, le-ltb}
 use Rattle.std.specs.Str.{chars}
 use Rattle.std.proofs.lemmas.Bool.{cond-true, cond-false, cases_lt}
 use Rattle.std.proofs.lemmas.Bool.Decides.{nat_tests}
@@ -62,7 +63,8 @@ one_of_three a b c h =
 one_of_four : (a b c d : ℕ) → 192 ≤ a → characters (a ∷ (128 + b % 64) ∷ (128 + c % 64) ∷ (128 + d % 64) ∷ []) ≡ 1
 one_of_four a b c d h =
     counted a ((128 + b % 64) ∷ (128 + c % 64) ∷ (128 + d % 64) ∷ []) (high a h)
-    ∙ ap suc (passed (128 + b % 64) ((128 + c % 64) ∷ (128 + d % 64) ∷ []) (next b) ∙ passed (128 + c % 64) ((128 + d % 64) ∷ []) (next c) ∙ passed (128 + d % 64) [] (next d))
+    ∙ ap suc (passed (128 + b % 64) ((128 + c % 64) ∷ (128 + d % 64) ∷ []) (next b) ∙ passed (128 + c % 64) ((128 + d % 64) ∷ []) (next c)
+    ∙ passed (128 + d % 64) [] (next d))
 
 -- a character is one
 one_character : (c : ℕ) → characters (encode c) ≡ 1
@@ -80,7 +82,8 @@ one_character c = elim (cases_lt c 128) [
 characters-encodes : (cs : List ℕ) → characters (encodes cs) ≡ length cs
 characters-encodes [] = refl
 characters-encodes (c ∷ cs) =
-    let apart : characters (encode c ++ encodes cs) ≡ characters (encode c) + characters (encodes cs) = sum_by-append _ (encode c) (encodes cs) in
+    let apart : characters (encode c ++ encodes cs) ≡ characters (encode c) + characters (encodes cs) =
+    sum_by-append _ (encode c) (encodes cs) in
     let one : characters (encode c) ≡ 1 = one_character c in
     let others : characters (encodes cs) ≡ length cs = characters-encodes cs in
     omega (arith, apart, one, others)

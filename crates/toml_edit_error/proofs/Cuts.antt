@@ -1,5 +1,6 @@
 -- Where the last character of a text begins, and what stands at a cut.
-use Rattle.std.proofs.Common.{◌≡◌, refl, sym, ap, ◌∙◌, ℕ, ◌+◌, ◌-◌, ◌<◌, ◌≤◌, Bool, true, false, nat_lt, if◌then◌else◌, [], ◌∷◌, ◌++◌, length, take, drop, get_or, reverse, Some, None, IsUtf8, arith, lt-ltb, le-ltb, inl, inr}
+use Rattle.std.proofs.Common.{◌≡◌, refl, sym, ap, ◌∙◌, ℕ, ◌+◌, ◌-◌, ◌<◌, ◌≤◌, Bool, true, false, nat_lt, if◌then◌else◌, [], ◌∷◌, ◌++◌}
+use Rattle.std.proofs.Common.{length, take, drop, get_or, reverse, Some, None, IsUtf8, arith, lt-ltb, le-ltb, inl, inr}
 use Rattle.std.specs.Str.{IsCharBoundary}
 use Rattle.std.proofs.lemmas.Bool.{cases_lt, cond-true, cond-false, eqb-true}
 use Rattle.std.proofs.lemmas.List.{get_or-reverse, get_or-take, length-reverse, length-take-le, take-append-drop, drop-append-le}
@@ -7,7 +8,8 @@ use Rattle.std.proofs.lemmas.List.Sums.{prefix_len_is}
 use Rattle.std.proofs.lemmas.Str.{IsCharBoundary-after_ascii}
 use Rattle.memchr.specs.Find.{IsLastByte, is_byte}
 use Rattle.toml_edit_model.specs.Text.{Text, line_feed}
-use Rattle.toml_edit_model.specs.Excerpt.{is_continuation, first_line, last_character, last_line_size, position_of_byte, raised, position_in, line_at}
+use Rattle.toml_edit_model.specs.Excerpt.{is_continuation, first_line, last_character, last_line_size, position_of_byte, raised}
+use Rattle.toml_edit_model.specs.Excerpt.{position_in, line_at}
 use Rattle.toml_edit_error.specs.Place.{cut_of}
 use Rattle.toml_edit_error.proofs.Characters.{begins, continues}
 use Rattle.toml_edit_error.proofs.Lines.{newlines, last_line, line_at-cut, first_line-append, last_line-one, last_line-some, last_line-none}
@@ -33,7 +35,8 @@ last_character-is t r h at nearest =
     ap is_continuation same ∙ continues_at t (length t - 1 - k) (omega arith) (nearest (length t - 1 - k) (omega arith) (omega arith)))
     (λ _.
     let place : length t - 1 - (length t - 1 - r) ≡ r = omega arith in
-    let same : get_or (reverse t) (length t - 1 - r) 0 ≡ get_or t (length t - 1 - (length t - 1 - r)) 0 = get_or-reverse t (length t - 1 - r) 0 (omega arith) in
+    let same : get_or (reverse t) (length t - 1 - r) 0 ≡ get_or t (length t - 1 - (length t - 1 - r)) 0 =
+    get_or-reverse t (length t - 1 - r) 0 (omega arith) in
     ap is_continuation (same ∙ ap (λ j. get_or t j 0) place) ∙ begins (get_or t r 0) (at.1 h)) in
     omega (arith, size)
 

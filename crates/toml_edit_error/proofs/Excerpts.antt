@@ -1,5 +1,6 @@
 -- The pieces that are written are the excerpt.
-use Rattle.std.proofs.Common.{◌≡◌, sym, ap, ◌∙◌, ℕ, suc, ◌+◌, ◌-◌, min, max, [], ◌∷◌, ◌++◌, length, take, drop, replicate, append_assoc, append-nil, add-one}
+use Rattle.std.proofs.Common.{◌≡◌, sym, ap, ◌∙◌, ℕ, suc, ◌+◌, ◌-◌, min, max, [], ◌∷◌, ◌++◌, length, take, drop, replicate, append_assoc}
+use Rattle.std.proofs.Common.{append-nil, add-one}
 use Rattle.std.specs.Prelude.{codes, decimal}
 use Rattle.toml_edit_model.specs.Text.{Text, newline, joined}
 use Rattle.toml_edit_error.specs.Place.{place_text}
@@ -24,12 +25,14 @@ pub excerpt_text : (title t message content : Text) (start end line column marks
     → line ≡ suc (position_in t start).line
     → column ≡ suc (position_in t start).column
     → content ≡ line_at (position_in t start).line t
-    → marks ≡ max 1 (min (characters (take (end - start) (drop start t))) (characters (line_at (position_in t start).line t) - (position_in t start).column))
+    → marks ≡ max 1 (min (characters (take (end - start) (drop start t)))
+    (characters (line_at (position_in t start).line t) - (position_in t start).column))
     → place_text title line column content marks ++ (message ++ newline) ≡ excerpt_under title t start end message
 excerpt_text title t message content start end line column marks l c b m =
     let row = (position_in t start).line in
     let place = (position_in t start).column in
-    pieces_join title (codes " at line ") (decimal line) (codes ", column ") (decimal column) newline (spaces (length (decimal line) + 1)) (codes "|")
+    pieces_join title (codes " at line ") (decimal line) (codes ", column ") (decimal column) newline (spaces (length (decimal line) + 1))
+    (codes "|")
     (codes " | ") content (spaces column) (replicate marks 0x5E) message
     ∙ ap (λ k. pieces title k column content column marks message) l
     ∙ ap (λ k. pieces title (suc row) k content k marks message) c

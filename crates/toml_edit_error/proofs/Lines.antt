@@ -1,5 +1,6 @@
 -- The lines of a text, by its newlines.
-use Rattle.std.proofs.Common.{◌≡◌, refl, sym, ap, ◌∙◌, ℕ, suc, ◌+◌, ◌-◌, ◌<◌, ◌≤◌, ◌==◌, Bool, true, false, cond, not, [], ◌∷◌, ◌++◌, length, take, drop, get_or, reverse, count_by, Some, None, ◌⊎◌, inl, inr, arith, append_assoc}
+use Rattle.std.proofs.Common.{◌≡◌, refl, sym, ap, ◌∙◌, ℕ, suc, ◌+◌, ◌-◌, ◌<◌, ◌≤◌, ◌==◌, Bool, true, false, cond, not, [], ◌∷◌, ◌++◌}
+use Rattle.std.proofs.Common.{length, take, drop, get_or, reverse, count_by, Some, None, ◌⊎◌, inl, inr, arith, append_assoc}
 use Rattle.std.proofs.lemmas.Bool.{cases_lt}
 use Rattle.std.proofs.lemmas.List.{get_or-reverse, get_or-drop, length-reverse, length-drop, take_all, take-append-drop, drop_more}
 use Rattle.std.proofs.lemmas.List.Sums.{sum_by-append, sum_by-cons, prefix_len_is, prefix_len_passes, prefix_len_stops}
@@ -76,12 +77,15 @@ first_line-append (c ∷ x) y one =
 line_at-past : (x : Text) (e : ℕ) (y : Text) → inside e ≡ false → line_at (suc (newlines x)) (x ++ e ∷ y) ≡ first_line y
 line_at-past [] e y h = line_at-end 0 e y h
 line_at-past (c ∷ x) e y h = elim (either (c == line_feed)) [
-  | inl i ↦ ap (λ n. line_at (suc n) (c ∷ (x ++ e ∷ y))) (newlines-inside c x i) ∙ line_at-inside (newlines x) c (x ++ e ∷ y) i ∙ line_at-past x e y h
-  | inr f ↦ ap (λ n. line_at (suc n) (c ∷ (x ++ e ∷ y))) (newlines-end c x f) ∙ line_at-end (suc (newlines x)) c (x ++ e ∷ y) f ∙ line_at-past x e y h
+  | inl i ↦ ap (λ n. line_at (suc n) (c ∷ (x ++ e ∷ y))) (newlines-inside c x i) ∙ line_at-inside (newlines x) c (x ++ e ∷ y) i
+      ∙ line_at-past x e y h
+  | inr f ↦ ap (λ n. line_at (suc n) (c ∷ (x ++ e ∷ y))) (newlines-end c x f) ∙ line_at-end (suc (newlines x)) c (x ++ e ∷ y) f
+      ∙ line_at-past x e y h
 ]
 
 -- a text that is a newline with one line behind it
-split_content : (x : Text) (e : ℕ) (b y : Text) → inside e ≡ false → IsOneLine b → line_at (newlines (x ++ e ∷ b)) ((x ++ e ∷ b) ++ y) ≡ b ++ first_line y
+split_content : (x : Text) (e : ℕ) (b y : Text) → inside e ≡ false → IsOneLine b → line_at (newlines (x ++ e ∷ b)) ((x ++ e ∷ b) ++ y) ≡ b
+    ++ first_line y
 split_content x e b y h one =
     let apart : newlines (x ++ e ∷ b) ≡ newlines x + newlines (e ∷ b) = sum_by-append _ x (e ∷ b) in
     let here : newlines (e ∷ b) ≡ suc (newlines b) = newlines-end e b h in
@@ -96,8 +100,10 @@ split_content x e b y h one =
 last_inside : (t : Text) (k : ℕ) → length t - last_line_size t ≤ k → k < length t → inside (get_or t k 0) ≡ true
 last_inside t k h l =
     let place : length t - 1 - (length t - 1 - k) ≡ k = omega arith in
-    let same : get_or (reverse t) (length t - 1 - k) 0 ≡ get_or t (length t - 1 - (length t - 1 - k)) 0 = get_or-reverse t (length t - 1 - k) 0 (omega arith) in
-    let passes : inside (get_or (reverse t) (length t - 1 - k) 0) ≡ true = prefix_len_passes inside (reverse t) (length t - 1 - k) 0 (omega (arith, length-reverse t)) in
+    let same : get_or (reverse t) (length t - 1 - k) 0 ≡ get_or t (length t - 1 - (length t - 1 - k)) 0 =
+    get_or-reverse t (length t - 1 - k) 0 (omega arith) in
+    let passes : inside (get_or (reverse t) (length t - 1 - k) 0) ≡ true =
+    prefix_len_passes inside (reverse t) (length t - 1 - k) 0 (omega (arith, length-reverse t)) in
     sym (ap inside (same ∙ ap (λ j. get_or t j 0) place)) ∙ passes
 
 last_stops : (t : Text) → last_line_size t < length t → inside (get_or t (length t - 1 - last_line_size t) 0) ≡ false
@@ -117,7 +123,8 @@ cut_content h y lt =
     let stop : inside (get_or h k 0) ≡ false = last_stops h lt in
     let from : k + 1 ≡ length h - last_line_size h = omega arith in
     let b : Text = drop (k + 1) h in
-    let one : IsOneLine b = λ j l. ap inside (get_or-drop (k + 1) h j 0) ∙ last_inside h (k + 1 + j) (omega arith) (omega (arith, length-drop (k + 1) h)) in
+    let one : IsOneLine b = λ j l. ap inside (get_or-drop (k + 1) h j 0)
+    ∙ last_inside h (k + 1 + j) (omega arith) (omega (arith, length-drop (k + 1) h)) in
     let whole : h ≡ take k h ++ (get_or h k 0 ∷ b) = sym (take-append-drop k h) ∙ ap (λ d. take k h ++ d) (drop_more h k 0 (omega arith)) in
     ap (λ t. line_at (newlines t) (t ++ y)) whole
     ∙ split_content (take k h) (get_or h k 0) b y stop one
@@ -142,7 +149,8 @@ last_line-some t n found =
     (λ h.
     let high : n < length t = found.0.high in
     let place : length t - 1 - (length t - (n + 1)) ≡ n = omega (arith, high) in
-    let same : get_or (reverse t) (length t - (n + 1)) 0 ≡ get_or t (length t - 1 - (length t - (n + 1))) 0 = get_or-reverse t (length t - (n + 1)) 0 (omega (arith, high)) in
+    let same : get_or (reverse t) (length t - (n + 1)) 0 ≡ get_or t (length t - 1 - (length t - (n + 1))) 0 =
+    get_or-reverse t (length t - (n + 1)) 0 (omega (arith, high)) in
     ap inside (same ∙ ap (λ j. get_or t j 0) place) ∙ is_end _ found.1)
 
 pub last_line-none : (t : Text) → IsLastByte (is_byte line_feed) t None → last_line_size t ≡ length t

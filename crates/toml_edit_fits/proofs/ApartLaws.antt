@@ -2,7 +2,8 @@
 use mathlib.Core.Logic.{∥∥₁_elim}
 use denote.Struct.Props.{props}
 use Rattle.std.proofs.Math.Bool.{Bool-set}
-use Rattle.toml_edit_model.specs.Tree.{Node, nothing, leaf, list, inline, table, tables, Items, no_items, item, Slots, no_slots, slot, IsWellMade, ItemsAreWellMade, SlotsAreWellMade}
+use Rattle.toml_edit_model.specs.Tree.{Node, nothing, leaf, list, inline, table, tables, Items, no_items, item, Slots, no_slots, slot}
+use Rattle.toml_edit_model.specs.Tree.{IsWellMade, ItemsAreWellMade, SlotsAreWellMade}
 use Rattle.toml_edit_fits.specs.OrderTests.{ItemIsApart, ItemsAreApart, NodeIsApart, SlotsAreApart}
 
 mutual

@@ -8,7 +8,8 @@ use Rattle.toml_edit_model.specs.Mode.{Mode}
 use Rattle.toml_edit_model.specs.Text.{Text}
 use Rattle.toml_edit_model.specs.Keys.{new_key}
 use Rattle.toml_edit_model.specs.Paths.{Path, to_key, to_element}
-use Rattle.toml_edit_model.specs.Tree.{Key, TableFields, Node, nothing, leaf, list, inline, table, tables, Items, no_items, item, Slots, no_slots, slot, Tree}
+use Rattle.toml_edit_model.specs.Tree.{Key, TableFields, Node, nothing, leaf, list, inline, table, tables, Items, no_items, item, Slots}
+use Rattle.toml_edit_model.specs.Tree.{no_slots, slot, Tree}
 use Rattle.toml_edit_model.specs.HeaderOrder.{Visit, PlacedVisit, visit_of, node_walk, items_walk, slots_walk, place_of, places_from}
 use Rattle.toml_edit_model.specs.Fits.{is_too_late}
 use Rattle.toml_edit_laws.specs.PrintByVisits.{has_own_header}
@@ -21,14 +22,17 @@ use Rattle.toml_edit_fits.specs.declared.misfit.FitRule.TheVariants as rule
 use Rattle.toml_edit_fits.specs.declared.order.Marks.{Marks}
 use Rattle.toml_edit_fits.specs.FitTests.{no_keys}
 use Rattle.toml_edit_fits.specs.OrderTests.{NodeIsApart, ItemsAreApart, SlotsAreApart, reaches, later, marks_of, place_in, root_marks}
-use Rattle.toml_edit_fits.specs.Misfits.{MisfitView, unless, below, Located, in_step, located_slots, located_node, located_items, Headed, headed_from, is_too_early, early_after, misfits, root_misfits, tables_misfits}
-use Rattle.toml_edit_fits.specs.EarlyTests.{is_in_order, marks_past, low_in, past_array, past_slots, past_node, past_items, past_item, early_slots, early_node, early_items, early_item, walked_misfits}
+use Rattle.toml_edit_fits.specs.Misfits.{MisfitView, unless, below, Located, in_step, located_slots, located_node, located_items, Headed}
+use Rattle.toml_edit_fits.specs.Misfits.{headed_from, is_too_early, early_after, misfits, root_misfits, tables_misfits}
+use Rattle.toml_edit_fits.specs.EarlyTests.{is_in_order, marks_past, low_in, past_array, past_slots, past_node, past_items, past_item}
+use Rattle.toml_edit_fits.specs.EarlyTests.{early_slots, early_node, early_items, early_item, walked_misfits}
 use Rattle.toml_edit_fits.proofs.LatePaths.{in-slots-node, below-late, slots-late, items-late, below-no_item, own-item}
 use Rattle.toml_edit_fits.proofs.OrderLaws.{heads, highest_after, latest-highest, reach-later, marks_after, marks-append}
 
 -- ---- the marks behind a walk
 
-one-mark : (is_element : Bool) (m : Marks) (p : Path) (ks : List Key) (f : TableFields) (ss : Slots) → marks_past is_element m f ss ≡ marks_after m (visit_of p ks is_element f ss ∷ [])
+one-mark : (is_element : Bool) (m : Marks) (p : Path) (ks : List Key) (f : TableFields) (ss : Slots) → marks_past is_element m f ss
+    ≡ marks_after m (visit_of p ks is_element f ss ∷ [])
 one-mark is_element m p ks f ss = by_dot f.is_dotted
   where
     by_header : (h : Bool)
@@ -38,8 +42,10 @@ one-mark is_element m p ks f ss = by_dot f.is_dotted
     by_header false = refl
 
     by_dot : (d : Bool)
-        → (if d then m else if has_own_header is_element f ss then marks_of (place_in m f) (later m.highest (place_in m f)) else marks_of (place_in m f) m.highest)
-        ≡ marks_of (if d then m.seen else place_in m f) (highest_after m.highest (filter shows_header (if d then [] else (place_in m f, visit_of p ks is_element f ss) ∷ [])))
+        → (if d then m else if has_own_header is_element f ss then marks_of (place_in m f) (later m.highest (place_in m f))
+        else marks_of (place_in m f) m.highest)
+        ≡ marks_of (if d then m.seen else place_in m f) (highest_after m.highest (filter shows_header (if d then []
+        else (place_in m f, visit_of p ks is_element f ss) ∷ [])))
     by_dot true = refl
     by_dot false = by_header (has_own_header is_element f ss)
 
@@ -48,15 +54,18 @@ mutual
   past-slots no_slots p ks m = refl
   past-slots (slot k n ss) p ks m =
       let first = node_walk n (to_key p k.name) (ks ++ (k ∷ [])) false in
-      ap (λ w. past_slots w ss) (past-node n (to_key p k.name) (ks ++ (k ∷ [])) m) ∙ (past-slots ss p ks (marks_after m first) ∙ marks-append m first (slots_walk ss p ks))
+      ap (λ w. past_slots w ss) (past-node n (to_key p k.name) (ks ++ (k ∷ [])) m)
+      ∙ (past-slots ss p ks (marks_after m first) ∙ marks-append m first (slots_walk ss p ks))
 
   past-node : (n : Node) (p : Path) (ks : List Key) (m : Marks) → past_node m n ≡ marks_after m (node_walk n p ks false)
   past-node (table f ss) p ks m =
       let v = visit_of p ks false f ss in
-      ap (λ w. past_slots w ss) (one-mark false m p ks f ss) ∙ (past-slots ss p ks (marks_after m (v ∷ [])) ∙ marks-append m (v ∷ []) (slots_walk ss p ks))
+      ap (λ w. past_slots w ss) (one-mark false m p ks f ss)
+      ∙ (past-slots ss p ks (marks_after m (v ∷ [])) ∙ marks-append m (v ∷ []) (slots_walk ss p ks))
   past-node (tables e xs) p ks m =
       let us = items_walk xs p ks 0 in
-      ap (past_array m) (past-items xs p ks 0 (marks_of m.seen None)) ∙ ap (marks_of (seen_after m.seen us)) (latest-highest (heads m.seen us) m.highest None)
+      ap (past_array m) (past-items xs p ks 0 (marks_of m.seen None))
+      ∙ ap (marks_of (seen_after m.seen us)) (latest-highest (heads m.seen us) m.highest None)
   past-node (leaf s x d) p ks m = refl
   past-node (list f xs) p ks m = refl
   past-node (inline f ss) p ks m = refl
@@ -68,7 +77,8 @@ mutual
       let us = visit_of (to_element p i) ks true f ss ∷ slots_walk ss (to_element p i) ks in
       let q = to_element p i in
       let v = visit_of q ks true f ss in
-      ap (λ w. past_items w xs) (ap (λ w. past_slots w ss) (one-mark true m q ks f ss) ∙ (past-slots ss q ks (marks_after m (v ∷ [])) ∙ marks-append m (v ∷ []) (slots_walk ss q ks)))
+      ap (λ w. past_items w xs) (ap (λ w. past_slots w ss) (one-mark true m q ks f ss)
+      ∙ (past-slots ss q ks (marks_after m (v ∷ [])) ∙ marks-append m (v ∷ []) (slots_walk ss q ks)))
       ∙ (past-items xs p ks (suc i) (marks_after m us) ∙ marks-append m us (items_walk xs p ks (suc i)))
   past-items (item (tables e us) xs) p ks i m = past-items xs p ks i m
   past-items (item (leaf s x d) xs) p ks i m = past-items xs p ks i m
@@ -81,7 +91,8 @@ past-element : (f : TableFields) (ss : Slots) (p : Path) (ks : List Key) (i : �
 past-element f ss p ks i m =
     let q = to_element p i in
     let v = visit_of q ks true f ss in
-    ap (λ w. past_slots w ss) (one-mark true m q ks f ss) ∙ (past-slots ss q ks (marks_after m (v ∷ [])) ∙ marks-append m (v ∷ []) (slots_walk ss q ks))
+    ap (λ w. past_slots w ss) (one-mark true m q ks f ss)
+    ∙ (past-slots ss q ks (marks_after m (v ∷ [])) ∙ marks-append m (v ∷ []) (slots_walk ss q ks))
 
 -- ---- located tables
 
@@ -98,7 +109,8 @@ visits-step : (k : Text) (xs : List Located) → visits (map (in_step k) xs) ≡
 visits-step k [] = refl
 visits-step k (x ∷ xs) = ap (λ vs. x.1 ∷ vs) (visits-step k xs)
 
-visits-both : (k : Text) (xs ys : List Located) (us vs : List Visit) → visits xs ≡ us → visits ys ≡ vs → visits (map (in_step k) xs ++ ys) ≡ us ++ vs
+visits-both : (k : Text) (xs ys : List Located) (us vs : List Visit) → visits xs ≡ us → visits ys ≡ vs → visits (map (in_step k) xs ++ ys)
+    ≡ us ++ vs
 visits-both k xs ys us vs e g =
     map-append (λ (x : Located). x.1) (map (in_step k) xs) ys ∙ (ap (λ ws. ws ++ visits ys) (visits-step k xs ∙ e) ∙ ap (λ ws. us ++ ws) g)
 
@@ -106,7 +118,8 @@ mutual
   pub visits-slots : (ss : Slots) (p : Path) (ks : List Key) → visits (located_slots ss p ks) ≡ slots_walk ss p ks
   visits-slots no_slots p ks = refl
   visits-slots (slot k n ss) p ks =
-      visits-both k.name (located_node n (to_key p k.name) (ks ++ (k ∷ []))) (located_slots ss p ks) (node_walk n (to_key p k.name) (ks ++ (k ∷ [])) false) (slots_walk ss p ks)
+      visits-both k.name (located_node n (to_key p k.name) (ks ++ (k ∷ []))) (located_slots ss p ks) (node_walk n (to_key p k.name) (ks
+      ++ (k ∷ [])) false) (slots_walk ss p ks)
       (visits-node n (to_key p k.name) (ks ++ (k ∷ []))) (visits-slots ss p ks)
 
   visits-node : (n : Node) (p : Path) (ks : List Key) → visits (located_node n p ks) ≡ node_walk n p ks false
@@ -122,7 +135,8 @@ mutual
   visits-items (item (table f ss) xs) p ks at i =
       let q = to_element p i in
       let v = visit_of q ks true f ss in
-      visits-both (decimal at) (([], v) ∷ located_slots ss q ks) (located_items (suc at) xs p ks (suc i)) (v ∷ slots_walk ss q ks) (items_walk xs p ks (suc i))
+      visits-both (decimal at) (([], v) ∷ located_slots ss q ks) (located_items (suc at) xs p ks (suc i)) (v
+      ∷ slots_walk ss q ks) (items_walk xs p ks (suc i))
       (ap (λ vs. v ∷ vs) (visits-slots ss q ks)) (visits-items xs p ks (suc at) (suc i))
   visits-items (item (tables e us) xs) p ks at i = visits-items xs p ks (suc at) i
   visits-items (item (leaf s x d) xs) p ks at i = visits-items xs p ks (suc at) i
@@ -132,14 +146,17 @@ mutual
 
 -- ---- those with headers
 
-headed-append : (xs ys : List Located) (seen : ℤ) → headed_from seen (xs ++ ys) ≡ headed_from seen xs ++ headed_from (seen_after seen (visits xs)) ys
+headed-append : (xs ys : List Located) (seen : ℤ) → headed_from seen (xs ++ ys) ≡ headed_from seen xs
+    ++ headed_from (seen_after seen (visits xs)) ys
 headed-append [] ys seen = refl
 headed-append (x ∷ xs) ys seen =
     by_tests x.1.fields.is_dotted (has_own_header x.1.is_element x.1.fields x.1.slots) (λ s. headed-append xs ys s)
   where
     by_tests : (d h : Bool) → ((s : ℤ) → headed_from s (xs ++ ys) ≡ headed_from s xs ++ headed_from (seen_after s (visits xs)) ys)
-        → (if d then headed_from seen (xs ++ ys) else if h then (x.0, (place_of seen x.1, x.1)) ∷ headed_from (place_of seen x.1) (xs ++ ys) else headed_from (place_of seen x.1) (xs ++ ys))
-        ≡ (if d then headed_from seen xs else if h then (x.0, (place_of seen x.1, x.1)) ∷ headed_from (place_of seen x.1) xs else headed_from (place_of seen x.1) xs)
+        → (if d then headed_from seen (xs ++ ys) else if h then (x.0, (place_of seen x.1, x.1)) ∷ headed_from (place_of seen x.1) (xs ++ ys)
+        else headed_from (place_of seen x.1) (xs ++ ys))
+        ≡ (if d then headed_from seen xs else if h then (x.0, (place_of seen x.1, x.1)) ∷ headed_from (place_of seen x.1) xs
+        else headed_from (place_of seen x.1) xs)
         ++ headed_from (seen_after (if d then seen else place_of seen x.1) (visits xs)) ys
     by_tests true h ih = ih seen
     by_tests false true ih = ap (λ (hs : List Headed). (x.0, (place_of seen x.1, x.1)) ∷ hs) (ih (place_of seen x.1))
@@ -151,20 +168,24 @@ headed-step k (x ∷ xs) seen =
     by_tests x.1.fields.is_dotted (has_own_header x.1.is_element x.1.fields x.1.slots) (λ s. headed-step k xs s)
   where
     by_tests : (d h : Bool) → ((s : ℤ) → headed_from s (map (in_step k) xs) ≡ map (under k) (headed_from s xs))
-        → (if d then headed_from seen (map (in_step k) xs) else if h then (k ∷ x.0, (place_of seen x.1, x.1)) ∷ headed_from (place_of seen x.1) (map (in_step k) xs) else headed_from (place_of seen x.1) (map (in_step k) xs))
-        ≡ map (under k) (if d then headed_from seen xs else if h then (x.0, (place_of seen x.1, x.1)) ∷ headed_from (place_of seen x.1) xs else headed_from (place_of seen x.1) xs)
+        → (if d then headed_from seen (map (in_step k) xs) else if h then (k ∷ x.0, (place_of seen x.1, x.1))
+        ∷ headed_from (place_of seen x.1) (map (in_step k) xs) else headed_from (place_of seen x.1) (map (in_step k) xs))
+        ≡ map (under k) (if d then headed_from seen xs else if h then (x.0, (place_of seen x.1, x.1)) ∷ headed_from (place_of seen x.1) xs
+        else headed_from (place_of seen x.1) xs)
     by_tests true h ih = ih seen
     by_tests false true ih = ap (λ (hs : List Headed). (k ∷ x.0, (place_of seen x.1, x.1)) ∷ hs) (ih (place_of seen x.1))
     by_tests false false ih = ih (place_of seen x.1)
 
-headed-all : (P : Visit → Type 0) (xs : List Located) (seen : ℤ) → AllByRecursion P (visits xs) → AllByRecursion (λ (y : Headed). P y.1.1) (headed_from seen xs)
+headed-all : (P : Visit → Type 0) (xs : List Located) (seen : ℤ) → AllByRecursion P (visits xs)
+    → AllByRecursion (λ (y : Headed). P y.1.1) (headed_from seen xs)
 headed-all P [] seen h = tt
 headed-all P (x ∷ xs) seen h =
     by_tests x.1.fields.is_dotted (has_own_header x.1.is_element x.1.fields x.1.slots) (λ s. headed-all P xs s h.1)
   where
     by_tests : (d t : Bool) → ((s : ℤ) → AllByRecursion (λ (y : Headed). P y.1.1) (headed_from s xs))
         → AllByRecursion (λ (y : Headed). P y.1.1)
-        (if d then headed_from seen xs else if t then (x.0, (place_of seen x.1, x.1)) ∷ headed_from (place_of seen x.1) xs else headed_from (place_of seen x.1) xs)
+        (if d then headed_from seen xs else if t then (x.0, (place_of seen x.1, x.1)) ∷ headed_from (place_of seen x.1) xs
+        else headed_from (place_of seen x.1) xs)
     by_tests true t ih = ih seen
     by_tests false true ih = (h.0, ih (place_of seen x.1))
     by_tests false false ih = ih (place_of seen x.1)
@@ -179,9 +200,12 @@ headed-placed (x ∷ xs) seen = by_dot x.1.fields.is_dotted (headed-placed xs se
     by_header true h = ap (λ (hs : List PlacedVisit). (place_of seen x.1, x.1) ∷ hs) h
     by_header false h = h
 
-    by_dot : (d : Bool) → placed (headed_from seen xs) ≡ heads seen (visits xs) → placed (headed_from (place_of seen x.1) xs) ≡ heads (place_of seen x.1) (visits xs)
-        → placed (if d then headed_from seen xs else if has_own_header x.1.is_element x.1.fields x.1.slots then (x.0, (place_of seen x.1, x.1)) ∷ headed_from (place_of seen x.1) xs else headed_from (place_of seen x.1) xs)
-        ≡ filter shows_header (if d then places_from seen (visits xs) else (place_of seen x.1, x.1) ∷ places_from (place_of seen x.1) (visits xs))
+    by_dot : (d : Bool) → placed (headed_from seen xs) ≡ heads seen (visits xs) → placed (headed_from (place_of seen x.1) xs)
+        ≡ heads (place_of seen x.1) (visits xs)
+        → placed (if d then headed_from seen xs else if has_own_header x.1.is_element x.1.fields x.1.slots
+        then (x.0, (place_of seen x.1, x.1)) ∷ headed_from (place_of seen x.1) xs else headed_from (place_of seen x.1) xs)
+        ≡ filter shows_header (if d then places_from seen (visits xs) else (place_of seen x.1, x.1)
+        ∷ places_from (place_of seen x.1) (visits xs))
     by_dot true h g = h
     by_dot false h g = by_header (has_own_header x.1.is_element x.1.fields x.1.slots) g
 
@@ -201,16 +225,19 @@ abbrev after : Test → List Headed → Test
 after c [] = c
 after c (y ∷ hs) = after (late_too y.1 c) hs
 
-early-among : (before : List PlacedVisit) (hs : List Headed) → early_after before hs ≡ among (λ z. list_any (λ x. is_too_early x z) before) hs
+early-among : (before : List PlacedVisit) (hs : List Headed) → early_after before hs
+    ≡ among (λ z. list_any (λ x. is_too_early x z) before) hs
 early-among before [] = refl
 early-among before (y ∷ hs) =
-    ap (λ ms. (if list_any (λ x. is_too_early x y.1) before then record { path = map new_key y.0; rule = rule.Order } ∷ [] else []) ++ ms) (early-among (y.1 ∷ before) hs)
+    ap (λ ms. (if list_any (λ x. is_too_early x y.1) before then record { path = map new_key y.0; rule = rule.Order } ∷ [] else [])
+    ++ ms) (early-among (y.1 ∷ before) hs)
 
 among-append : (hs gs : List Headed) (c : Test) → among c (hs ++ gs) ≡ among c hs ++ among (after c hs) gs
 among-append [] gs c = refl
 among-append (y ∷ hs) gs c =
     let one : List MisfitView = if c y.1 then record { path = map new_key y.0; rule = rule.Order } ∷ [] else [] in
-    ap (λ ms. one ++ ms) (among-append hs gs (late_too y.1 c)) ∙ sym (append_assoc one (among (late_too y.1 c) hs) (among (after (late_too y.1 c) hs) gs))
+    ap (λ ms. one ++ ms) (among-append hs gs (late_too y.1 c))
+    ∙ sym (append_assoc one (among (late_too y.1 c) hs) (among (after (late_too y.1 c) hs) gs))
 
 among-alike : (hs : List Headed) (c d : Test) → AllByRecursion (λ (y : Headed). c y.1 ≡ d y.1) hs → among c hs ≡ among d hs
 among-alike [] c d h = refl
@@ -218,19 +245,22 @@ among-alike (y ∷ hs) c d h =
     ap (λ b. (if b then record { path = map new_key y.0; rule = rule.Order } ∷ [] else []) ++ among (late_too y.1 c) hs) h.0
     ∙ ap (λ ms. (if d y.1 then record { path = map new_key y.0; rule = rule.Order } ∷ [] else []) ++ ms)
     (among-alike hs (late_too y.1 c) (late_too y.1 d)
-    (all-map (λ (z : Headed). c z.1 ≡ d z.1) (λ (z : Headed). late_too y.1 c z.1 ≡ late_too y.1 d z.1) hs (λ z e. ap (λ b. is_too_early y.1 z.1 || b) e) h.1))
+    (all-map (λ (z : Headed). c z.1 ≡ d z.1) (λ (z : Headed). late_too y.1 c z.1
+    ≡ late_too y.1 d z.1) hs (λ z e. ap (λ b. is_too_early y.1 z.1 || b) e) h.1))
 
 among-step : (k : Text) (hs : List Headed) (c : Test) → among c (map (under k) hs) ≡ below k (among c hs)
 among-step k [] c = refl
 among-step k (y ∷ hs) c = by_test (c y.1) (among-step k hs (late_too y.1 c))
   where
     by_test : (b : Bool) → among (late_too y.1 c) (map (under k) hs) ≡ below k (among (late_too y.1 c) hs)
-        → (if b then record { path = new_key k ∷ map new_key y.0; rule = rule.Order } ∷ [] else []) ++ among (late_too y.1 c) (map (under k) hs)
+        → (if b then record { path = new_key k ∷ map new_key y.0; rule = rule.Order } ∷ [] else [])
+        ++ among (late_too y.1 c) (map (under k) hs)
         ≡ below k ((if b then record { path = map new_key y.0; rule = rule.Order } ∷ [] else []) ++ among (late_too y.1 c) hs)
     by_test true h = ap (λ (ms : List MisfitView). record { path = new_key k ∷ map new_key y.0; rule = rule.Order } ∷ ms) h
     by_test false h = h
 
-after-calm : (hs : List Headed) (c : Test) (z : PlacedVisit) → AllByRecursion (λ (x : Headed). is_too_early x.1 z ≡ false) hs → after c hs z ≡ c z
+after-calm : (hs : List Headed) (c : Test) (z : PlacedVisit) → AllByRecursion (λ (x : Headed). is_too_early x.1 z ≡ false) hs → after c hs z
+    ≡ c z
 after-calm [] c z h = refl
 after-calm (x ∷ hs) c z h = after-calm hs (late_too x.1 c) z h.1 ∙ ap (λ b. b || c z) h.0
 
@@ -248,12 +278,16 @@ parts c d xs ys seen next e h =
     ∙ ap (λ ms. among c (headed_from seen xs) ++ ms) (among-alike (headed_from next ys) (after c (headed_from seen xs)) d h))
 
 -- of which none is too late after one of the other
-calm-parts : (P Q : Visit → Type 0) (c : Test) (xs ys : List Located) (seen next : ℤ) → ((x y : Visit) → P x → Q y → is_too_late y x ≡ false)
-    → AllByRecursion P (visits xs) → AllByRecursion Q (visits ys) → AllByRecursion (λ (y : Headed). after c (headed_from seen xs) y.1 ≡ c y.1) (headed_from next ys)
+calm-parts : (P Q : Visit → Type 0) (c : Test) (xs ys : List Located) (seen next : ℤ)
+    → ((x y : Visit) → P x → Q y → is_too_late y x ≡ false)
+    → AllByRecursion P (visits xs) → AllByRecursion Q (visits ys)
+    → AllByRecursion (λ (y : Headed). after c (headed_from seen xs) y.1 ≡ c y.1) (headed_from next ys)
 calm-parts P Q c xs ys seen next calm ps qs =
-    all-map (λ (y : Headed). AllByRecursion (λ (x : Headed). is_too_early x.1 y.1 ≡ false) (headed_from seen xs)) (λ (y : Headed). after c (headed_from seen xs) y.1 ≡ c y.1) (headed_from next ys)
+    all-map (λ (y : Headed). AllByRecursion (λ (x : Headed). is_too_early x.1 y.1 ≡ false) (headed_from seen xs))
+    (λ (y : Headed). after c (headed_from seen xs) y.1 ≡ c y.1) (headed_from next ys)
     (λ y h. after-calm (headed_from seen xs) c y.1 h)
-    (all-across (λ (y : Headed). Q y.1.1) (λ (x : Headed). P x.1.1) (λ (y x : Headed). is_too_early x.1 y.1 ≡ false) (headed_from next ys) (headed_from seen xs)
+    (all-across (λ (y : Headed). Q y.1.1) (λ (x : Headed). P x.1.1) (λ (y x : Headed). is_too_early x.1 y.1
+    ≡ false) (headed_from next ys) (headed_from seen xs)
     (λ y x q r. ap (λ b. b && not (int_le x.1.0 y.1.0)) (calm x.1.1 y.1.1 r q)) (headed-all Q ys next qs) (headed-all P xs seen ps))
 
 -- ---- the tests of a walk
@@ -280,7 +314,8 @@ later-test high x z =
     same false false c f g = refl
 
 -- one more element is before
-soon-later : (low high : Option ℤ) (p : Path) (x z : PlacedVisit) → is_too_late z.1 x.1 ≡ is_item_of p z.1 → late_too x (too_soon low high p) z ≡ too_soon low (later high x.0) p z
+soon-later : (low high : Option ℤ) (p : Path) (x z : PlacedVisit) → is_too_late z.1 x.1 ≡ is_item_of p z.1
+    → late_too x (too_soon low high p) z ≡ too_soon low (later high x.0) p z
 soon-later low high p x z h =
     ap (λ b. (b && not (int_le x.0 z.0)) || (not (reaches low z.0) || (is_item_of p z.1 && not (reaches high z.0)))) h
     ∙ (turned (is_item_of p z.1) (int_le x.0 z.0) (reaches low z.0) (reaches high z.0)
@@ -295,7 +330,8 @@ soon-later low high p x z h =
     turned true false false g = refl
     turned false a l g = refl
 
-after-soon : (hs : List Headed) (low high : Option ℤ) (p : Path) (z : PlacedVisit) → AllByRecursion (λ (x : Headed). is_too_late z.1 x.1.1 ≡ is_item_of p z.1) hs
+after-soon : (hs : List Headed) (low high : Option ℤ) (p : Path) (z : PlacedVisit)
+    → AllByRecursion (λ (x : Headed). is_too_late z.1 x.1.1 ≡ is_item_of p z.1) hs
     → after (too_soon low high p) hs z ≡ too_soon low (highest_after high (placed hs)) p z
 after-soon [] low high p z h = refl
 after-soon (x ∷ hs) low high p z h =
@@ -318,7 +354,8 @@ none-before low p z = alone (not (reaches low z.0)) (is_item_of p z.1)
     alone false false = refl
 
 -- below an element
-low-later : (low high : Option ℤ) (p : Path) (x z : PlacedVisit) → is_item_of p z.1 ≡ false → is_too_late z.1 x.1 ≡ true → late_too x (too_soon low high p) z ≡ too_low (later low x.0) z
+low-later : (low high : Option ℤ) (p : Path) (x z : PlacedVisit) → is_item_of p z.1 ≡ false → is_too_late z.1 x.1 ≡ true
+    → late_too x (too_soon low high p) z ≡ too_low (later low x.0) z
 low-later low high p x z h g =
     ap (λ b. (b && not (int_le x.0 z.0)) || too_soon low high p z) g
     ∙ (ap (λ b. not (int_le x.0 z.0) || b) (no-item low high p z h)
@@ -347,7 +384,8 @@ own-early low m p ks f ss = by_tests f.is_dotted (has_own_header false f ss)
     by_tests false false = refl
 
 element-early : (low : Option ℤ) (m : Marks) (p : Path) (i : ℕ) (ks : List Key) (f : TableFields) (ss : Slots)
-    → unless (is_in_order true low m f ss) rule.Order ≡ among (too_soon low m.highest p) (headed_from m.seen (([], visit_of (to_element p i) ks true f ss) ∷ []))
+    → unless (is_in_order true low m f ss) rule.Order ≡ among (too_soon low m.highest p)
+    (headed_from m.seen (([], visit_of (to_element p i) ks true f ss) ∷ []))
 element-early low m p i ks f ss = by_dot f.is_dotted
   where
     v : Visit
@@ -356,7 +394,8 @@ element-early low m p i ks f ss = by_dot f.is_dotted
     mine : is_item_of p (visit_of (to_element p i) ks true f ss) ≡ true
     mine = own-item p i (visit_of (to_element p i) ks true f ss) refl refl
 
-    by_reach : (r h : Bool) → unless (r && h) rule.Order ≡ (if not r || not h then record { path = []; rule = rule.Order } ∷ [] else []) ++ []
+    by_reach : (r h : Bool) → unless (r && h) rule.Order ≡ (if not r || not h then record { path = []; rule = rule.Order } ∷ [] else [])
+        ++ []
     by_reach true true = refl
     by_reach true false = refl
     by_reach false h = refl
@@ -366,14 +405,17 @@ element-early low m p i ks f ss = by_dot f.is_dotted
     by_dot true = refl
     by_dot false =
         by_reach (reaches low (place_in m f)) (reaches m.highest (place_in m f))
-        ∙ sym (ap (λ b. (if not (reaches low (place_in m f)) || (b && not (reaches m.highest (place_in m f))) then record { path = []; rule = rule.Order } ∷ [] else []) ++ []) mine)
+        ∙ sym (ap (λ b. (if not (reaches low (place_in m f)) || (b && not (reaches m.highest (place_in m f)))
+        then record { path = []; rule = rule.Order } ∷ [] else []) ++ []) mine)
 
 -- the tables below an element
 below-element : (low : Option ℤ) (m : Marks) (p : Path) (i : ℕ) (ks : List Key) (f : TableFields) (ss : Slots) (next : ℤ)
-    → AllByRecursion (λ (y : Headed). after (too_soon low m.highest p) (headed_from m.seen (([], visit_of (to_element p i) ks true f ss) ∷ [])) y.1 ≡ too_low (low_in low m f) y.1)
+    → AllByRecursion (λ (y : Headed). after (too_soon low m.highest p) (headed_from m.seen (([], visit_of (to_element p i) ks true f ss)
+    ∷ [])) y.1 ≡ too_low (low_in low m f) y.1)
     (headed_from next (located_slots ss (to_element p i) ks))
 below-element low m p i ks f ss next =
-    all-map (λ (y : Headed). InSlots (to_element p i) ss y.1.1) (λ (y : Headed). after (too_soon low m.highest p) (headed_from m.seen (([], v) ∷ [])) y.1 ≡ too_low (low_in low m f) y.1)
+    all-map (λ (y : Headed). InSlots (to_element p i) ss y.1.1)
+    (λ (y : Headed). after (too_soon low m.highest p) (headed_from m.seen (([], v) ∷ [])) y.1 ≡ too_low (low_in low m f) y.1)
     (headed_from next (located_slots ss (to_element p i) ks)) each
     (headed-all (InSlots (to_element p i) ss) (located_slots ss (to_element p i) ks) next
     (subst (AllByRecursion (InSlots (to_element p i) ss)) (sym (visits-slots ss (to_element p i) ks)) (slots-in ss (to_element p i) ks)))
@@ -382,10 +424,12 @@ below-element low m p i ks f ss next =
     v = visit_of (to_element p i) ks true f ss
 
     each : (y : Headed) → InSlots (to_element p i) ss y.1.1
-        → after (too_soon low m.highest p) (headed_from m.seen (([], visit_of (to_element p i) ks true f ss) ∷ [])) y.1 ≡ too_low (low_in low m f) y.1
+        → after (too_soon low m.highest p) (headed_from m.seen (([], visit_of (to_element p i) ks true f ss) ∷ [])) y.1
+        ≡ too_low (low_in low m f) y.1
     each y h = by_dot f.is_dotted
       where
-        by_dot : (d : Bool) → after (too_soon low m.highest p) (if d then [] else ([], (place_in m f, visit_of (to_element p i) ks true f ss)) ∷ []) y.1
+        by_dot : (d : Bool) → after (too_soon low m.highest p) (if d then []
+            else ([], (place_in m f, visit_of (to_element p i) ks true f ss)) ∷ []) y.1
             ≡ too_low (if d then low else later low (place_in m f)) y.1
         by_dot true = no-item low m.highest p y.1 (below-no_item p i ss y.1.1 h)
         by_dot false =
@@ -409,15 +453,19 @@ mutual
       let rest = located_slots ss p ks in
       let w = past_node m n in
       let seen : seen_after m.seen (visits first) ≡ w.seen =
-      ap (seen_after m.seen) (visits-step k.name (located_node n q ls) ∙ visits-node n q ls) ∙ ap (λ (x : Marks). x.seen) (sym (past-node n q ls m)) in
-      let firsts = subst (AllByRecursion (InNode q)) (sym (visits-step k.name (located_node n q ls) ∙ visits-node n q ls)) (node-in n q ls) in
+      ap (seen_after m.seen) (visits-step k.name (located_node n q ls) ∙ visits-node n q ls)
+      ∙ ap (λ (x : Marks). x.seen) (sym (past-node n q ls m)) in
+      let firsts = subst (AllByRecursion (InNode q)) (sym (visits-step k.name (located_node n q ls) ∙ visits-node n q ls))
+      (node-in n q ls) in
       let rests = subst (AllByRecursion (InSlots p ss)) (sym (visits-slots ss p ks)) (slots-in ss p ks) in
       ap (λ ms. below k.name ms ++ early_slots low w ss) (early-node n q ls low m apart.1)
       ∙ (ap (λ ms. below k.name (among (too_low low) (headed_from m.seen (located_node n q ls))) ++ ms) (early-slots ss p ks low w apart.2)
       ∙ (ap (λ ms. ms ++ among (too_low low) (headed_from w.seen rest))
-      (sym (among-step k.name (headed_from m.seen (located_node n q ls)) (too_low low)) ∙ ap (among (too_low low)) (sym (headed-step k.name (located_node n q ls) m.seen)))
+      (sym (among-step k.name (headed_from m.seen (located_node n q ls)) (too_low low))
+      ∙ ap (among (too_low low)) (sym (headed-step k.name (located_node n q ls) m.seen)))
       ∙ sym (parts (too_low low) (too_low low) first rest m.seen w.seen seen
-      (calm-parts (InNode q) (InSlots p ss) (too_low low) first rest m.seen w.seen (λ x y h g. slots-late p k.name ss x y apart.0 h g) firsts rests))))
+      (calm-parts (InNode q) (InSlots p ss) (too_low low) first rest m.seen w.seen (λ x y h g. slots-late p k.name ss x y apart.0 h g)
+      firsts rests))))
 
   early-node : (n : Node) (p : Path) (ks : List Key) (low : Option ℤ) (m : Marks) → NodeIsApart n
       → early_node low m n ≡ among (too_low low) (headed_from m.seen (located_node n p ks))
@@ -431,11 +479,13 @@ mutual
       ap (λ ms. ms ++ early_slots low w ss) (own-early low m p ks f ss)
       ∙ (ap (λ ms. among (too_low low) (headed_from m.seen one) ++ ms) (early-slots ss p ks low w apart)
       ∙ sym (parts (too_low low) (too_low low) one rest m.seen w.seen seen
-      (calm-parts (λ x. (x.path ≡ p) × (x.is_element ≡ false)) (InSlots p ss) (too_low low) one rest m.seen w.seen (λ x y h g. below-late p ss x y h.0 g ∙ h.1) ((refl, refl), tt) rests)))
+      (calm-parts (λ x. (x.path ≡ p) × (x.is_element ≡ false)) (InSlots p ss) (too_low low) one rest m.seen w.seen
+      (λ x y h g. below-late p ss x y h.0 g ∙ h.1) ((refl, refl), tt) rests)))
   early-node (tables e xs) p ks low m apart =
       early-items xs p ks 0 0 low (marks_of m.seen None) apart
       ∙ among-alike (headed_from m.seen (located_items 0 xs p ks 0)) (too_soon low None p) (too_low low)
-      (any-all (λ (y : Headed). too_soon low None p y.1 ≡ too_low low y.1) (λ y. none-before low p y.1) (headed_from m.seen (located_items 0 xs p ks 0)))
+      (any-all (λ (y : Headed). too_soon low None p y.1 ≡ too_low low y.1) (λ y. none-before low p y.1)
+      (headed_from m.seen (located_items 0 xs p ks 0)))
   early-node (leaf s x d) p ks low m apart = refl
   early-node (list f xs) p ks low m apart = refl
   early-node (inline f ss) p ks low m apart = refl
@@ -463,17 +513,25 @@ mutual
       let high : highest_after m.highest (placed (headed_from m.seen first)) ≡ w.highest =
       ap (highest_after m.highest) (headed-placed first m.seen ∙ ap (heads m.seen) is) ∙ ap (λ (x : Marks). x.highest) (sym marks) in
       let firsts = headed-all (λ x. is_front q x.path ≡ true) first m.seen
-      (subst (AllByRecursion (λ x. is_front q x.path ≡ true)) (sym is)
-      (front-refl q, all-map (InSlots q ss) (λ x. is_front q x.path ≡ true) (slots_walk ss q ks) (λ x h. in-slots-node q ss x h) (slots-in ss q ks))) in
-      let rests = headed-all (InItems p (suc i)) rest w.seen (subst (AllByRecursion (InItems p (suc i))) (sym (visits-items xs p ks (suc at) (suc i))) (items-in xs p ks (suc i))) in
-      let across = all-map (λ (y : Headed). AllByRecursion (λ (x : Headed). is_too_late y.1.1 x.1.1 ≡ is_item_of p y.1.1) (headed_from m.seen first)) (λ (y : Headed). after c (headed_from m.seen first) y.1 ≡ d y.1) (headed_from w.seen rest)
+      (subst (AllByRecursion (λ x. is_front q x.path ≡ true)) (sym is) (
+        front-refl q,
+        all-map (InSlots q ss) (λ x. is_front q x.path
+            ≡ true) (slots_walk ss q ks) (λ x h. in-slots-node q ss x h) (slots-in ss q ks),
+      )) in
+      let rests = headed-all (InItems p (suc i)) rest w.seen
+      (subst (AllByRecursion (InItems p (suc i))) (sym (visits-items xs p ks (suc at) (suc i))) (items-in xs p ks (suc i))) in
+      let across = all-map (λ (y : Headed). AllByRecursion (λ (x : Headed). is_too_late y.1.1 x.1.1
+      ≡ is_item_of p y.1.1) (headed_from m.seen first)) (λ (y : Headed). after c (headed_from m.seen first) y.1
+      ≡ d y.1) (headed_from w.seen rest)
       (λ y h. after-soon (headed_from m.seen first) low m.highest p y.1 h ∙ ap (λ g. too_soon low g p y.1) high)
-      (all-across (λ (y : Headed). InItems p (suc i) y.1.1) (λ (x : Headed). is_front q x.1.1.path ≡ true) (λ (y x : Headed). is_too_late y.1.1 x.1.1 ≡ is_item_of p y.1.1)
+      (all-across (λ (y : Headed). InItems p (suc i) y.1.1) (λ (x : Headed). is_front q x.1.1.path
+      ≡ true) (λ (y x : Headed). is_too_late y.1.1 x.1.1 ≡ is_item_of p y.1.1)
       (headed_from w.seen rest) (headed_from m.seen first) (λ y x g h. items-late p i x.1.1 y.1.1 h g) rests firsts) in
       let own : early_item low m (table f ss) ≡ among c (headed_from m.seen all) =
       ap (λ ms. ms ++ early_slots (low_in low m f) u ss) (element-early low m p i ks f ss)
       ∙ (ap (λ ms. among c (headed_from m.seen one) ++ ms) (early-slots ss q ks (low_in low m f) u apart.0)
-      ∙ sym (parts c (too_low (low_in low m f)) one inside m.seen u.seen (ap (λ (x : Marks). x.seen) (sym (one-mark true m q ks f ss))) (below-element low m p i ks f ss u.seen))) in
+      ∙ sym (parts c (too_low (low_in low m f)) one inside m.seen u.seen (ap (λ (x : Marks). x.seen) (sym (one-mark true m q ks f ss)))
+      (below-element low m p i ks f ss u.seen))) in
       ap (λ ms. below (decimal at) ms ++ early_items low w (suc at) xs) own
       ∙ (ap (λ ms. below (decimal at) (among c (headed_from m.seen all)) ++ ms) (early-items xs p ks (suc at) (suc i) low w apart.1)
       ∙ (ap (λ ms. ms ++ among d (headed_from w.seen rest))
@@ -489,4 +547,5 @@ mutual
 pub misfits-walked : (mode : Mode) (t : Tree) → SlotsAreApart t.slots → misfits mode t ≡ walked_misfits mode t
 misfits-walked mode t apart =
     ap (λ ms. root_misfits mode t.root t.slots t.trailing ++ (tables_misfits mode no_keys t.slots ++ ms))
-    (early-among [] (headed_from (root_marks t.root).seen (located_slots t.slots [] [])) ∙ sym (early-slots t.slots [] [] None (root_marks t.root) apart))
+    (early-among [] (headed_from (root_marks t.root).seen (located_slots t.slots [] []))
+    ∙ sym (early-slots t.slots [] [] None (root_marks t.root) apart))

@@ -6,7 +6,8 @@ use Rattle.std.proofs.lemmas.Bool.{cases_Bool}
 use Rattle.toml_edit_model.specs.Mode.{Mode}
 use Rattle.toml_edit_model.specs.Tree.{Tree}
 use Rattle.toml_edit_model.specs.Order.{insert_by, sorted_by}
-use Rattle.toml_edit_model.specs.HeaderOrder.{Visit, PlacedVisit, visit_of, slots_walk, walk, place_of, places_from, comes_before, in_header_order}
+use Rattle.toml_edit_model.specs.HeaderOrder.{Visit, PlacedVisit, visit_of, slots_walk, walk, place_of, places_from, comes_before}
+use Rattle.toml_edit_model.specs.HeaderOrder.{in_header_order}
 use Rattle.toml_edit_model.specs.Print.{has_header}
 use Rattle.toml_edit_model.specs.Fits.{FitsIn, is_too_late, none_too_late, headed, elements_are_ordered}
 use Rattle.toml_edit_laws.specs.PrintByVisits.{root_place}
@@ -47,22 +48,26 @@ module _ {A : Type 0} (le : A → A → Bool)
   sorted-up [] = tt
   sorted-up (a ∷ xs) = insert-up a (sorted_by le xs) (sorted-up xs)
 
-  turned-first : (a : A) (xs : List A) → AllByRecursion (λ x. le a x ≡ true) xs → AllByRecursion (Q a) xs → AllByRecursion (Turned le Q a) xs
+  turned-first : (a : A) (xs : List A) → AllByRecursion (λ x. le a x ≡ true) xs → AllByRecursion (Q a) xs
+      → AllByRecursion (Turned le Q a) xs
   turned-first a [] h g = tt
   turned-first a (x ∷ xs) h g = (((λ e. g.0), (λ e. true-false (le a x) h.0 e)), turned-first a xs h.1 g.1)
 
-  first-turned : (a : A) (xs : List A) → AllByRecursion (λ x. le a x ≡ true) xs → AllByRecursion (Turned le Q a) xs → AllByRecursion (Q a) xs
+  first-turned : (a : A) (xs : List A) → AllByRecursion (λ x. le a x ≡ true) xs → AllByRecursion (Turned le Q a) xs
+      → AllByRecursion (Q a) xs
   first-turned a [] h g = tt
   first-turned a (x ∷ xs) h g = (g.0.0 h.0, first-turned a xs h.1 g.1)
 
-  insert-pairs : (a : A) (xs : List A) → AllPairs (λ a b. le a b ≡ true) xs → AllPairs Q (insert_by le a xs) ↔ (AllByRecursion (Turned le Q a) xs × AllPairs Q xs)
+  insert-pairs : (a : A) (xs : List A) → AllPairs (λ a b. le a b ≡ true) xs → AllPairs Q (insert_by le a xs)
+      ↔ (AllByRecursion (Turned le Q a) xs × AllPairs Q xs)
   insert-pairs a [] h = (λ g. (tt, tt), λ g. (tt, tt))
   insert-pairs a (b ∷ xs) h = by_test (le a b) refl (insert-pairs a xs h.1)
     where
       by_test : (c : Bool) → le a b ≡ c → AllPairs Q (insert_by le a xs) ↔ (AllByRecursion (Turned le Q a) xs × AllPairs Q xs)
           → AllPairs Q (if c then a ∷ b ∷ xs else b ∷ insert_by le a xs) ↔ (AllByRecursion (Turned le Q a) (b ∷ xs) × AllPairs Q (b ∷ xs))
       by_test true e more =
-          let all : AllByRecursion (λ x. le a x ≡ true) (b ∷ xs) = (e, all-map (λ x. le b x ≡ true) (λ x. le a x ≡ true) xs (λ x g. le-trans a b x e g) h.0) in
+          let all : AllByRecursion (λ x. le a x ≡ true) (b ∷ xs) =
+          (e, all-map (λ x. le b x ≡ true) (λ x. le a x ≡ true) xs (λ x g. le-trans a b x e g) h.0) in
           (λ g. (turned-first a (b ∷ xs) all g.0, g.1), λ g. (first-turned a (b ∷ xs) all g.0, g.1))
       by_test false e more = (
         λ g. let parts = all-inserted (Q b) le a xs g.0 in
@@ -90,12 +95,14 @@ all-calm : (vs : List Visit) → AllPairs Calm vs → none_too_late vs ≡ true
 all-calm [] h = refl
 all-calm (g ∷ rest) h =
     and_both (list_all (λ x. not (is_too_late g x)) rest) (none_too_late rest)
-    (list-of (λ x. not (is_too_late g x)) rest (all-map (Calm g) (λ x. not (is_too_late g x) ≡ true) rest (λ x e. ap not e) h.0)) (all-calm rest h.1)
+    (list-of (λ x. not (is_too_late g x)) rest (all-map (Calm g) (λ x. not (is_too_late g x) ≡ true) rest (λ x e. ap not e) h.0))
+    (all-calm rest h.1)
 
 abbrev CalmAt : PlacedVisit → PlacedVisit → Type 0
 CalmAt x y = Calm x.1 y.1
 
-pub pairs-unimage : {A B : Type 0} (f : A → B) (R : B → B → Type 0) (xs : List A) → AllPairs R (map f xs) → AllPairs (λ a b. R (f a) (f b)) xs
+pub pairs-unimage : {A B : Type 0} (f : A → B) (R : B → B → Type 0) (xs : List A) → AllPairs R (map f xs)
+    → AllPairs (λ a b. R (f a) (f b)) xs
 pairs-unimage f R [] h = tt
 pairs-unimage {A} f R (x ∷ xs) h = (each xs h.0, pairs-unimage f R xs h.1)
   where
@@ -103,16 +110,20 @@ pairs-unimage {A} f R (x ∷ xs) h = (each xs h.0, pairs-unimage f R xs h.1)
     each [] g = tt
     each (y ∷ ys) g = (g.0, each ys g.1)
 
-pairs-places : (R : Visit → Visit → Type 0) (seen : ℤ) (vs : List Visit) → AllPairs R vs → AllPairs (λ (a b : PlacedVisit). R a.1 b.1) (places_from seen vs)
+pairs-places : (R : Visit → Visit → Type 0) (seen : ℤ) (vs : List Visit) → AllPairs R vs
+    → AllPairs (λ (a b : PlacedVisit). R a.1 b.1) (places_from seen vs)
 pairs-places R seen [] h = tt
 pairs-places R seen (v ∷ vs) h = by_dot v.fields.is_dotted (pairs-places R seen vs h.1) (pairs-places R (place_of seen v) vs h.1)
   where
-    by_dot : (b : Bool) → AllPairs (λ (a b : PlacedVisit). R a.1 b.1) (places_from seen vs) → AllPairs (λ (a b : PlacedVisit). R a.1 b.1) (places_from (place_of seen v) vs)
-        → AllPairs (λ (a b : PlacedVisit). R a.1 b.1) (if b then places_from seen vs else (place_of seen v, v) ∷ places_from (place_of seen v) vs)
+    by_dot : (b : Bool) → AllPairs (λ (a b : PlacedVisit). R a.1 b.1) (places_from seen vs)
+        → AllPairs (λ (a b : PlacedVisit). R a.1 b.1) (places_from (place_of seen v) vs)
+        → AllPairs (λ (a b : PlacedVisit). R a.1 b.1) (if b then places_from seen vs else (place_of seen v, v)
+        ∷ places_from (place_of seen v) vs)
     by_dot true x y = x
     by_dot false x y = (places-all (R v) (place_of seen v) vs h.0, y)
 
-filter-alike : {A : Type 0} (P : A → Type 0) (first second : A → Bool) → ((x : A) → P x → first x ≡ second x) → (xs : List A) → AllByRecursion P xs → filter first xs ≡ filter second xs
+filter-alike : {A : Type 0} (P : A → Type 0) (first second : A → Bool) → ((x : A) → P x → first x ≡ second x) → (xs : List A)
+    → AllByRecursion P xs → filter first xs ≡ filter second xs
 filter-alike P first second same [] h = refl
 filter-alike P first second same (x ∷ xs) h =
     rw (same x h.0) (ap (λ ys. if second x then x ∷ ys else ys) (filter-alike P first second same xs h.1))
@@ -130,22 +141,26 @@ module _ (mode : Mode) (t : Tree) where
   -- those below the root, where these places are seen
   own-heads : (seen : ℤ) → filter has_own (places_from seen (slots_walk t.slots [] [])) ≡ heads seen (slots_walk t.slots [] [])
   own-heads seen =
-      filter-alike (λ (v : PlacedVisit). IsBelowRoot v.1) has_own shows_header (λ v h. has-header mode v h) (places_from seen (slots_walk t.slots [] []))
+      filter-alike (λ (v : PlacedVisit). IsBelowRoot v.1) has_own shows_header (λ v h. has-header mode v h)
+      (places_from seen (slots_walk t.slots [] []))
       (places-all IsBelowRoot seen (slots_walk t.slots [] []) (slots-below t.slots [] []))
 
   with-headers : filter has_own (places_from (pos 0) (walk t)) ≡ heads (root_place t.root) (slots_walk t.slots [] [])
   with-headers = by_dot t.root.is_dotted
     where
       by_dot : (b : Bool) → filter has_own (if b then places_from (pos 0) (slots_walk t.slots [] [])
-          else (unwrap_or t.root.position (pos 0), visit_of [] [] false t.root t.slots) ∷ places_from (unwrap_or t.root.position (pos 0)) (slots_walk t.slots [] []))
+          else (unwrap_or t.root.position (pos 0), visit_of [] [] false t.root t.slots)
+          ∷ places_from (unwrap_or t.root.position (pos 0)) (slots_walk t.slots [] []))
           ≡ heads (if b then pos 0 else unwrap_or t.root.position (pos 0)) (slots_walk t.slots [] [])
       by_dot true = own-heads (pos 0)
       by_dot false = own-heads (unwrap_or t.root.position (pos 0))
 
-  pub headed-is : headed mode t ≡ map (λ (v : PlacedVisit). v.1) (sorted_by comes_before (heads (root_place t.root) (slots_walk t.slots [] [])))
+  pub headed-is : headed mode t ≡ map (λ (v : PlacedVisit). v.1)
+      (sorted_by comes_before (heads (root_place t.root) (slots_walk t.slots [] [])))
   headed-is =
       filter-image (λ (v : PlacedVisit). v.1) (has_header mode) (in_header_order t)
-      ∙ ap (map (λ (v : PlacedVisit). v.1)) (filter-sorted comes_before before-trans before-total has_own (places_from (pos 0) (walk t)) ∙ ap (sorted_by comes_before) with-headers)
+      ∙ ap (map (λ (v : PlacedVisit). v.1)) (filter-sorted comes_before before-trans before-total has_own (places_from (pos 0) (walk t))
+      ∙ ap (sorted_by comes_before) with-headers)
 
   pub heads-below : AllByRecursion (λ (v : PlacedVisit). IsBelowRoot v.1) (heads (root_place t.root) (slots_walk t.slots [] []))
   heads-below = heads-all IsBelowRoot (root_place t.root) (slots_walk t.slots [] []) (slots-below t.slots [] [])
@@ -171,22 +186,27 @@ module _ (mode : Mode) (t : Tree) where
   ordered-walk h =
       let hs = heads (root_place t.root) (slots_walk t.slots [] []) in
       let calm = not-late (map (λ (v : PlacedVisit). v.1) (sorted_by comes_before hs)) (ap none_too_late (sym headed-is) ∙ h) in
-      let turned = (sorted-pairs comes_before before-trans before-total CalmAt hs).0 (pairs-unimage (λ (v : PlacedVisit). v.1) Calm (sorted_by comes_before hs) calm) in
+      let turned = (sorted-pairs comes_before before-trans before-total CalmAt hs).0
+      (pairs-unimage (λ (v : PlacedVisit). v.1) Calm (sorted_by comes_before hs) calm) in
       pairs-of (λ (v : PlacedVisit). IsBelowRoot v.1) (Turned comes_before CalmAt) Fine hs to-fine heads-below turned
 
-  walk-ordered : SlotsAreApart t.slots → AllPairs Fine (heads (root_place t.root) (slots_walk t.slots [] [])) → elements_are_ordered mode t ≡ true
+  walk-ordered : SlotsAreApart t.slots → AllPairs Fine (heads (root_place t.root) (slots_walk t.slots [] [])) → elements_are_ordered mode t
+      ≡ true
   walk-ordered apart h =
       let hs = heads (root_place t.root) (slots_walk t.slots [] []) in
       let calm : AllPairs CalmAt hs = pairs-filter CalmAt shows_header (places_from (root_place t.root) (slots_walk t.slots [] []))
       (pairs-places Calm (root_place t.root) (slots_walk t.slots [] []) (slots-are-calm t.slots [] [] apart)) in
       let turned : AllPairs (Turned comes_before CalmAt) hs =
-      pairs-of (λ (v : PlacedVisit). IsBelowRoot v.1) (λ x y. Fine x y × CalmAt x y) (Turned comes_before CalmAt) hs (λ x y f g k. from-fine x y f g k.0 k.1) heads-below
+      pairs-of (λ (v : PlacedVisit). IsBelowRoot v.1) (λ x y. Fine x y
+      × CalmAt x y) (Turned comes_before CalmAt) hs (λ x y f g k. from-fine x y f g k.0 k.1) heads-below
       (both-pairs hs h calm) in
       ap none_too_late headed-is
       ∙ all-calm (map (λ (v : PlacedVisit). v.1) (sorted_by comes_before hs))
-      (pairs-image (λ (v : PlacedVisit). v.1) Calm (sorted_by comes_before hs) ((sorted-pairs comes_before before-trans before-total CalmAt hs).1 turned))
+      (pairs-image (λ (v : PlacedVisit). v.1) Calm (sorted_by comes_before hs)
+      ((sorted-pairs comes_before before-trans before-total CalmAt hs).1 turned))
     where
-      both-all : (x : PlacedVisit) (ys : List PlacedVisit) → AllByRecursion (Fine x) ys → AllByRecursion (CalmAt x) ys → AllByRecursion (λ y. Fine x y × CalmAt x y) ys
+      both-all : (x : PlacedVisit) (ys : List PlacedVisit) → AllByRecursion (Fine x) ys → AllByRecursion (CalmAt x) ys
+          → AllByRecursion (λ y. Fine x y × CalmAt x y) ys
       both-all x [] f g = tt
       both-all x (y ∷ ys) f g = ((f.0, g.0), both-all x ys f.1 g.1)
 
@@ -207,7 +227,8 @@ module _ (mode : Mode) (t : Tree) where
       (ap is_some ((slots-ordered t.slots [] [] None (root_marks t.root)).0 (ordered-walk fits.ordered, any-place hs)))
 
   -- and one that passes them fits
-  pub passing : SlotsAreApart t.slots → parts_fit mode t ≡ true → is_some (order_slots None (root_marks t.root) t.slots) ≡ true → FitsIn mode t
+  pub passing : SlotsAreApart t.slots → parts_fit mode t ≡ true → is_some (order_slots None (root_marks t.root) t.slots) ≡ true
+      → FitsIn mode t
   passing apart parts order =
       let all = (parts-decide mode t).0 parts in
       let walked = (slots-ordered t.slots [] [] None (root_marks t.root)).1 apart order in

@@ -1,11 +1,13 @@
 -- Which of two tables of the walk is too late after the other.
-use Rattle.std.proofs.Common.{◌≡◌, refl, sym, ◌∙◌, ap, subst, ℕ, suc, ◌<◌, arith, Bool, true, false, List, [], ◌∷◌, ◌++◌, append_assoc, append-nil}
+use Rattle.std.proofs.Common.{◌≡◌, refl, sym, ◌∙◌, ap, subst, ℕ, suc, ◌<◌, arith, Bool, true, false, List, [], ◌∷◌, ◌++◌, append_assoc}
+use Rattle.std.proofs.Common.{append-nil}
 use Rattle.std.specs.Prelude.{◌&&◌, ◌||◌, nat_lt}
 use Rattle.std.proofs.lemmas.Bool.{lt-ltb, le-ltb, ne_eqb}
 use Rattle.toml_edit_model.specs.Text.{Text, same_text}
 use Rattle.toml_edit_model.specs.Paths.{Step, at_key, at_element, Path, same_step, same_path, to_key, to_element}
 use Rattle.toml_edit_model.specs.Meaning.{parent}
-use Rattle.toml_edit_model.specs.Tree.{Key, Node, nothing, leaf, list, inline, table, tables, Items, no_items, item, Slots, no_slots, slot, has_key}
+use Rattle.toml_edit_model.specs.Tree.{Key, Node, nothing, leaf, list, inline, table, tables, Items, no_items, item, Slots, no_slots, slot}
+use Rattle.toml_edit_model.specs.Tree.{has_key}
 use Rattle.toml_edit_model.specs.HeaderOrder.{Visit, visit_of, node_walk, items_walk, slots_walk}
 use Rattle.toml_edit_model.specs.Fits.{is_below, is_after_element, is_too_late}
 use Rattle.toml_edit_laws.proofs.common.Tests.{and_left, and_right, true-false, false-by, same_text-is, same_text-swap}
@@ -101,7 +103,8 @@ other-key : (k l : Text) (ss : Slots) → has_key k ss ≡ false → has_key l s
 other-key k l ss none has =
     false-by (same_text k l) (λ e. true-false (has_key k ss) (subst (λ x. has_key x ss ≡ true) (sym (same_text-is k l e)) has) none)
 
-module _ (p : Path) (k : Text) (ss : Slots) (x y : Visit) (none : has_key k ss ≡ false) (left : InNode (to_key p k) x) (right : InSlots p ss y) where
+module _ (p : Path) (k : Text) (ss : Slots) (x y : Visit) (none : has_key k ss
+    ≡ false) (left : InNode (to_key p k) x) (right : InSlots p ss y) where
   pub slots-calm : is_too_late x y ≡ false
   slots-calm =
       let one = step-rest p (at_key k) x.path left.0 in
@@ -109,8 +112,10 @@ module _ (p : Path) (k : Text) (ss : Slots) (x y : Visit) (none : has_key k ss �
       let apart : same_text k right.0 ≡ false = other-key k right.0 ss none right.1 in
       let away : same_text right.0 k ≡ false = same_text-swap right.0 k ∙ apart in
       late-behind p (at_key k ∷ one.0) (at_key right.0 ∷ two.0) x y one.1 two.1
-      ∙ ap (λ b. (y.is_element && (b && is_below two.0 one.0)) || (x.is_element && (same_text k right.0 && is_after_element one.0 two.0))) away
-      ∙ ap (λ b. (y.is_element && false) || (x.is_element && (b && is_after_element one.0 two.0))) apart ∙ none-late y.is_element x.is_element
+      ∙ ap (λ b. (y.is_element && (b && is_below two.0 one.0))
+      || (x.is_element && (same_text k right.0 && is_after_element one.0 two.0))) away
+      ∙ ap (λ b. (y.is_element && false) || (x.is_element && (b && is_after_element one.0 two.0))) apart
+      ∙ none-late y.is_element x.is_element
 
   pub slots-late : is_too_late y x ≡ false
   slots-late =
@@ -119,8 +124,10 @@ module _ (p : Path) (k : Text) (ss : Slots) (x y : Visit) (none : has_key k ss �
       let apart : same_text k right.0 ≡ false = other-key k right.0 ss none right.1 in
       let away : same_text right.0 k ≡ false = same_text-swap right.0 k ∙ apart in
       late-behind p (at_key right.0 ∷ two.0) (at_key k ∷ one.0) y x two.1 one.1
-      ∙ ap (λ b. (x.is_element && (b && is_below one.0 two.0)) || (y.is_element && (same_text right.0 k && is_after_element two.0 one.0))) apart
-      ∙ ap (λ b. (x.is_element && false) || (y.is_element && (b && is_after_element two.0 one.0))) away ∙ none-late x.is_element y.is_element
+      ∙ ap (λ b. (x.is_element && (b && is_below one.0 two.0))
+      || (y.is_element && (same_text right.0 k && is_after_element two.0 one.0))) apart
+      ∙ ap (λ b. (x.is_element && false) || (y.is_element && (b && is_after_element two.0 one.0))) away
+      ∙ none-late x.is_element y.is_element
 
 -- ---- tables in different elements of one array
 
@@ -168,7 +175,8 @@ module _ (p : Path) (i : ℕ) (x y : Visit) (left : is_front (to_element p i) x.
       let one = step-rest p (at_element i) x.path left in
       let two = step-rest p (at_element m) y.path right.2 in
       late-behind p (at_element i ∷ one.0) (at_element m ∷ two.0) x y one.1 two.1
-      ∙ ap (λ b. (y.is_element && b) || (x.is_element && is_after_element (at_element i ∷ one.0) (at_element m ∷ two.0))) (below-other m i two.0 one.0 (λ e. absurd (omega (arith, e, more))))
+      ∙ ap (λ b. (y.is_element && b) || (x.is_element && is_after_element (at_element i ∷ one.0) (at_element m ∷ two.0)))
+      (below-other m i two.0 one.0 (λ e. absurd (omega (arith, e, more))))
       ∙ ap (λ b. (y.is_element && false) || (x.is_element && b)) (after-other i m one.0 two.0 more) ∙ none-late y.is_element x.is_element
 
   pub items-late : is_too_late y x ≡ is_item_of p y
@@ -178,7 +186,8 @@ module _ (p : Path) (i : ℕ) (x y : Visit) (left : is_front (to_element p i) x.
       let one = step-rest p (at_element i) x.path left in
       let two = step-rest p (at_element m) y.path right.2 in
       late-behind p (at_element m ∷ two.0) (at_element i ∷ one.0) y x two.1 one.1
-      ∙ ap (λ b. (x.is_element && b) || (y.is_element && is_after_element (at_element m ∷ two.0) (at_element i ∷ one.0))) (below-other i m one.0 two.0 (λ e. absurd (omega (arith, e, more))))
+      ∙ ap (λ b. (x.is_element && b) || (y.is_element && is_after_element (at_element m ∷ two.0) (at_element i ∷ one.0)))
+      (below-other i m one.0 two.0 (λ e. absurd (omega (arith, e, more))))
       ∙ ap (λ b. (x.is_element && false) || (y.is_element && b)) (after-earlier i m one.0 two.0 more)
       ∙ left-none x.is_element (y.is_element && is_end two.0)
       ∙ sym (item-rest p m two.0 y two.1)
@@ -195,8 +204,10 @@ Calm x y = is_too_late x y ≡ false
 mutual
   pub node-calm : (n : Node) (p : Path) (ks : List Key) → NodeIsApart n → AllPairs Calm (node_walk n p ks false)
   node-calm (table f ss) p ks apart =
-      let v = visit_of p ks false f ss in
-      (all-map (InSlots p ss) (Calm v) (slots_walk ss p ks) (λ y h. below-calm p ss v y refl h) (slots-in ss p ks), slots-are-calm ss p ks apart)
+      let v = visit_of p ks false f ss in (
+        all-map (InSlots p ss) (Calm v) (slots_walk ss p ks) (λ y h. below-calm p ss v y refl h) (slots-in ss p ks),
+        slots-are-calm ss p ks apart,
+      )
   node-calm (tables e xs) p ks apart = items-are-calm xs p ks 0 apart
   node-calm (leaf s x y) p ks apart = tt
   node-calm (list f xs) p ks apart = tt
@@ -214,7 +225,8 @@ mutual
       (all-map (InSlots q ss) (Calm v) below (λ y h. below-calm q ss v y refl h) (slots-in ss q ks), slots-are-calm ss q ks apart.0)
       (items-are-calm xs p ks (suc i) apart.1)
       (all-across (λ x. is_front q x.path ≡ true) (InItems p (suc i)) Calm (v ∷ below) rest (λ x y h g. items-calm p i x y h g)
-      (front-refl q, all-map (InSlots q ss) (λ x. is_front q x.path ≡ true) below (λ x h. in-slots-node q ss x h) (slots-in ss q ks)) (items-in xs p ks (suc i)))
+      (front-refl q, all-map (InSlots q ss) (λ x. is_front q x.path ≡ true) below (λ x h. in-slots-node q ss x h) (slots-in ss q ks))
+      (items-in xs p ks (suc i)))
   items-are-calm (item (tables e us) xs) p ks i apart = items-are-calm xs p ks i apart.1
   items-are-calm (item (leaf s x y) xs) p ks i apart = items-are-calm xs p ks i apart.1
   items-are-calm (item (list f us) xs) p ks i apart = items-are-calm xs p ks i apart.1

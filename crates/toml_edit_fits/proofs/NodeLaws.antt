@@ -1,5 +1,6 @@
 -- The tests of values and lines tell what they say, by cases on the tree.
-use Rattle.std.proofs.Common.{◌≡◌, refl, sym, ◌∙◌, ap, subst, ℕ, suc, ◌-◌, ◌<◌, ◌≤◌, Bool, true, false, List, [], ◌∷◌, ◌++◌, length, Some, arith}
+use Rattle.std.proofs.Common.{◌≡◌, refl, sym, ◌∙◌, ap, subst, ℕ, suc, ◌-◌, ◌<◌, ◌≤◌, Bool, true, false, List, [], ◌∷◌, ◌++◌, length, Some}
+use Rattle.std.proofs.Common.{arith}
 use Rattle.std.specs.Prelude.{◌&&◌, ◌==◌, ◌↔◌, nat_lt, nat_le, if◌then◌else◌, MatchBool, Decides, max}
 use Rattle.std.specs.List.{AllByRecursion}
 use Rattle.std.proofs.lemmas.Bool.{le-leb, leb-true, ne_eqb}
@@ -7,20 +8,27 @@ use Rattle.std.proofs.lemmas.Bool.Decides.{Decides-and, Decides-like, Decides-lt
 use Rattle.toml_edit_model.specs.Mode.{Mode}
 use Rattle.toml_edit_model.specs.Text.{Text, one}
 use Rattle.toml_edit_model.specs.Trivia.{IsWholeTrivia}
-use Rattle.toml_edit_model.specs.Syntax.{Value, Elements, no_elements, element, Pairs, no_pairs, pair, depth, elements_depth, pairs_depth, has_short_keys, elements_have_short_keys, pairs_have_short_keys, is_short, keeps_limits, nesting_limit}
-use Rattle.toml_edit_model.specs.Tree.{Key, Node, nothing, leaf, list, inline, table, tables, Items, no_items, item, Slots, no_slots, slot, shown_raw, node_decor, is_value_node, shown_prefix, shown_suffix}
-use Rattle.toml_edit_model.specs.Print.{Line, segments, segments_after, frame_of, add_after, close_array, add_after_pairs, close_inline, line_of, line_statement, is_line_node, around_of, one_space, pairs_of_lines, value_of, elements_of, inside_lines, lines_inside, table_lines, dotted_lines}
+use Rattle.toml_edit_model.specs.Syntax.{Value, Elements, no_elements, element, Pairs, no_pairs, pair, depth, elements_depth, pairs_depth}
+use Rattle.toml_edit_model.specs.Syntax.{has_short_keys, elements_have_short_keys, pairs_have_short_keys, is_short, keeps_limits}
+use Rattle.toml_edit_model.specs.Syntax.{nesting_limit}
+use Rattle.toml_edit_model.specs.Tree.{Key, Node, nothing, leaf, list, inline, table, tables, Items, no_items, item, Slots, no_slots, slot}
+use Rattle.toml_edit_model.specs.Tree.{shown_raw, node_decor, is_value_node, shown_prefix, shown_suffix}
+use Rattle.toml_edit_model.specs.Print.{Line, segments, segments_after, frame_of, add_after, close_array, add_after_pairs, close_inline}
+use Rattle.toml_edit_model.specs.Print.{line_of, line_statement, is_line_node, around_of, one_space, pairs_of_lines, value_of, elements_of}
+use Rattle.toml_edit_model.specs.Print.{inside_lines, lines_inside, table_lines, dotted_lines}
 use Rattle.toml_edit_model.specs.Fits.{LineSuits, ElementSuits, Suits, ItemsSuit, InsideSuits, NodeSuitsInside, PrintedLineSuits, EndsLine}
 use Rattle.toml_edit_laws.proofs.common.Each.{all-append, all-front, all-back, all-map, all-both}
 use Rattle.toml_edit_laws.proofs.common.Tests.{and_left, and_right, and_both}
 use Rattle.toml_edit_fits.specs.TriviaTests.{is_whole}
 use Rattle.toml_edit_fits.specs.declared.route.Route.{Route}
-use Rattle.toml_edit_fits.specs.FitTests.{no_keys, then_key, pair_fits, element_fits, value_fits, items_fit, inside_fits, within_fits, lines_fit, dotted_fits}
+use Rattle.toml_edit_fits.specs.FitTests.{no_keys, then_key, pair_fits, element_fits, value_fits, items_fit, inside_fits, within_fits}
+use Rattle.toml_edit_fits.specs.FitTests.{lines_fit, dotted_fits}
 use Rattle.toml_edit_fits.proofs.ValueLaws.{IsRouteOf, no-keys, then-route, pair-decides, whole-side, Follows}
 
 -- ---- two tests and two lists
 
-pub both-lists : {A : Type 0} (P : A → Type 0) (a b : Bool) (xs ys : List A) → Decides a (AllByRecursion P xs) → Decides b (AllByRecursion P ys)
+pub both-lists : {A : Type 0} (P : A → Type 0) (a b : Bool) (xs ys : List A) → Decides a (AllByRecursion P xs)
+    → Decides b (AllByRecursion P ys)
     → Decides (a && b) (AllByRecursion P (xs ++ ys))
 both-lists P a b xs ys h g =
     Decides-like (a && b) (λ f. all-append P xs ys f.0 f.1) (λ f. (all-front P xs ys f, all-back P xs ys f)) (Decides-and a b h g)
@@ -106,11 +114,13 @@ module _ (mode : Mode) where
   abbrev LineIsSuited : Line → Type 0
   LineIsSuited l = LineSuits mode IsWholeTrivia l.keys l.item × Suits mode l.item
 
-  pair-keeps : (room : ℕ) (l : Line) (default after : Text) (ps : Pairs) → PairsKeep room (pair (frame_of mode default after l) l.value ps) ↔ (LineKeeps room l × PairsKeep room ps)
+  pair-keeps : (room : ℕ) (l : Line) (default after : Text) (ps : Pairs) → PairsKeep room (pair (frame_of mode default after l) l.value ps)
+      ↔ (LineKeeps room l × PairsKeep room ps)
   pair-keeps room l default after ps =
       let short = short-decides l.keys in (
         λ h. let deep : max (depth l.value) (pairs_depth ps) ≤ room = h.0 in
-            let others : (has_short_keys l.value && pairs_have_short_keys ps) ≡ true = and_right (is_short (segments mode l.keys)) (has_short_keys l.value && pairs_have_short_keys ps) h.1 in (
+            let others : (has_short_keys l.value && pairs_have_short_keys ps) ≡ true =
+            and_right (is_short (segments mode l.keys)) (has_short_keys l.value && pairs_have_short_keys ps) h.1 in (
               (
                 short.0 (and_left (is_short (segments mode l.keys)) (has_short_keys l.value && pairs_have_short_keys ps) h.1),
                 (omega (arith, deep), and_left (has_short_keys l.value) (pairs_have_short_keys ps) others),
@@ -141,8 +151,13 @@ module _ (mode : Mode) where
       where
         by_line : (b : Bool) → NodeSuitsInside mode n (ks ++ one k) ↔ AllByRecursion LineIsSuited (lines_inside mode n (ks ++ one k))
             → InsideSuits mode ss ks ↔ AllByRecursion LineIsSuited (inside_lines mode ss ks)
-            → (MatchBool b (LineSuits mode IsWholeTrivia (ks ++ one k) n × Suits mode n) (NodeSuitsInside mode n (ks ++ one k)) × InsideSuits mode ss ks)
-            ↔ AllByRecursion LineIsSuited (elim b [ true ↦ line_of (ks ++ one k) n (value_of mode n) | false ↦ lines_inside mode n (ks ++ one k) ] ++ inside_lines mode ss ks)
+            → (MatchBool b (LineSuits mode IsWholeTrivia (ks ++ one k) n × Suits mode n) (NodeSuitsInside mode n (ks ++ one k))
+            × InsideSuits mode ss ks)
+            ↔ AllByRecursion LineIsSuited (elim b [
+              | true ↦ line_of (ks ++ one k) n (value_of mode n)
+              | false ↦
+                  lines_inside mode n (ks ++ one k)
+            ] ++ inside_lines mode ss ks)
         by_line true here more = (λ h. (h.0, more.0 h.1), λ h. (h.0, more.1 h.1))
         by_line false here more =
             let first = lines_inside mode n (ks ++ one k) in
@@ -160,7 +175,8 @@ module _ (mode : Mode) where
     node-suited nothing ks = (λ h. h, λ h. h)
 
   -- in brackets, trivia follows
-  follows-inside : (room : ℕ) → room < 80 → (ks : List Key) (n : Node) → LineSuits mode (Follows mode room) ks n ↔ LineSuits mode IsWholeTrivia ks n
+  follows-inside : (room : ℕ) → room < 80 → (ks : List Key) (n : Node) → LineSuits mode (Follows mode room) ks n
+      ↔ LineSuits mode IsWholeTrivia ks n
   follows-inside room h ks n =
       let other : (room == nesting_limit) ≡ false = ne_eqb room 80 (λ e. absurd (omega (arith, e))) in (
         λ s. subst (λ b. LineSuits mode (λ t. MatchBool b (EndsLine mode t) (IsWholeTrivia t)) ks n) other s,
@@ -168,7 +184,8 @@ module _ (mode : Mode) where
       )
 
   inline-fits : (room : ℕ) → room < 80 → (ss : Slots) (ks : List Key)
-      → AllByRecursion (LineFits room) (inside_lines mode ss ks) ↔ (InsideSuits mode ss ks × PairsKeep room (pairs_of_lines mode (inside_lines mode ss ks)))
+      → AllByRecursion (LineFits room) (inside_lines mode ss ks)
+      ↔ (InsideSuits mode ss ks × PairsKeep room (pairs_of_lines mode (inside_lines mode ss ks)))
   inline-fits room small ss ks =
       let ls = inside_lines mode ss ks in
       let suited = inside-suited ss ks in
@@ -210,7 +227,8 @@ module _ (mode : Mode) where
         (λ h. let all : depth (value_of mode (list f xs)) ≤ room = h.1.0 in
         (omega (arith, deep, all), (h.0.0, (h.0.1, (omega (arith, deep, all), sym short ∙ h.1.1)))))
         (Decides-and (nat_lt 0 room) (is_whole t && items_fit mode (room - 1) xs) (Decides-ltb 0 room)
-        (Decides-and (is_whole t) (items_fit mode (room - 1) xs) (whole-side mode (Some f.trailing)) (items-decide xs (room - 1) true (omega arith))))
+        (Decides-and (is_whole t) (items_fit mode (room - 1) xs) (whole-side mode (Some f.trailing))
+        (items-decide xs (room - 1) true (omega arith))))
     value-decides (inline f ss) room small =
         let ps = pairs_of_lines mode (inside_lines mode ss []) in
         let t = shown_raw mode f.trailing in
@@ -222,34 +240,55 @@ module _ (mode : Mode) where
         let below : pairs_depth ps ≤ room - 1 = parts.1.0 in
         ((h.1.0, parts.0), (omega (arith, deep, some, below), short ∙ parts.1.1)))
         (λ h. let all : depth (value_of mode (inline f ss)) ≤ room = h.1.0 in
-        let below : pairs_depth ps ≤ room - 1 = omega (arith, deep, all) in
-        (omega (arith, deep, all), (h.0.0, (inline-fits (room - 1) (omega (arith, deep, all)) ss []).1 (h.0.1, (below, sym short ∙ h.1.1)))))
+        let below : pairs_depth ps ≤ room - 1 = omega (arith, deep, all) in (
+          omega (arith, deep, all),
+          (
+            h.0.0,
+            (inline-fits (room - 1) (omega (arith, deep, all)) ss []).1 (
+              h.0.1,
+              (below, sym short ∙ h.1.1),
+            ),
+          ),
+        ))
         (Decides-and (nat_lt 0 room) (is_whole t && inside_fits mode (room - 1) no_keys ss) (Decides-ltb 0 room)
-        (Decides-and (is_whole t) (inside_fits mode (room - 1) no_keys ss) (whole-side mode (Some f.trailing)) (inside-decides ss (room - 1) no_keys [] (omega arith) (no-keys mode))))
+        (Decides-and (is_whole t) (inside_fits mode (room - 1) no_keys ss) (whole-side mode (Some f.trailing))
+        (inside-decides ss (room - 1) no_keys [] (omega arith) (no-keys mode))))
 
-    items-decide : (xs : Items) (room : ℕ) (is_first : Bool) → room ≤ 80 → Decides (items_fit mode room xs) (ItemsSuit mode xs × ElementsKeep room (elements_of mode xs is_first))
+    items-decide : (xs : Items) (room : ℕ) (is_first : Bool) → room ≤ 80
+        → Decides (items_fit mode room xs) (ItemsSuit mode xs × ElementsKeep room (elements_of mode xs is_first))
     items-decide no_items room is_first small = (λ h. (tt, (omega arith, refl)), λ h. refl)
     items-decide (item n xs) room is_first small =
         by_value (is_value_node n) (value-decides n room small) (λ b. items-decide xs room b small)
       where
         by_value : (b : Bool) → Decides (value_fits mode room n) (ValueFits room n)
             → ((c : Bool) → Decides (items_fit mode room xs) (ItemsSuit mode xs × ElementsKeep room (elements_of mode xs c)))
-            → Decides (elim b [ true ↦ element_fits mode (node_decor n) && value_fits mode room n | false ↦ true ] && items_fit mode room xs)
+            → Decides (elim b [ true ↦ element_fits mode (node_decor n) && value_fits mode room n | false ↦ true ]
+            && items_fit mode room xs)
             ((MatchBool b (ElementSuits mode n × Suits mode n) (Unit {0}) × ItemsSuit mode xs)
-            × ElementsKeep room (elim b [ true ↦ element (around_of mode is_first (node_decor n)) (value_of mode n) (elements_of mode xs false) | false ↦ elements_of mode xs is_first ]))
+            × ElementsKeep room (elim b [
+              | true ↦ element (around_of mode is_first (node_decor n)) (value_of mode n)
+                  (elements_of mode xs false)
+              | false ↦ elements_of mode xs is_first
+            ]))
         by_value true here more =
             let v = value_of mode n in
             let es = elements_of mode xs false in
             Decides-like ((element_fits mode (node_decor n) && value_fits mode room n) && items_fit mode room xs)
-            (λ h. let one : depth v ≤ room = h.0.1.1.0 in let two : elements_depth es ≤ room = h.1.1.0 in
-            (((h.0.0, h.0.1.0), h.1.0), (omega (arith, one, two), and_both (has_short_keys v) (elements_have_short_keys es) h.0.1.1.1 h.1.1.1)))
+            (λ h. let one : depth v ≤ room = h.0.1.1.0 in let two : elements_depth es ≤ room = h.1.1.0 in (
+              ((h.0.0, h.0.1.0), h.1.0),
+              (
+                omega (arith, one, two),
+                and_both (has_short_keys v) (elements_have_short_keys es) h.0.1.1.1 h.1.1.1,
+              ),
+            ))
             (λ h. let all : max (depth v) (elements_depth es) ≤ room = h.1.0 in (
               (h.0.0.0, (h.0.0.1, (omega (arith, all), and_left (has_short_keys v) (elements_have_short_keys es) h.1.1))),
               (h.0.1, (omega (arith, all), and_right (has_short_keys v) (elements_have_short_keys es) h.1.1)),
             ))
             (Decides-and (element_fits mode (node_decor n) && value_fits mode room n) (items_fit mode room xs)
             (Decides-and (element_fits mode (node_decor n)) (value_fits mode room n)
-            (Decides-and (is_whole (shown_prefix mode [] (node_decor n))) (is_whole (shown_suffix mode [] (node_decor n))) (whole-side mode (node_decor n).prefix) (whole-side mode (node_decor n).suffix)) here)
+            (Decides-and (is_whole (shown_prefix mode [] (node_decor n))) (is_whole (shown_suffix mode [] (node_decor n)))
+            (whole-side mode (node_decor n).prefix) (whole-side mode (node_decor n).suffix)) here)
             (more false))
         by_value false here more =
             Decides-like (items_fit mode room xs) (λ h. ((tt, h.0), h.1)) (λ h. (h.0.1, h.1)) (more is_first)
@@ -258,19 +297,31 @@ module _ (mode : Mode) where
         → Decides (inside_fits mode room r ss) (AllByRecursion (LineFits room) (inside_lines mode ss ks))
     inside-decides no_slots room r ks small is = (λ h. tt, λ h. refl)
     inside-decides (slot k n ss) room r ks small is =
-        by_line (is_line_node n) (value-decides n room small) (within-decides n room (then_key mode r k) (ks ++ one k) small (then-route mode r ks k is)) (inside-decides ss room r ks small is)
+        by_line (is_line_node n) (value-decides n room small) (within-decides n room (then_key mode r k) (ks
+        ++ one k) small (then-route mode r ks k is)) (inside-decides ss room r ks small is)
       where
         by_line : (b : Bool) → Decides (value_fits mode room n) (ValueFits room n)
             → Decides (within_fits mode room (then_key mode r k) n) (AllByRecursion (LineFits room) (lines_inside mode n (ks ++ one k)))
             → Decides (inside_fits mode room r ss) (AllByRecursion (LineFits room) (inside_lines mode ss ks))
-            → Decides (elim b [ true ↦ pair_fits mode room r k (node_decor n) && value_fits mode room n | false ↦ within_fits mode room (then_key mode r k) n ] && inside_fits mode room r ss)
-            (AllByRecursion (LineFits room) (elim b [ true ↦ line_of (ks ++ one k) n (value_of mode n) | false ↦ lines_inside mode n (ks ++ one k) ] ++ inside_lines mode ss ks))
+            → Decides (elim b [
+              | true ↦ pair_fits mode room r k (node_decor n) && value_fits mode room n
+              | false ↦
+                  within_fits mode room (then_key mode r k) n
+            ] && inside_fits mode room r ss)
+            (AllByRecursion (LineFits room) (elim b [
+              | true ↦ line_of (ks ++ one k) n (value_of mode n)
+              | false ↦
+                  lines_inside mode n (ks ++ one k)
+            ] ++ inside_lines mode ss ks))
         by_line true here below more =
-            both-lists (LineFits room) (pair_fits mode room r k (node_decor n) && value_fits mode room n) (inside_fits mode room r ss) (line_of (ks ++ one k) n (value_of mode n)) (inside_lines mode ss ks)
+            both-lists (LineFits room) (pair_fits mode room r k (node_decor n)
+            && value_fits mode room n) (inside_fits mode room r ss) (line_of (ks ++ one k) n (value_of mode n))
+            (inside_lines mode ss ks)
             (Decides-like (pair_fits mode room r k (node_decor n) && value_fits mode room n) (λ h. (h, tt)) (λ h. h.0)
             (Decides-and (pair_fits mode room r k (node_decor n)) (value_fits mode room n) (pair-decides mode room r ks k n is) here)) more
         by_line false here below more =
-            both-lists (LineFits room) (within_fits mode room (then_key mode r k) n) (inside_fits mode room r ss) (lines_inside mode n (ks ++ one k)) (inside_lines mode ss ks) below more
+            both-lists (LineFits room) (within_fits mode room (then_key mode r k) n) (inside_fits mode room r ss) (lines_inside mode n (ks
+            ++ one k)) (inside_lines mode ss ks) below more
 
     within-decides : (n : Node) (room : ℕ) (r : Route) (ks : List Key) → room ≤ 80 → IsRouteOf mode r ks
         → Decides (within_fits mode room r n) (AllByRecursion (LineFits room) (lines_inside mode n ks))
@@ -284,23 +335,37 @@ module _ (mode : Mode) where
   -- ---- lines of tables
 
   mutual
-    pub lines-decide : (ss : Slots) (r : Route) (ks : List Key) → IsRouteOf mode r ks → Decides (lines_fit mode r ss) (AllByRecursion (LineFits 80) (table_lines mode ss ks))
+    pub lines-decide : (ss : Slots) (r : Route) (ks : List Key) → IsRouteOf mode r ks
+        → Decides (lines_fit mode r ss) (AllByRecursion (LineFits 80) (table_lines mode ss ks))
     lines-decide no_slots r ks is = (λ h. tt, λ h. refl)
     lines-decide (slot k n ss) r ks is =
         by_line (is_line_node n) (dotted-decides n (then_key mode r k) (ks ++ one k) (then-route mode r ks k is)) (lines-decide ss r ks is)
       where
-        by_line : (b : Bool) → Decides (dotted_fits mode (then_key mode r k) n) (AllByRecursion (LineFits 80) (dotted_lines mode n (ks ++ one k)))
+        by_line : (b : Bool) → Decides (dotted_fits mode (then_key mode r k) n)
+            (AllByRecursion (LineFits 80) (dotted_lines mode n (ks ++ one k)))
             → Decides (lines_fit mode r ss) (AllByRecursion (LineFits 80) (table_lines mode ss ks))
-            → Decides (elim b [ true ↦ pair_fits mode 80 r k (node_decor n) && value_fits mode 80 n | false ↦ dotted_fits mode (then_key mode r k) n ] && lines_fit mode r ss)
-            (AllByRecursion (LineFits 80) (elim b [ true ↦ line_of (ks ++ one k) n (value_of mode n) | false ↦ dotted_lines mode n (ks ++ one k) ] ++ table_lines mode ss ks))
+            → Decides (elim b [
+              | true ↦ pair_fits mode 80 r k (node_decor n) && value_fits mode 80 n
+              | false ↦
+                  dotted_fits mode (then_key mode r k) n
+            ] && lines_fit mode r ss)
+            (AllByRecursion (LineFits 80) (elim b [
+              | true ↦ line_of (ks ++ one k) n (value_of mode n)
+              | false ↦
+                  dotted_lines mode n (ks ++ one k)
+            ] ++ table_lines mode ss ks))
         by_line true below more =
-            both-lists (LineFits 80) (pair_fits mode 80 r k (node_decor n) && value_fits mode 80 n) (lines_fit mode r ss) (line_of (ks ++ one k) n (value_of mode n)) (table_lines mode ss ks)
+            both-lists (LineFits 80) (pair_fits mode 80 r k (node_decor n)
+            && value_fits mode 80 n) (lines_fit mode r ss) (line_of (ks ++ one k) n (value_of mode n)) (table_lines mode ss ks)
             (Decides-like (pair_fits mode 80 r k (node_decor n) && value_fits mode 80 n) (λ h. (h, tt)) (λ h. h.0)
-            (Decides-and (pair_fits mode 80 r k (node_decor n)) (value_fits mode 80 n) (pair-decides mode 80 r ks k n is) (value-decides n 80 (omega arith)))) more
+            (Decides-and (pair_fits mode 80 r k (node_decor n)) (value_fits mode 80 n) (pair-decides mode 80 r ks k n is)
+            (value-decides n 80 (omega arith)))) more
         by_line false below more =
-            both-lists (LineFits 80) (dotted_fits mode (then_key mode r k) n) (lines_fit mode r ss) (dotted_lines mode n (ks ++ one k)) (table_lines mode ss ks) below more
+            both-lists (LineFits 80) (dotted_fits mode (then_key mode r k) n) (lines_fit mode r ss) (dotted_lines mode n (ks ++ one k))
+            (table_lines mode ss ks) below more
 
-    dotted-decides : (n : Node) (r : Route) (ks : List Key) → IsRouteOf mode r ks → Decides (dotted_fits mode r n) (AllByRecursion (LineFits 80) (dotted_lines mode n ks))
+    dotted-decides : (n : Node) (r : Route) (ks : List Key) → IsRouteOf mode r ks
+        → Decides (dotted_fits mode r n) (AllByRecursion (LineFits 80) (dotted_lines mode n ks))
     dotted-decides (table f ss) r ks is = by_dot f.is_dotted (lines-decide ss r ks is)
       where
         by_dot : (b : Bool) → Decides (lines_fit mode r ss) (AllByRecursion (LineFits 80) (table_lines mode ss ks))
@@ -325,14 +390,22 @@ module _ (mode : Mode) where
           and_both (is_short (segments mode l.keys)) (nat_le (depth l.value) 80 && has_short_keys l.value) (short.1 h.0.0)
               (and_both (nat_le (depth l.value) 80) (has_short_keys l.value) (le-leb (depth l.value) 80 h.1.1.0) h.1.1.1),
         ),
-        λ h. let others : (nat_le (depth l.value) 80 && has_short_keys l.value) ≡ true = and_right (is_short (segments mode l.keys)) (nat_le (depth l.value) 80 && has_short_keys l.value) h.1 in (
-          (short.0 (and_left (is_short (segments mode l.keys)) (nat_le (depth l.value) 80 && has_short_keys l.value) h.1), h.0.0),
-          (h.0.1, (leb-true (depth l.value) 80 (and_left (nat_le (depth l.value) 80) (has_short_keys l.value) others), and_right (nat_le (depth l.value) 80) (has_short_keys l.value) others)),
-        ),
+        λ h. let others : (nat_le (depth l.value) 80 && has_short_keys l.value) ≡ true =
+            and_right (is_short (segments mode l.keys)) (nat_le (depth l.value) 80 && has_short_keys l.value) h.1 in (
+              (short.0 (and_left (is_short (segments mode l.keys)) (nat_le (depth l.value) 80 && has_short_keys l.value) h.1), h.0.0),
+              (
+                h.0.1,
+                (
+                  leb-true (depth l.value) 80 (and_left (nat_le (depth l.value) 80) (has_short_keys l.value) others),
+                  and_right (nat_le (depth l.value) 80) (has_short_keys l.value) others,
+                ),
+              ),
+            ),
       )
 
   pub table-lines-decide : (ss : Slots) → Decides (lines_fit mode no_keys ss) (AllByRecursion PrintedLineFits (table_lines mode ss []))
   table-lines-decide ss =
       let ls = table_lines mode ss [] in
-      Decides-like (lines_fit mode no_keys ss) (all-map (LineFits 80) PrintedLineFits ls (λ l. (line-fits l).0)) (all-map PrintedLineFits (LineFits 80) ls (λ l. (line-fits l).1))
+      Decides-like (lines_fit mode no_keys ss) (all-map (LineFits 80) PrintedLineFits ls (λ l. (line-fits l).0))
+      (all-map PrintedLineFits (LineFits 80) ls (λ l. (line-fits l).1))
       (lines-decide ss no_keys [] (no-keys mode))

@@ -1,12 +1,14 @@
 -- The tests of trivia tell what they say.
-use Rattle.std.proofs.Common.{◌≡◌, refl, sym, ◌∙◌, ap, subst, ℕ, Bool, true, false, List, [], ◌∷◌, ◌++◌, ◌⊎◌, append_assoc, append-nil, Option, Some, None, inl, inr, arith, ◌≢◌}
+use Rattle.std.proofs.Common.{◌≡◌, refl, sym, ◌∙◌, ap, subst, ℕ, Bool, true, false, List, [], ◌∷◌, ◌++◌, ◌⊎◌, append_assoc, append-nil}
+use Rattle.std.proofs.Common.{Option, Some, None, inl, inr, arith, ◌≢◌}
 use Rattle.std.specs.Prelude.{◌&&◌, ◌||◌, ◌==◌, not, if◌then◌else◌, flat_map, is_some, Decides}
 use Rattle.std.specs.List.{list_all, AllByRecursion}
 use Rattle.std.proofs.lemmas.Bool.{cases_Bool}
 use Rattle.std.proofs.lemmas.Bool.Decides.{nat_tests, Decides-eqb}
 use Rattle.toml_edit_model.specs.Text.{Text, line_feed, hash, carriage_return, has_byte, without_returns}
 use Rattle.toml_edit_model.specs.Mode.{Mode, plain, exact, shown_text, ends_in_return, but_last, line_end}
-use Rattle.toml_edit_model.specs.Trivia.{is_blank, is_visible, Each, IsWhiteSpace, Newline, lf, crlf, newline_text, comment, Piece, blank, break, remark, piece_text, IsPiece, IsWholeTrivia, IsOpenComment, IsLineEnd, IsFinalTrivia}
+use Rattle.toml_edit_model.specs.Trivia.{is_blank, is_visible, Each, IsWhiteSpace, Newline, lf, crlf, newline_text, comment, Piece, blank}
+use Rattle.toml_edit_model.specs.Trivia.{break, remark, piece_text, IsPiece, IsWholeTrivia, IsOpenComment, IsLineEnd, IsFinalTrivia}
 use Rattle.toml_edit_model.specs.Fits.{EndsLine}
 use Rattle.toml_edit_laws.proofs.common.Tests.{and_left, and_right, and_both}
 use Rattle.toml_edit_fits.specs.TriviaTests.{starts_with_feed, open_after, is_closed, is_whole, is_final, ends_line_from, ends_line}
@@ -43,8 +45,13 @@ to-end (c ∷ t) h =
           ([], c ∷ t, refl, inr (t, sym (ends-comment t) ∙ g, ap (λ d. d ∷ t) ((Decides-eqb c hash).0 e)), refl)
       | inr e ↦
           let g : (is_blank c && ends_line_from false t) ≡ true = rw e at h in
-          let more = to-end t (and_right (is_blank c) (ends_line_from false t) g) in
-          (c ∷ more.0, more.1, and_both (is_blank c) (list_all is_blank more.0) (and_left (is_blank c) (ends_line_from false t) g) more.2, more.3, ap (λ u. c ∷ u) more.4)
+          let more = to-end t (and_right (is_blank c) (ends_line_from false t) g) in (
+            c ∷ more.0,
+            more.1,
+            and_both (is_blank c) (list_all is_blank more.0) (and_left (is_blank c) (ends_line_from false t) g) more.2,
+            more.3,
+            ap (λ u. c ∷ u) more.4,
+          )
     ]
 
 from-open : (t : Text) → IsOpenComment t → ends_line_from false t ≡ true
@@ -78,11 +85,13 @@ remark-first c t h (body, rest, n, visible, (ps, each, e), is) =
       remark body n ∷ ps,
       (visible, each),
       ap (λ d. d ∷ t) same
-          ∙ ap (λ u. hash ∷ u) (is ∙ ap (λ u. body ++ (newline_text n ++ u)) e ∙ sym (append_assoc body (newline_text n) (flat_map piece_text ps))),
+          ∙ ap (λ u. hash ∷ u) (is ∙ ap (λ u. body ++ (newline_text n ++ u)) e
+          ∙ sym (append_assoc body (newline_text n) (flat_map piece_text ps))),
     )
 
 one-visible : (P : Text → Type 0) (c : ℕ) (t : Text) → is_visible c ≡ true → Commented P t → Commented P (c ∷ t)
-one-visible P c t h (body, rest, n, each, p, e) = (c ∷ body, rest, n, and_both (is_visible c) (list_all is_visible body) h each, p, ap (λ u. c ∷ u) e)
+one-visible P c t h (body, rest, n, each, p, e) =
+    (c ∷ body, rest, n, and_both (is_visible c) (list_all is_visible body) h each, p, ap (λ u. c ∷ u) e)
 
 -- What holds of the empty text, and of a text with one more byte or newline, holds where the test has this answer.
 module _ (answers : Option Bool → Bool) (P : Bool → Text → Type 0) (none : answers None ≡ true → ⊥)
@@ -104,7 +113,8 @@ module _ (answers : Option Bool → Bool) (P : Bool → Text → Type 0) (none :
       by_blank true e g = at_blank c t e (ih false g)
       by_blank false e g = absurd (none g)
 
-      by_hash : (x : Bool) → (c == hash) ≡ x → answers (if x then open_after true t else if is_blank c then open_after false t else None) ≡ true → P false (c ∷ t)
+      by_hash : (x : Bool) → (c == hash) ≡ x → answers (if x then open_after true t else if is_blank c then open_after false t else None)
+          ≡ true → P false (c ∷ t)
       by_hash true e g = at_hash c t e (ih true g)
       by_hash false e g = by_blank (is_blank c) refl g
 
@@ -112,29 +122,34 @@ module _ (answers : Option Bool → Bool) (P : Bool → Text → Type 0) (none :
       by_visible true e g = at_visible c t e (ih true g)
       by_visible false e g = absurd (none g)
 
-      by_open : (d : Bool) → answers (if d then (if is_visible c then open_after true t else None) else if c == hash then open_after true t else if is_blank c then open_after false t else None) ≡ true
+      by_open : (d : Bool) → answers (if d then (if is_visible c then open_after true t else None) else if c == hash then open_after true t
+          else if is_blank c then open_after false t else None) ≡ true
           → P d (c ∷ t)
       by_open true g = by_visible (is_visible c) refl g
       by_open false g = by_hash (c == hash) refl g
 
-      returned : (u : Text) → BehindFirst u → (starts_with_feed u && c == carriage_return) ≡ true → answers (open_after b u) ≡ true → P b (c ∷ u)
+      returned : (u : Text) → BehindFirst u → (starts_with_feed u && c == carriage_return) ≡ true → answers (open_after b u) ≡ true
+          → P b (c ∷ u)
       returned [] more e g = absurd cc
       returned (d ∷ u) more e g =
           let feed : (d == line_feed) ≡ true = and_left (d == line_feed) (c == carriage_return) e in
           let first : c ≡ carriage_return = (Decides-eqb c carriage_return).0 (and_right (d == line_feed) (c == carriage_return) e) in
           let second : d ≡ line_feed = (Decides-eqb d line_feed).0 feed in
           let rest : answers (open_after false u) ≡ true = rw feed at g in
-          subst (λ a. P b (a ∷ d ∷ u)) (sym first) (subst (λ a. P b (carriage_return ∷ a ∷ u)) (sym second) (at_newline b crlf u (more rest)))
+          subst (λ a. P b (a ∷ d ∷ u)) (sym first) (subst (λ a. P b (carriage_return ∷ a ∷ u)) (sym second)
+          (at_newline b crlf u (more rest)))
 
       by_return : (x : Bool) → (starts_with_feed t && c == carriage_return) ≡ x
-          → answers (if x then open_after b t else if b then (if is_visible c then open_after true t else None) else if c == hash then open_after true t else if is_blank c then open_after false t else None) ≡ true
+          → answers (if x then open_after b t else if b then (if is_visible c then open_after true t else None) else if c == hash
+          then open_after true t else if is_blank c then open_after false t else None) ≡ true
           → P b (c ∷ t)
       by_return true e g = returned t behind e g
       by_return false e g = by_open b g
 
       by_feed : (x : Bool) → (c == line_feed) ≡ x
           → answers (if x then open_after false t else if starts_with_feed t && c == carriage_return then open_after b t
-          else if b then (if is_visible c then open_after true t else None) else if c == hash then open_after true t else if is_blank c then open_after false t else None) ≡ true
+          else if b then (if is_visible c then open_after true t else None) else if c == hash then open_after true t else if is_blank c
+          then open_after false t else None) ≡ true
           → P b (c ∷ t)
       by_feed true e g = subst (λ a. P b (a ∷ t)) (sym ((Decides-eqb c line_feed).0 e)) (at_newline b lf t (ih false g))
       by_feed false e g = by_return (starts_with_feed t && c == carriage_return) refl g
@@ -151,7 +166,8 @@ Whole false t = IsWholeTrivia t
 Whole true t = Commented IsWholeTrivia t
 
 to-whole : (b : Bool) (t : Text) → is_closed (open_after b t) ≡ true → Whole b t
-to-whole b t h = along is_closed Whole (λ e. cc) at_end at_newline (λ c u e w. one-visible IsWholeTrivia c u e w) remark-first blank-first b t h
+to-whole b t h = along is_closed Whole (λ e. cc) at_end at_newline (λ c u e w. one-visible IsWholeTrivia c u e w) remark-first blank-first b
+    t h
   where
     at_end : (b : Bool) → is_closed (Some b) ≡ true → Whole b []
     at_end false e = ([], tt, refl)
@@ -181,7 +197,8 @@ opened-hash c t h (inr (body, rest, n, visible, (whole, last, w, v, e), is)) = (
   last,
   remark-first c (body ++ (newline_text n ++ whole)) h (body, whole, n, visible, w, refl),
   v,
-  ap (λ u. c ∷ u) (is ∙ ap (λ u. body ++ (newline_text n ++ u)) e ∙ ap (λ u. body ++ u) (sym (append_assoc (newline_text n) whole (comment last)))
+  ap (λ u. c ∷ u) (is ∙ ap (λ u. body ++ (newline_text n ++ u)) e
+      ∙ ap (λ u. body ++ u) (sym (append_assoc (newline_text n) whole (comment last)))
       ∙ sym (append_assoc body (newline_text n ++ whole) (comment last))),
 )
 
@@ -193,8 +210,14 @@ to-open b t h = along ends_open Open (λ e. cc) at_end at_newline at_visible ope
     at_end true e = inl refl
 
     opened-newline : (n : Newline) (u : Text) → Opened u → Opened (newline_text n ++ u)
-    opened-newline n u (whole, body, w, v, e) =
-        (newline_text n ++ whole, body, newline-first n whole w, v, ap (λ x. newline_text n ++ x) e ∙ sym (append_assoc (newline_text n) whole (comment body)))
+    opened-newline n u (whole, body, w, v, e) = (
+      newline_text n ++ whole,
+      body,
+      newline-first n whole w,
+      v,
+      ap (λ x. newline_text n ++ x) e
+          ∙ sym (append_assoc (newline_text n) whole (comment body)),
+    )
 
     at_newline : (b : Bool) (n : Newline) (u : Text) → Open false u → Open b (newline_text n ++ u)
     at_newline false n u p = opened-newline n u p
@@ -215,11 +238,14 @@ through-newline b crlf t = refl
 
 -- a byte that is no line feed and no carriage return, before any text
 no-newline : (b : Bool) (c : ℕ) (t : Text) → (c == line_feed) ≡ false → (c == carriage_return) ≡ false
-    → open_after b (c ∷ t) ≡ (if b then (if is_visible c then open_after true t else None) else if c == hash then open_after true t else if is_blank c then open_after false t else None)
+    → open_after b (c ∷ t) ≡ (if b then (if is_visible c then open_after true t else None) else if c == hash then open_after true t
+    else if is_blank c then open_after false t else None)
 no-newline b c t h g = rw (h, g) (by_feed (starts_with_feed t))
   where
-    by_feed : (x : Bool) → (if x && false then open_after b t else if b then (if is_visible c then open_after true t else None) else if c == hash then open_after true t else if is_blank c then open_after false t else None)
-        ≡ (if b then (if is_visible c then open_after true t else None) else if c == hash then open_after true t else if is_blank c then open_after false t else None)
+    by_feed : (x : Bool) → (if x && false then open_after b t else if b then (if is_visible c then open_after true t else None)
+        else if c == hash then open_after true t else if is_blank c then open_after false t else None)
+        ≡ (if b then (if is_visible c then open_after true t else None) else if c == hash then open_after true t else if is_blank c
+        then open_after false t else None)
     by_feed true = refl
     by_feed false = refl
 
@@ -240,9 +266,11 @@ through-piece (blank c) t h =
     ∙ ap (λ x. if x then open_after false t else None) h
 through-piece (break n) t h = through-newline false n t
 through-piece (remark body n) t h =
-    through-hash (body ++ newline_text n ++ t) ∙ ap (open_after true) (append_assoc body (newline_text n) t) ∙ through-comment body (newline_text n ++ t) h ∙ through-newline true n t
+    through-hash (body ++ newline_text n ++ t) ∙ ap (open_after true) (append_assoc body (newline_text n) t)
+    ∙ through-comment body (newline_text n ++ t) h ∙ through-newline true n t
 
-through-pieces : (ps : List Piece) (t : Text) → AllByRecursion IsPiece ps → open_after false (flat_map piece_text ps ++ t) ≡ open_after false t
+through-pieces : (ps : List Piece) (t : Text) → AllByRecursion IsPiece ps → open_after false (flat_map piece_text ps ++ t)
+    ≡ open_after false t
 through-pieces [] t h = refl
 through-pieces (p ∷ ps) t h =
     ap (open_after false) (append_assoc (piece_text p) (flat_map piece_text ps) t)
@@ -254,12 +282,17 @@ through-whole s t (ps, each, e) = ap (λ u. open_after false (u ++ t)) e ∙ thr
 -- ---- what the tests tell
 
 pub whole-decides : (t : Text) → Decides (is_whole t) (IsWholeTrivia t)
-whole-decides t = (to-whole false t, λ h. ap (λ u. is_closed (open_after false u)) (sym (append-nil t)) ∙ ap is_closed (through-whole t [] h))
+whole-decides t = (
+  to-whole false t,
+  λ h. ap (λ u. is_closed (open_after false u)) (sym (append-nil t))
+      ∙ ap is_closed (through-whole t [] h),
+)
 
 comment-open : (t : Text) → IsOpenComment t → is_some (open_after false t) ≡ true
 comment-open t (inl e) = ap (λ u. is_some (open_after false u)) e
 comment-open t (inr (body, v, e)) =
-    ap (λ u. is_some (open_after false u)) e ∙ ap is_some (through-hash body) ∙ ap (λ u. is_some (open_after true u)) (sym (append-nil body)) ∙ ap is_some (through-comment body [] v)
+    ap (λ u. is_some (open_after false u)) e ∙ ap is_some (through-hash body)
+    ∙ ap (λ u. is_some (open_after true u)) (sym (append-nil body)) ∙ ap is_some (through-comment body [] v)
 
 to-final : (t : Text) → is_final t ≡ true → IsFinalTrivia t
 to-final t h = by_end (open_after false t) refl h
@@ -304,24 +337,30 @@ ends-is b (c ∷ t) = by_feed b (c == line_feed) (starts_with_feed t && c == car
 
     -- no newline ends a line
     returned : (b : Bool) (u : Text) → (starts_with_feed u && c == carriage_return) ≡ true
-        → (if b then is_visible c && ends_line_from true u else if c == hash then ends_line_from true u else is_blank c && ends_line_from false u)
+        → (if b then is_visible c && ends_line_from true u else if c == hash then ends_line_from true u else is_blank c
+        && ends_line_from false u)
         ≡ (not (has_byte line_feed u) && is_some (open_after b u))
     returned b [] e = absurd cc
     returned b (d ∷ u) e =
         let first : c ≡ carriage_return = (Decides-eqb c carriage_return).0 (and_right (d == line_feed) (c == carriage_return) e) in
-        ap (λ a. if b then is_visible a && ends_line_from true (d ∷ u) else if a == hash then ends_line_from true (d ∷ u) else is_blank a && ends_line_from false (d ∷ u)) first
-        ∙ by_open b ∙ ap (λ x. not (x || has_byte line_feed u) && is_some (open_after b (d ∷ u))) (sym (and_left (d == line_feed) (c == carriage_return) e))
+        ap (λ a. if b then is_visible a && ends_line_from true (d ∷ u) else if a == hash then ends_line_from true (d ∷ u) else is_blank a
+        && ends_line_from false (d ∷ u)) first
+        ∙ by_open b ∙ ap (λ x. not (x || has_byte line_feed u)
+        && is_some (open_after b (d ∷ u))) (sym (and_left (d == line_feed) (c == carriage_return) e))
       where
         by_open : (b : Bool) → (if b then is_visible carriage_return && ends_line_from true (d ∷ u)
-            else if carriage_return == hash then ends_line_from true (d ∷ u) else is_blank carriage_return && ends_line_from false (d ∷ u)) ≡ false
+            else if carriage_return == hash then ends_line_from true (d ∷ u) else is_blank carriage_return && ends_line_from false (d ∷ u))
+            ≡ false
         by_open true = refl
         by_open false = refl
 
     by_feed : (b x r : Bool) → (c == line_feed) ≡ x → (starts_with_feed t && c == carriage_return) ≡ r
         → ((d : Bool) → ends_line_from d t ≡ (not (has_byte line_feed t) && is_some (open_after d t)))
-        → (if b then is_visible c && ends_line_from true t else if c == hash then ends_line_from true t else is_blank c && ends_line_from false t)
+        → (if b then is_visible c && ends_line_from true t else if c == hash then ends_line_from true t else is_blank c
+        && ends_line_from false t)
         ≡ (not (x || has_byte line_feed t) && is_some (if x then open_after false t else if r then open_after b t
-        else if b then (if is_visible c then open_after true t else None) else if c == hash then open_after true t else if is_blank c then open_after false t else None))
+        else if b then (if is_visible c then open_after true t else None) else if c == hash then open_after true t else if is_blank c
+        then open_after false t else None))
     by_feed true true r e g ih = ap (λ y. y && ends_line_from true t) (visible-no_feed c e)
     by_feed false true r e g ih =
         let same : c ≡ line_feed = (Decides-eqb c line_feed).0 e in

@@ -1,5 +1,6 @@
 -- The tests of lines and values tell what they say.
-use Rattle.std.proofs.Common.{◌≡◌, refl, sym, ◌∙◌, ap, subst, ℕ, suc, ◌-◌, ◌<◌, ◌≤◌, Bool, true, false, List, [], ◌∷◌, ◌++◌, length, Option, Some, None, arith}
+use Rattle.std.proofs.Common.{◌≡◌, refl, sym, ◌∙◌, ap, subst, ℕ, suc, ◌-◌, ◌<◌, ◌≤◌, Bool, true, false, List, [], ◌∷◌, ◌++◌, length, Option}
+use Rattle.std.proofs.Common.{Some, None, arith}
 use Rattle.std.specs.Prelude.{◌&&◌, ◌||◌, ◌==◌, ◌↔◌, nat_lt, if◌then◌else◌, MatchBool, Decides}
 use Rattle.std.specs.List.{AllByRecursion}
 use Rattle.std.proofs.lemmas.Bool.{eq-eqb, ne_eqb, or_left}
@@ -56,7 +57,8 @@ module _ (mode : Mode) where
   EndsRoute [] k = Unit {0}
   EndsRoute (j ∷ ks) k = IsWhiteSpace (dot_prefix mode k)
 
-  after-spaced : (ks : List Key) (k : Key) → AllByRecursion IsSpacedSegment (segments_after mode (ks ++ one k)) ↔ (AllByRecursion IsSpacedKey ks × IsWhiteSpace (dot_prefix mode k))
+  after-spaced : (ks : List Key) (k : Key) → AllByRecursion IsSpacedSegment (segments_after mode (ks ++ one k))
+      ↔ (AllByRecursion IsSpacedKey ks × IsWhiteSpace (dot_prefix mode k))
   after-spaced [] k = (λ h. (tt, h.0.0), λ h. ((h.1, refl), tt))
   after-spaced (j ∷ []) k = (λ h. ((h.0, tt), h.1.0.0), λ h. (h.0.0, ((h.1, refl), tt)))
   after-spaced (j ∷ i ∷ ks) k =
@@ -89,11 +91,13 @@ module _ (mode : Mode) where
   abbrev pub IsFitPath : List Key → Type 0
   IsFitPath ks = (length ks ≤ 80) × AreSpaced ks
 
-  ends-decides : (r : Route) (ks : List Key) (k : Key) → r.room ≡ 80 - length ks → Decides (r.room == nesting_limit || is_white (dot_prefix mode k)) (EndsRoute ks k)
+  ends-decides : (r : Route) (ks : List Key) (k : Key) → r.room ≡ 80 - length ks
+      → Decides (r.room == nesting_limit || is_white (dot_prefix mode k)) (EndsRoute ks k)
   ends-decides r [] k e = (λ h. tt, λ h. or_left (r.room == nesting_limit) (is_white (dot_prefix mode k)) (eq-eqb r.room 80 e))
   ends-decides r (j ∷ ks) k e =
       let other : (r.room == nesting_limit) ≡ false = ne_eqb r.room 80 (λ g. absurd (omega (arith, e, g))) in
-      Decides-at (r.room == nesting_limit || is_white (dot_prefix mode k)) (is_white (dot_prefix mode k)) (ap (λ b. b || is_white (dot_prefix mode k)) other) (white-decides (dot_prefix mode k))
+      Decides-at (r.room == nesting_limit || is_white (dot_prefix mode k)) (is_white (dot_prefix mode k)) (ap (λ b. b
+      || is_white (dot_prefix mode k)) other) (white-decides (dot_prefix mode k))
 
   pub key-decides : (r : Route) (ks : List Key) (k : Key) → IsRouteOf r ks → Decides (key_fits mode r k) (IsFitPath (ks ++ one k))
   key-decides r ks k is =
@@ -131,7 +135,8 @@ module _ (mode : Mode) where
       by_room true = end-decides mode (shown_suffix mode [] d)
       by_room false = whole-side d.suffix
 
-  white-at : (default : Text) (r : Option Raw) → is_white (shown_side mode default r) ≡ is_white (shown_side mode [] r) → Decides (is_white (shown_side mode [] r)) (IsWhiteSpace (shown_side mode default r))
+  white-at : (default : Text) (r : Option Raw) → is_white (shown_side mode default r) ≡ is_white (shown_side mode [] r)
+      → Decides (is_white (shown_side mode [] r)) (IsWhiteSpace (shown_side mode default r))
   white-at default r e = (λ h. e ∙ h, λ h. sym e ∙ h)
 
   pub pair-decides : (room : ℕ) (r : Route) (ks : List Key) (k : Key) (n : Node) → IsRouteOf r ks
@@ -161,6 +166,9 @@ module _ (mode : Mode) where
         ),
       ))
       (Decides-and (key_fits mode r k) _ (key-decides r ks k is)
-      (Decides-and (is_whole (shown_prefix mode [] k.leaf) && is_white (shown_suffix mode [] k.leaf)) (is_white (shown_prefix mode [] d) && may_follow mode room d)
-      (Decides-and (is_whole (shown_prefix mode [] k.leaf)) (is_white (shown_suffix mode [] k.leaf)) (whole-side k.leaf.prefix) (white-at one_space k.leaf.suffix (white-default k.leaf.suffix)))
-      (Decides-and (is_white (shown_prefix mode [] d)) (may_follow mode room d) (white-at one_space d.prefix (white-default d.prefix)) (follow-decides room d))))
+      (Decides-and (is_whole (shown_prefix mode [] k.leaf) && is_white (shown_suffix mode [] k.leaf)) (is_white (shown_prefix mode [] d)
+      && may_follow mode room d)
+      (Decides-and (is_whole (shown_prefix mode [] k.leaf)) (is_white (shown_suffix mode [] k.leaf)) (whole-side k.leaf.prefix)
+      (white-at one_space k.leaf.suffix (white-default k.leaf.suffix)))
+      (Decides-and (is_white (shown_prefix mode [] d)) (may_follow mode room d) (white-at one_space d.prefix (white-default d.prefix))
+      (follow-decides room d))))

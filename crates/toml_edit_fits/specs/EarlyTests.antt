@@ -3,7 +3,8 @@
 use Rattle.std.specs.Prelude.{ℕ, suc, ℤ, Bool, true, false, not, ◌&&◌, ◌||◌, if◌then◌else◌, List, [], ◌++◌, Option, None}
 use Rattle.std.specs.Fmt.{decimal}
 use Rattle.toml_edit_model.specs.Mode.{Mode}
-use Rattle.toml_edit_model.specs.Tree.{TableFields, Node, nothing, leaf, list, inline, table, tables, Items, no_items, item, Slots, no_slots, slot, Tree}
+use Rattle.toml_edit_model.specs.Tree.{TableFields, Node, nothing, leaf, list, inline, table, tables, Items, no_items, item, Slots}
+use Rattle.toml_edit_model.specs.Tree.{no_slots, slot, Tree}
 use Rattle.toml_edit_laws.specs.PrintByVisits.{has_own_header}
 use Rattle.toml_edit_fits.specs.declared.misfit.FitRule.TheVariants as rule
 use Rattle.toml_edit_fits.specs.declared.order.Marks.{Marks}

@@ -3,7 +3,8 @@
 use Rattle.std.specs.Prelude.{ℕ, ◌-◌, Bool, true, false, not, ◌&&◌, ◌||◌, ◌==◌, nat_lt, if◌then◌else◌, []}
 use Rattle.toml_edit_model.specs.Mode.{Mode}
 use Rattle.toml_edit_model.specs.Syntax.{nesting_limit}
-use Rattle.toml_edit_model.specs.Tree.{Raw, Decor, Key, TableFields, Node, nothing, leaf, list, inline, table, tables, Items, no_items, item, Slots, no_slots, slot, Tree, shown_prefix, shown_suffix, shown_raw, node_decor, is_value_node}
+use Rattle.toml_edit_model.specs.Tree.{Raw, Decor, Key, TableFields, Node, nothing, leaf, list, inline, table, tables, Items, no_items}
+use Rattle.toml_edit_model.specs.Tree.{item, Slots, no_slots, slot, Tree, shown_prefix, shown_suffix, shown_raw, node_decor, is_value_node}
 use Rattle.toml_edit_model.specs.Print.{dot_prefix, dot_suffix, is_line_node}
 use Rattle.toml_edit_laws.specs.PrintByVisits.{has_own_header, holds_newline}
 use Rattle.toml_edit_fits.specs.declared.route.Route.{Route}

@@ -1,7 +1,9 @@
 -- Whether the headers of elements are in order, found in one walk over the tables (TOML 1.1.0,
 -- "Array of Tables").
-use Rattle.std.specs.Prelude.{◌≡◌, ℤ, Bool, true, false, not, ◌&&◌, ◌||◌, int_le, if◌then◌else◌, Option, None, Some, unwrap_or, option_and_then, option_map}
-use Rattle.toml_edit_model.specs.Tree.{TableFields, Node, nothing, leaf, list, inline, table, tables, Items, no_items, item, Slots, no_slots, slot, has_key}
+use Rattle.std.specs.Prelude.{◌≡◌, ℤ, Bool, true, false, not, ◌&&◌, ◌||◌, int_le, if◌then◌else◌, Option, None, Some, unwrap_or}
+use Rattle.std.specs.Prelude.{option_and_then, option_map}
+use Rattle.toml_edit_model.specs.Tree.{TableFields, Node, nothing, leaf, list, inline, table, tables, Items, no_items, item, Slots}
+use Rattle.toml_edit_model.specs.Tree.{no_slots, slot, has_key}
 use Rattle.toml_edit_laws.specs.PrintByVisits.{has_own_header, root_place}
 use Rattle.toml_edit_fits.specs.declared.order.Marks.{Marks}
 

@@ -26,12 +26,14 @@ one-slot : (t : Text) (x : Node) (ss : Slots) → slot_list ss ≡ inserted t x 
 one-slot t x ss e = sym (slots_from-list ss) ∙ ap slots_from e
 
 -- a table of these fields, after an insertion where there were no slots
-pub table-one : (f : TableFields) (t : Text) (x : Node) (v : TableView) → v.fields ≡ f → slot_list v.slots ≡ inserted t x [] → table_node v ≡ table_of_one f t x
+pub table-one : (f : TableFields) (t : Text) (x : Node) (v : TableView) → v.fields ≡ f → slot_list v.slots ≡ inserted t x [] → table_node v
+    ≡ table_of_one f t x
 table-one f t x v fields slots =
     let ss = one-slot t x v.slots slots in
     λ i. table (fields i) (ss i)
 
-pub inline-one : (f : InlineFields) (t : Text) (x : Node) (v : InlineView) → v.fields ≡ f → slot_list v.slots ≡ inserted t x [] → inline_node v ≡ inline_of_one f t x
+pub inline-one : (f : InlineFields) (t : Text) (x : Node) (v : InlineView) → v.fields ≡ f → slot_list v.slots ≡ inserted t x []
+    → inline_node v ≡ inline_of_one f t x
 inline-one f t x v fields slots =
     let ss = one-slot t x v.slots slots in
     λ i. inline (fields i) (ss i)
@@ -39,7 +41,8 @@ inline-one f t x v fields slots =
 -- ---- strings and dependencies
 
 -- a new array with these strings
-pub array-all : (ts : List Text) (v : ArrayView) → v.fields ≡ new_array → item_list v.items ≡ map string_value ts → array_node v ≡ array_of ts
+pub array-all : (ts : List Text) (v : ArrayView) → v.fields ≡ new_array → item_list v.items ≡ map string_value ts → array_node v
+    ≡ array_of ts
 array-all ts v fields items =
     let xs : v.items ≡ items_from (map string_value ts) = sym (items_from-list v.items) ∙ ap items_from items in
     λ i. list (fields i) (xs i)

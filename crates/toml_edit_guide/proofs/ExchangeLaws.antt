@@ -24,10 +24,21 @@ pub told : (text name key x out : Text) (t u : Tree) → ((mode : Mode) → Edit
     → HasExchanged text name key x out
 told text name key x out t u law r (root, trailing, (mid, (s, f, ss, there, s-is, less), (new, more))) print back =
     let n : Node = leaf (string x) None unset in
-    let rest : slot_list (slots_from (without name (slot_list t.slots))) ≡ mid = slot_list-from (without name (slot_list t.slots)) ∙ sym less in
+    let rest : slot_list (slots_from (without name (slot_list t.slots))) ≡ mid = slot_list-from (without name (slot_list t.slots))
+    ∙ sym less in
     let a : AllApply plain (exchanging name key x) t = (
       (root_visit t, s, refl, there),
-      ((root_visit (record t { slots = slots_from (without name (slot_list t.slots)) }), refl, ap (lookup_slot key) rest ∙ new, refl, refl, (tt, (tt, tt))), tt),
+      (
+        (
+          root_visit (record t { slots = slots_from (without name (slot_list t.slots)) }),
+          refl,
+          ap (lookup_slot key) rest ∙ new,
+          refl,
+          refl,
+          (tt, (tt, tt)),
+        ),
+        tt,
+      ),
     ) in
     let local = law plain (exchanging name key x) t r.tree.made (r.tree.steady plain) a in
     let slots : slots_from (slot_list (slots_from (without name (slot_list t.slots))) ++ one (keyed (new_key key) n)) ≡ u.slots =

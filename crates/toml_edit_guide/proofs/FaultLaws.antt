@@ -35,7 +35,8 @@ passed-on r e P h p =
 
 -- ---- a value that is set
 
-pub refusal-set : (text name key value : Text) (p : parsing.ParseFault) → IfToml p (IsRefusal text) → SetFails text name key value (parsing_fault p)
+pub refusal-set : (text name key value : Text) (p : parsing.ParseFault) → IfToml p (IsRefusal text)
+    → SetFails text name key value (parsing_fault p)
 refusal-set text name key value (parsings.Toml r) h = h
 refusal-set text name key value parsings.Memory h = tt
 
@@ -49,7 +50,8 @@ unfit-set text name key value t u r s Present h = absurd h
 
 -- ---- a table and a key that are exchanged
 
-pub refusal-exchange : (text name key value : Text) (p : parsing.ParseFault) → IfToml p (IsRefusal text) → ExchangeFails text name key value (parsing_fault p)
+pub refusal-exchange : (text name key value : Text) (p : parsing.ParseFault) → IfToml p (IsRefusal text)
+    → ExchangeFails text name key value (parsing_fault p)
 refusal-exchange text name key value (parsings.Toml r) h = h
 refusal-exchange text name key value parsings.Memory h = tt
 
@@ -61,7 +63,8 @@ stays-exchange text name key value t r Present h = (t, r, h)
 stays-exchange text name key value t r (Toml x) h = absurd h
 stays-exchange text name key value t r Unfit h = absurd h
 
-pub unfit-exchange : (text name key value : Text) (t u : Tree) → IsOwnedReading text t → ExchangesInTree name key (leaf (string value) None unset) t u
+pub unfit-exchange : (text name key value : Text) (t u : Tree) → IsOwnedReading text t
+    → ExchangesInTree name key (leaf (string value) None unset) t u
     → (e : EditFault) → FailsToFit (FitsIn plain u) e → ExchangeFails text name key value e
 unfit-exchange text name key value t u r s Unfit h = (t, u, r, s, h)
 unfit-exchange text name key value t u r s Memory h = tt

@@ -1,5 +1,6 @@
 -- The values of an array that gets a line.
-use Rattle.std.proofs.Common.{◌≡◌, ℕ, zero, suc, ◌-◌, ◌<◌, ◌==◌, ◌++◌, Bor, codes, drop, get_or, subst, MatchOption, List, [], ◌∷◌, Option, Some, None, ap, sym, refl, ◌∙◌, inl, inr, arith, length, if◌then◌else◌}
+use Rattle.std.proofs.Common.{◌≡◌, ℕ, zero, suc, ◌-◌, ◌<◌, ◌==◌, ◌++◌, Bor, codes, drop, get_or, subst, MatchOption, List, [], ◌∷◌, Option}
+use Rattle.std.proofs.Common.{Some, None, ap, sym, refl, ◌∙◌, inl, inr, arith, length, if◌then◌else◌}
 use Rattle.std.proofs.lemmas.Bool.{cases_Bool, eqb-true}
 use Rattle.std.proofs.lemmas.Option.{none-some, same_Some}
 use Rattle.std.proofs.lemmas.Str.{len_utf8_ascii}
@@ -21,7 +22,8 @@ value-is x n e =
     ]
 
 -- the value at the place without its suffix
-pub suffix-written : (xs : List Node) (i : ℕ) (n : Node) → value_at i xs ≡ Some n → written_at i (without_suffix n) xs ≡ changed_at i without_suffix xs
+pub suffix-written : (xs : List Node) (i : ℕ) (n : Node) → value_at i xs ≡ Some n → written_at i (without_suffix n) xs
+    ≡ changed_at i without_suffix xs
 suffix-written [] i n e = refl
 suffix-written (x ∷ xs) zero n e = ap (λ y. without_suffix y ∷ xs) (sym (value-is x n e))
 suffix-written (x ∷ xs) (suc i) n e = ap (λ l. x ∷ l) (suffix-written xs i n e)
@@ -61,7 +63,8 @@ none-after (b ∷ t) h =
       | inr other ↦ rw other refl
     ])
 
-some-after : (t : Text) (i : ℕ) → i < length t → get_or t i 0 ≡ 10 → ((k : ℕ) → k < length (drop (suc i) t) → get_or (drop (suc i) t) k 0 ≡ 10 → ⊥)
+some-after : (t : Text) (i : ℕ) → i < length t → get_or t i 0 ≡ 10
+    → ((k : ℕ) → k < length (drop (suc i) t) → get_or (drop (suc i) t) k 0 ≡ 10 → ⊥)
     → after_newline t ≡ Some (drop (suc i) t)
 some-after [] i l e h = absurd (omega arith)
 some-after (b ∷ t) zero l e h = rw (none-after t h, e) refl
@@ -74,5 +77,6 @@ indent-is t None h = rw (none-after t (λ k l e. NoCharPasses-char 10 t k h (ome
 indent-is t (Some x) (i, j, found, front, back, le, at, long) =
     let next : j ≡ suc i = omega (arith, found.1.ends, len_utf8_ascii 10 (omega arith)) in
     let after = some-after t i (omega arith) (found.1.byte (omega arith))
-    (λ k l e. NoCharPasses-char 10 (drop (suc i) t) k (subst (λ n. NoCharPasses (λ d. d == 10) (drop n t)) next found.0) (omega arith) l e) in
+    (λ k l e. NoCharPasses-char 10 (drop (suc i) t) k (subst (λ n. NoCharPasses (λ d. d == 10) (drop n t)) next found.0) (omega arith) l
+    e) in
     rw after (back ∙ ap (λ n. drop n t) next)

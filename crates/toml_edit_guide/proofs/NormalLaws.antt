@@ -25,7 +25,8 @@ use Rattle.toml_edit_guide.specs.Faults.{FailsToFit, parsing_fault}
 use Rattle.toml_edit_guide.specs.Normals.{IsNormalized, IsReloaded}
 
 -- the normal text of a text that was read is its own, by whatever cut
-pub normalized : (text out : Text) (t : Tree) → ((mode : Mode) → NormalTexts mode) → OneCut → (r : IsOwnedReading text t) → out ≡ print_in plain false t
+pub normalized : (text out : Text) (t : Tree) → ((mode : Mode) → NormalTexts mode) → OneCut → (r : IsOwnedReading text t) → out
+    ≡ print_in plain false t
     → IsNormalized text out
 normalized text out t law one r print =
     let d = r.document in
@@ -63,21 +64,26 @@ same-through : (fs gs hs : List Fact) → SameFacts fs gs → SameFacts gs hs �
 same-through fs gs hs a b = λ f. (λ h. (b f).0 ((a f).0 h), λ h. (a f).1 ((b f).1 h))
 
 -- and is read as what is shown
-pub reloaded : (mode : Mode) (is_open : Bool) (t u : Tree) (text : Text) → ((mode : Mode) → PrintIsCut mode) → ((mode : Mode) → PrintsMeanWhatIsShown mode)
-    → FitsIn mode t → SlotsAreWellMade t.slots → text ≡ print_in mode is_open t → IsOwnedReading text u → IsReloaded (print_in mode is_open t) t u
+pub reloaded : (mode : Mode) (is_open : Bool) (t u : Tree) (text : Text) → ((mode : Mode) → PrintIsCut mode)
+    → ((mode : Mode) → PrintsMeanWhatIsShown mode)
+    → FitsIn mode t → SlotsAreWellMade t.slots → text ≡ print_in mode is_open t → IsOwnedReading text u
+    → IsReloaded (print_in mode is_open t) t u
 reloaded mode is_open t u text cut means fits made is r =
     let x : IsOwnedReading (print_in mode is_open t) u = subst (λ s. IsOwnedReading s u) is r in
     let fitting : IsFitting mode t = record { made = made; fits = fits } in
     let same : document_in mode is_open t ≡ x.document = x.only (document_in mode is_open t) (cut mode is_open t fitting).0 in
-    let shown : SameFacts (meaning x.document) (shown_meaning t) = subst (λ (d : Document). SameFacts (meaning d) (shown_meaning t)) same (means mode is_open t fitting) in
+    let shown : SameFacts (meaning x.document) (shown_meaning t) =
+    subst (λ (d : Document). SameFacts (meaning d) (shown_meaning t)) same (means mode is_open t fitting) in
     record { reading = x; meaning = same-through (shown_meaning u) (meaning x.document) (shown_meaning t) x.meaning shown }
 
 -- what was printed of a tree that fits is read, and never refused
 pub never-refused : (N : Type 0) (mode : Mode) (is_open : Bool) (t : Tree) (text : Text) (p : parsing.ParseFault)
-    → ((mode : Mode) → PrintIsCut mode) → ((mode : Mode) → PrintAgrees mode) → FitsIn mode t → ∥ SlotsAreWellMade t.slots ∥₁ → text ≡ print_in mode is_open t
+    → ((mode : Mode) → PrintIsCut mode) → ((mode : Mode) → PrintAgrees mode) → FitsIn mode t → ∥ SlotsAreWellMade t.slots ∥₁ → text
+    ≡ print_in mode is_open t
     → ((d : Document) → AcceptedAs text d → IsOk (failed p) ⊎ IsErrOf (failed p) parsings.Memory)
     → FailsToFit N (parsing_fault p)
 never-refused N mode is_open t text parsings.Memory cut agree fits made is every = tt
 never-refused N mode is_open t text (parsings.Toml r) cut agree fits made is every =
     absurd (∥∥₁_elim made (λ x y. absurd x)
-    (λ w. refuted r (every (document_in mode is_open t) (subst (λ s. AcceptedAs s (document_in mode is_open t)) (sym is) (print-accepted mode is_open t cut agree fits w)))))
+    (λ w. refuted r (every (document_in mode is_open t)
+    (subst (λ s. AcceptedAs s (document_in mode is_open t)) (sym is) (print-accepted mode is_open t cut agree fits w)))))

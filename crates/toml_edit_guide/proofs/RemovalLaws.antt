@@ -16,7 +16,8 @@ slot-of (Some s) h = (s, refl)
 slot-of None h = absurd cc
 
 pub told : (text name out : Text) (t : Tree) → ((mode : Mode) → Removed mode) → (r : IsOwnedReading text t)
-    → is_some (lookup name (slot_list t.slots)) ≡ true → out ≡ print_in plain false (without_key name t) → MeansWhatIsShown plain false (without_key name t)
+    → is_some (lookup name (slot_list t.slots)) ≡ true → out ≡ print_in plain false (without_key name t)
+    → MeansWhatIsShown plain false (without_key name t)
     → HasKeyRemoved text name out
 told text name out t law r there print back =
     let s = slot-of (lookup_slot name (slot_list t.slots)) there in

@@ -23,7 +23,8 @@ pub view-Table : (t : Table) → item_view (items.Table t) ≡ table_node (table
 view-Table t = search (rules, the_lemmas)
 
 -- another decor is seen as one
-decorated-open : (d : Decor) (o : Value-F Item Value Array ArrayOfTables InlineTable Table) → value_view (decorated_open d o) ≡ with_decor d (value_view (roll-Value o))
+decorated-open : (d : Decor) (o : Value-F Item Value Array ArrayOfTables InlineTable Table) → value_view (decorated_open d o)
+    ≡ with_decor d (value_view (roll-Value o))
 decorated-open d (Value-F.String f) = search (rules, the_lemmas)
 decorated-open d (Value-F.Integer f) = search (rules, the_lemmas)
 decorated-open d (Value-F.Float f) = search (rules, the_lemmas)

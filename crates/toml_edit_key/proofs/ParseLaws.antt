@@ -1,5 +1,6 @@
 -- What is known of a text once that it was read as a path, or was not.
-use Rattle.std.proofs.Common.{◌≡◌, ℕ, ◌≤◌, ◌++◌, true, false, List, length, Some, None, Result, Ok, Err, refl, sym, ap, subst, ◌∙◌, inl, inr, arith, rules, length-append}
+use Rattle.std.proofs.Common.{◌≡◌, ℕ, ◌≤◌, ◌++◌, true, false, List, length, Some, None, Result, Ok, Err, refl, sym, ap, subst, ◌∙◌, inl}
+use Rattle.std.proofs.Common.{inr, arith, rules, length-append}
 use Rattle.std.specs.Prelude.{IfOk, IfErr, MatchResult, Contains}
 use Rattle.std.proofs.lemmas.Bool.{false≢true}
 use Rattle.std.proofs.lemmas.Bool.Decides.{nat_tests}
@@ -20,13 +21,16 @@ use Rattle.toml_edit_key.proofs.PathLaws.{IsPathText, lone_takes, lone_again, lo
 -- ---- a path, and how long it is
 
 of_lone : (t before : Text) (p : List Segment) (after : Text) → IsLonePath t before p after → IsPathText t before p after
-of_lone t before p after l = record { parts = l.parts; path = l.path; spaced = l.spaced; white_before = l.white_before; white_after = l.white_after }
+of_lone t before p after l =
+    record { parts = l.parts; path = l.path; spaced = l.spaced; white_before = l.white_before; white_after = l.white_after }
 
 of_long : (t before : Text) (p : List Segment) (after : Text) → IsLongPath t before p after → IsPathText t before p after
-of_long t before p after l = record { parts = l.parts; path = l.path; spaced = l.spaced; white_before = l.white_before; white_after = l.white_after }
+of_long t before p after l =
+    record { parts = l.parts; path = l.path; spaced = l.spaced; white_before = l.white_before; white_after = l.white_after }
 
 -- the keys that were read are those of every path of the text
-pub same_keys : (t : Text) (ks : List Key) (before : Text) (p : List Segment) (after : Text) → lone_at t ≡ Some ks → IsPathText t before p after → ks ≡ lone_keys before p after
+pub same_keys : (t : Text) (ks : List Key) (before : Text) (p : List Segment) (after : Text) → lone_at t ≡ Some ks
+    → IsPathText t before p after → ks ≡ lone_keys before p after
 same_keys t ks before p after read is = same_Some ks (lone_keys before p after) (sym read ∙ lone_again t before p after is)
 
 -- ---- what was read
@@ -34,10 +38,24 @@ same_keys t ks before p after read is = same_Some ks (lone_keys before p after) 
 read_lone : (t : Text) (ks : List Key) → lone_at t ≡ Some ks → length ks ≤ nesting_limit → AreLoneKeys t ks
 read_lone t ks read few =
     let (before, p, after, is, same) = lone_takes t ks read in
-    let short : is_short p ≡ true = grind (arith, nat_tests, ap length same, lone_length before p after) in
-    (before, p, after, record { parts = is.parts; path = is.path; spaced = is.spaced; white_before = is.white_before; white_after = is.white_after; short = short }, same)
+    let short : is_short p ≡ true = grind (arith, nat_tests, ap length same, lone_length before p after) in (
+      before,
+      p,
+      after,
+      record {
+        parts = is.parts;
+        path = is.path;
+        spaced = is.spaced;
+        white_before = is.white_before;
+        white_after =
+            is.white_after;
+        short = short;
+      },
+      same,
+    )
 
-read_not_long : (t : Text) (ks : List Key) → lone_at t ≡ Some ks → length ks ≤ nesting_limit → (before : Text) (p : List Segment) (after : Text) → IsLongPath t before p after → ⊥
+read_not_long : (t : Text) (ks : List Key) → lone_at t ≡ Some ks → length ks ≤ nesting_limit
+    → (before : Text) (p : List Segment) (after : Text) → IsLongPath t before p after → ⊥
 read_not_long t ks read few before p after l =
     let same = same_keys t ks before p after read (of_long t before p after l) in
     let short : is_short p ≡ true = grind (arith, nat_tests, ap length same, lone_length before p after) in
@@ -54,8 +72,20 @@ read_not_lone t (ks, read, many) before p after l =
 read_long : (t : Text) → ReadsLong t → (before : Text) × (p : List Segment) × (after : Text) × IsLongPath t before p after
 read_long t (ks, read, many) =
     let (before, p, after, is, same) = lone_takes t ks read in
-    let long : is_short p ≡ false = grind (arith, nat_tests, ap length same, lone_length before p after) in
-    (before, p, after, record { parts = is.parts; path = is.path; spaced = is.spaced; white_before = is.white_before; white_after = is.white_after; long = long })
+    let long : is_short p ≡ false = grind (arith, nat_tests, ap length same, lone_length before p after) in (
+      before,
+      p,
+      after,
+      record {
+        parts = is.parts;
+        path = is.path;
+        spaced = is.spaced;
+        white_before = is.white_before;
+        white_after =
+            is.white_after;
+        long = long;
+      },
+    )
 
 -- ---- what was not read
 
@@ -131,7 +161,8 @@ went_on t tail Memory on h = tt
 -- ---- errors
 
 -- an error with one of the messages, and a span
-pub marked : (t m : Text) (s : ℕ × ℕ) (e : ParseFault) → Contains syntax_messages m → IfToml e (λ r. r ≡ record { message = m; span = Some s; input = t })
+pub marked : (t m : Text) (s : ℕ × ℕ) (e : ParseFault) → Contains syntax_messages m
+    → IfToml e (λ r. r ≡ record { message = m; span = Some s; input = t })
     → IfToml e (IsMisread t)
 marked t m s (Toml r) is h = subst (IsMisread t) (sym h) (record { message = is; span = search rules }, refl)
 marked t m s Memory is h = tt

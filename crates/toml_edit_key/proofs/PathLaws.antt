@@ -1,5 +1,6 @@
 -- What reads as a lone path is one, and a lone path is read again.
-use Rattle.std.proofs.Common.{◌≡◌, ℕ, zero, suc, ◌<◌, true, false, ◌==◌, List, [], ◌∷◌, ◌++◌, length, drop, Option, Some, refl, sym, ap, subst, ◌∙◌, inl, inr, arith, append_assoc, append-nil}
+use Rattle.std.proofs.Common.{◌≡◌, ℕ, zero, suc, ◌<◌, true, false, ◌==◌, List, [], ◌∷◌, ◌++◌, length, drop, Option, Some, refl, sym, ap}
+use Rattle.std.proofs.Common.{subst, ◌∙◌, inl, inr, arith, append_assoc, append-nil}
 use Rattle.std.specs.Prelude.{if◌then◌else◌, option_map, option_and_then}
 use Rattle.std.specs.List.{AllByRecursion, list_all}
 use Rattle.std.proofs.lemmas.Bool.{and_parts, false≢true}
@@ -95,7 +96,8 @@ keys_step n before gap t = refl
 
 -- the last segment
 last_of : (before gap t : Text) (p : (Text × Text) × Text) (ks : List Key) → SpellsKey p.0.0 p.0.1 → t ≡ p.0.1 ++ p.1 → IsWhiteSpace gap
-    → is_empty (split_while is_blank p.1).1 ≡ true → path_key (outer before (split_while is_blank p.1).0) (segment gap p.0 []) ∷ [] ≡ ks → PathOf before gap t ks
+    → is_empty (split_while is_blank p.1).1 ≡ true → path_key (outer before (split_while is_blank p.1).0) (segment gap p.0 []) ∷ [] ≡ ks
+    → PathOf before gap t ks
 last_of before gap t p ks spells parts blank none same =
     let white = split_while is_blank p.1 in
     let rest : p.1 ≡ white.0 = split_parts is_blank p.1 ∙ ap (λ (x : Text). white.0 ++ x) (empty_is white.1 none) ∙ append-nil white.0 in
@@ -113,7 +115,8 @@ last_of before gap t p ks spells parts blank none same =
     }
 
 -- another segment
-next_of : (before gap t tail : Text) (p : (Text × Text) × Text) (ks more : List Key) → SpellsKey p.0.0 p.0.1 → t ≡ p.0.1 ++ p.1 → IsWhiteSpace gap
+next_of : (before gap t tail : Text) (p : (Text × Text) × Text) (ks more : List Key) → SpellsKey p.0.0 p.0.1 → t ≡ p.0.1 ++ p.1
+    → IsWhiteSpace gap
     → (split_while is_blank p.1).1 ≡ 0x2E ∷ tail → path_key unset (segment gap p.0 (split_while is_blank p.1).0) ∷ more ≡ ks
     → PathOf before (split_while is_blank tail).0 (split_while is_blank tail).1 more → PathOf before gap t ks
 next_of before gap t tail p ks more spells parts blank dot same l =
@@ -146,12 +149,15 @@ keys_take (suc n) before gap t ks blank e =
     elim (chosen (is_empty white.1) _ _ (Some ks) h) [
       | inl (none, g) ↦ last_of before gap t p ks spells parts blank none cc
       | inr (some, g) ↦
-          let (tail, dotted, f) = bind_some (after_dot white.1) (λ tail. let next = split_while is_blank tail in option_map (λ ks. path_key unset (segment gap p.0 white.0) ∷ ks) (keys_at n before next.0 next.1)) ks g in
+          let (tail, dotted, f) =
+          bind_some (after_dot white.1) (λ tail. let next = split_while is_blank tail in
+          option_map (λ ks. path_key unset (segment gap p.0 white.0) ∷ ks) (keys_at n before next.0 next.1)) ks g in
           let (dot, dropped) = guard_some (first white.1 == 0x2E) (drop 1 white.1) tail dotted in
           let next = split_while is_blank tail in
           let (more, read, same) = map_some (keys_at n before next.0 next.1) (λ ks. path_key unset (segment gap p.0 white.0) ∷ ks) ks f in
           let here : white.1 ≡ 0x2E ∷ tail = starts white.1 0x2E dot (omega arith) ∙ ap (λ (x : Text). 0x2E ∷ x) dropped in
-          next_of before gap t tail p ks more spells parts blank here same (keys_take n before next.0 next.1 more (Each-run is_blank tail) read)
+          next_of before gap t tail p ks more spells parts blank here same
+          (keys_take n before next.0 next.1 more (Each-run is_blank tail) read)
     ]
 
 -- ---- what is read again
@@ -180,10 +186,12 @@ more_ends [] (c ∷ cs) white =
 more_ends (r ∷ more) after white = refl
 
 -- the segment at the front
-front_again : (s : Segment) (rest : Text) → SpellsKey s.key s.spelled → ends_key rest ≡ true → front_key (s.spelled ++ rest) ≡ Some ((s.key, s.spelled), rest)
+front_again : (s : Segment) (rest : Text) → SpellsKey s.key s.spelled → ends_key rest ≡ true → front_key (s.spelled ++ rest)
+    ≡ Some ((s.key, s.spelled), rest)
 unfolding front_key
 front_again s rest spells stop =
-    rw (key_again s.key s.spelled rest spells stop) (ap (λ (x : Text). Some ((s.key, x), rest)) (front_of (s.spelled ++ rest) s.spelled rest refl))
+    rw (key_again s.key s.spelled rest spells stop) (ap (λ (x : Text). Some ((s.key, x), rest)) (front_of (s.spelled
+    ++ rest) s.spelled rest refl))
 
 split_all : (b : Text) → IsWhiteSpace b → split_while is_blank b ≡ (b, [])
 split_all b each = ap (split_while is_blank) (sym (append-nil b)) ∙ split_while-run is_blank b [] each refl
@@ -201,7 +209,8 @@ last_again n before after s spells bare white =
     ∙ ap (λ (x : Text). Some (path_key (outer before after) (segment s.before (s.key, s.spelled) x) ∷ [])) (sym none)
 
 -- a segment before a dot
-next_again : (n : ℕ) (before : Text) (s : Segment) → IsSpelledSegment s → IsWhiteSpace s.after → (gap t : Text) (ks : List Key) → IsWhiteSpace gap
+next_again : (n : ℕ) (before : Text) (s : Segment) → IsSpelledSegment s → IsWhiteSpace s.after → (gap t : Text) (ks : List Key)
+    → IsWhiteSpace gap
     → is_blank (first t) ≡ false → keys_at n before gap t ≡ Some ks
     → keys_at (suc n) before s.before (s.spelled ++ (s.after ++ (0x2E ∷ (gap ++ t)))) ≡ Some (path_key unset s ∷ ks)
 next_again n before s spells white gap t ks blank stop read =
@@ -209,11 +218,13 @@ next_again n before s spells white gap t ks blank stop read =
     keys_step n before s.before (s.spelled ++ (s.after ++ (0x2E ∷ (gap ++ t))))
     ∙ ap (option_and_then (Step n before s.before)) found
     ∙ ap (StepAt n before s.before (s.key, s.spelled)) (split_while-run is_blank s.after (0x2E ∷ (gap ++ t)) white refl)
-    ∙ ap (λ (w : Text × Text). option_map (λ ks. path_key unset s ∷ ks) (keys_at n before w.0 w.1)) (split_while-run is_blank gap t blank stop)
+    ∙ ap (λ (w : Text × Text). option_map (λ ks. path_key unset s ∷ ks) (keys_at n before w.0 w.1))
+    (split_while-run is_blank gap t blank stop)
     ∙ ap (option_map (λ ks. path_key unset s ∷ ks)) read
 
 pub keys_again : (n : ℕ) (before after : Text) (s : Segment) (more : List Segment) → length (tail_text s more after) < n
-    → AllByRecursion IsSpelledSegment (s ∷ more) → AllByRecursion IsSpacedSegment (s ∷ more) → ends_unspaced (s ∷ more) ≡ true → IsWhiteSpace after
+    → AllByRecursion IsSpelledSegment (s ∷ more) → AllByRecursion IsSpacedSegment (s ∷ more) → ends_unspaced (s ∷ more) ≡ true
+    → IsWhiteSpace after
     → keys_at n before s.before (tail_text s more after) ≡ Some (lone_keys before (s ∷ more) after)
 keys_again zero before after s more room spelled spaced ends white = absurd (omega (arith, room))
 keys_again (suc n) before after s [] room spelled spaced ends white = last_again n before after s spelled.0 ends white
@@ -224,7 +235,8 @@ keys_again (suc n) before after s (r ∷ more) room spelled spaced ends white =
     let inner = length-append r.before rest in
     let less : length rest < n = omega (arith, room, whole, behind, inner) in
     next_again n before s spelled.0 spaced.0.1 r.before rest (lone_keys before (r ∷ more) after) spaced.1.0.0
-    (key_first r.key r.spelled (r.after ++ more_text more after) spelled.1.0) (keys_again n before after r more less spelled.1 spaced.1 ends white)
+    (key_first r.key r.spelled (r.after ++ more_text more after) spelled.1.0)
+    (keys_again n before after r more less spelled.1 spaced.1 ends white)
 
 -- ---- whole texts
 
@@ -236,7 +248,8 @@ lone_takes t ks e =
     let l = keys_take (suc (length white.1)) white.0 [] white.1 ks refl e in
     let whole : t ≡ white.0 ++ (path_text (l.head ∷ l.more) ++ l.after) =
     split_parts is_blank t
-    ∙ ap (λ (x : Text). white.0 ++ x) (l.parts ∙ ap (λ (x : Text). x ++ tail_text l.head l.more l.after) (sym l.begins) ∙ sym (path_tail l.head l.more l.after)) in (
+    ∙ ap (λ (x : Text). white.0 ++ x) (l.parts ∙ ap (λ (x : Text). x ++ tail_text l.head l.more l.after) (sym l.begins)
+    ∙ sym (path_tail l.head l.more l.after)) in (
       white.0,
       l.head ∷ l.more,
       l.after,
@@ -250,15 +263,18 @@ lone_takes t ks e =
       l.keys,
     )
 
-pub lone_again : (t before : Text) (p : List Segment) (after : Text) → IsPathText t before p after → lone_at t ≡ Some (lone_keys before p after)
+pub lone_again : (t before : Text) (p : List Segment) (after : Text) → IsPathText t before p after → lone_at t
+    ≡ Some (lone_keys before p after)
 unfolding lone_at
 lone_again t before [] after is = absurd (false≢true is.path.begins)
 lone_again t before (s ∷ more) after is =
     let rest = tail_text s more after in
     let none : s.before ≡ [] = empty_is s.before is.path.begins in
-    let whole : t ≡ before ++ rest = is.parts ∙ ap (λ (x : Text). before ++ x) (path_tail s more after ∙ ap (λ (x : Text). x ++ rest) none) in
+    let whole : t ≡ before ++ rest =
+    is.parts ∙ ap (λ (x : Text). before ++ x) (path_tail s more after ∙ ap (λ (x : Text). x ++ rest) none) in
     let stop : is_blank (first rest) ≡ false = key_first s.key s.spelled (s.after ++ more_text more after) is.path.spelled.0 in
-    let cut : split_while is_blank t ≡ (before, rest) = ap (split_while is_blank) whole ∙ split_while-run is_blank before rest is.white_before stop in
+    let cut : split_while is_blank t ≡ (before, rest) = ap (split_while is_blank) whole
+    ∙ split_while-run is_blank before rest is.white_before stop in
     ap (λ (w : Text × Text). keys_at (suc (length w.1)) w.0 [] w.1) cut
     ∙ ap (λ (x : Text). keys_at (suc (length rest)) before x rest) (sym none)
     ∙ keys_again (suc (length rest)) before after s more (omega arith) is.path.spelled is.spaced is.path.ends is.white_after

@@ -1,5 +1,6 @@
 -- Reading a lone path from left to right, as the keys that it is made into.
-use Rattle.std.specs.Prelude.{◌≡◌, ◌<◌, ◌++◌, ℕ, zero, suc, ◌-◌, ◌==◌, if◌then◌else◌, List, [], ◌∷◌, length, take, drop, Option, Some, None, option_map, option_and_then}
+use Rattle.std.specs.Prelude.{◌≡◌, ◌<◌, ◌++◌, ℕ, zero, suc, ◌-◌, ◌==◌, if◌then◌else◌, List, [], ◌∷◌, length, take, drop, Option, Some, None}
+use Rattle.std.specs.Prelude.{option_map, option_and_then}
 use Rattle.toml_edit_model.specs.Text.{Text, is_empty}
 use Rattle.toml_edit_model.specs.Trivia.{is_blank}
 use Rattle.toml_edit_model.specs.Syntax.{Segment}

@@ -22,8 +22,8 @@ use std::fmt::{Formatter, Write};
 use std::hash::{Hash, Hasher};
 use std::marker::Model;
 use std::ops::Range;
+use toml_edit_io::{Printed, Sink, print, show};
 use toml_edit_repr::{Decor, Mem, RawString, Repr, clone_spelling, despan_spelling, spelling_text};
-use toml_edit_stream::{Printed, Sink, print, show};
 use toml_edit_token::put_key;
 
 mod parse;
@@ -438,7 +438,7 @@ impl Hash for Key {
 ///     key.leaf_decor_mut().set_prefix(comment);
 /// ```
 ///
-/// From `comments` of the crate `toml_edit_tests`.
+/// From `comments` of the crate `test_calls`.
 #[derive(Debug, Drop)]
 pub struct KeyMut<'k> {
     name: &'k str,

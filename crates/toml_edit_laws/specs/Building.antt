@@ -1,11 +1,13 @@
 -- Building the slots of a document's root, statement by statement: what is kept between statements,
 -- and what each statement does. `StandsBefore` and `IsRefusedBy` are what a parser keeps up in its
 -- loop, and says where it refuses.
-use Rattle.std.specs.Prelude.{◌≡◌, ℕ, suc, ◌+◌, ◌-◌, Bool, true, false, not, List, [], ◌∷◌, ◌++◌, length, map, flat_map, Contains, Option, Some, None, is_some, option_map, option_and_then}
+use Rattle.std.specs.Prelude.{◌≡◌, ℕ, suc, ◌+◌, ◌-◌, Bool, true, false, not, List, [], ◌∷◌, ◌++◌, length, map, flat_map, Contains, Option}
+use Rattle.std.specs.Prelude.{Some, None, is_some, option_map, option_and_then}
 use Rattle.toml_edit_model.specs.Mode.{Mode, with_return}
 use Rattle.toml_edit_model.specs.Text.{Text, one, is_empty}
 use Rattle.toml_edit_model.specs.Syntax.{Statement, key_line, header, Document, IsDocument, statement_text, mark_text, document_text}
-use Rattle.toml_edit_model.specs.Paths.{at_key, at_element, Path, Mention, Source, Placed, Context, line_mentions, header_mentions, header_role_of, path_start, source_of, mentions_of, start_context, context_after, placed_from}
+use Rattle.toml_edit_model.specs.Paths.{at_key, at_element, Path, Mention, Source, Placed, Context, line_mentions, header_mentions}
+use Rattle.toml_edit_model.specs.Paths.{header_role_of, path_start, source_of, mentions_of, start_context, context_after, placed_from}
 use Rattle.toml_edit_model.specs.Accepted.{is_accepted, IsFirstFaulty}
 use Rattle.toml_edit_model.specs.Faults.{Fault, own_faults, faults_in, IsFirstFault}
 use Rattle.toml_edit_model.specs.Tree.{Node, table, tables, Items, no_items, item, Slots, no_slots, Tree}

@@ -11,7 +11,8 @@ use Rattle.toml_edit_model.specs.Fits.{is_steady_in}
 use Rattle.toml_edit_model.specs.Slots.{Slot, keyed, on_item, lookup_slot, changed, without}
 use Rattle.toml_edit_model.specs.Lists.{slot_list, on_items}
 use Rattle.toml_edit_model.specs.ArrayCalls.{removed_at}
-use Rattle.toml_edit_laws.specs.Locality.{Turn, into_element, Leads, root_visit, edited, is_plain_value, is_at_or_below, statements, has_block, outside, OneChanges, OneMore, StaysSteady, IsWellMadeSlot}
+use Rattle.toml_edit_laws.specs.Locality.{Turn, into_element, Leads, root_visit, edited, is_plain_value, is_at_or_below, statements}
+use Rattle.toml_edit_laws.specs.Locality.{has_block, outside, OneChanges, OneMore, StaysSteady, IsWellMadeSlot}
 
 -- ---- edits
 

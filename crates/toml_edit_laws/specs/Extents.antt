@@ -3,7 +3,8 @@ use Rattle.std.specs.Prelude.{◌≤◌, length, Some, None}
 use Rattle.toml_edit_model.specs.Mode.{Mode}
 use Rattle.toml_edit_model.specs.Text.{Text}
 use Rattle.toml_edit_model.specs.Syntax.{Document, document_text}
-use Rattle.toml_edit_model.specs.Tree.{Extent, Node, nothing, leaf, list, inline, table, tables, Items, no_items, item, Slots, no_slots, slot, Tree}
+use Rattle.toml_edit_model.specs.Tree.{Extent, Node, nothing, leaf, list, inline, table, tables, Items, no_items, item, Slots, no_slots}
+use Rattle.toml_edit_model.specs.Tree.{slot, Tree}
 use Rattle.toml_edit_model.specs.TreeOf.{spanned_in, IsTreeOf}
 
 -- both ends do

@@ -2,7 +2,8 @@
 use Rattle.std.specs.Prelude.{◌≡◌, ◌≢◌, ◌⊎◌, ◌↔◌, ℕ, ◌+◌, ◌*◌, ◌<◌, true, [], ◌++◌, codes, Option, Some, None}
 use Rattle.toml_edit_model.specs.Text.{Text}
 use Rattle.toml_edit_model.specs.Scalars.{Offset, zulu, shift, Datetime, datetime, is_absent_or, is_real_date, is_real_time}
-use Rattle.toml_edit_model.specs.Spelling.{Sign, unsigned, signed, sign_text, clock_text, SpellsOffset, SpellsDatetime, offset_clock, is_real_offset, is_in_range}
+use Rattle.toml_edit_model.specs.Spelling.{Sign, unsigned, signed, sign_text, clock_text, SpellsOffset, SpellsDatetime, offset_clock}
+use Rattle.toml_edit_model.specs.Spelling.{is_real_offset, is_in_range}
 
 -- `Z`, `z`, or a sign and `hh:mm`, the hours and minutes of a day
 abbrev pub SpellsRealOffset : Offset → Text → Type 0

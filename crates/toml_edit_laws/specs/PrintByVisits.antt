@@ -1,11 +1,15 @@
 -- The print of a tree, piece by piece in the order in which it is written, over the tables that one
 -- walk collects (TOML 1.1.0, "Key/Value Pair" to "Array of Tables").
-use Rattle.std.specs.Prelude.{◌≡◌, ℤ, pos, Bool, true, false, not, ◌&&◌, ◌||◌, int_le, if◌then◌else◌, List, [], ◌∷◌, ◌++◌, Option, None, Some, unwrap_or, codes}
+use Rattle.std.specs.Prelude.{◌≡◌, ℤ, pos, Bool, true, false, not, ◌&&◌, ◌||◌, int_le, if◌then◌else◌, List, [], ◌∷◌, ◌++◌, Option, None}
+use Rattle.std.specs.Prelude.{Some, unwrap_or, codes}
 use Rattle.toml_edit_model.specs.Mode.{Mode}
 use Rattle.toml_edit_model.specs.Text.{Text, newline, is_empty, has_byte, line_feed}
 use Rattle.toml_edit_model.specs.Syntax.{comma_text, opening_brackets, closing_brackets, path_text}
-use Rattle.toml_edit_model.specs.Tree.{Decor, Key, TableFields, Node, nothing, leaf, list, inline, table, tables, Items, no_items, item, Slots, no_slots, slot, Tree, shown_prefix, shown_suffix, shown_raw, scalar_text, key_text, node_decor, is_value_node}
-use Rattle.toml_edit_model.specs.Print.{one_space, dot_prefix, dot_suffix, last_leaf, segments, element_default, header_default, is_line_node, root_prefix, root_suffix, print_in}
+use Rattle.toml_edit_model.specs.Tree.{Decor, Key, TableFields, Node, nothing, leaf, list, inline, table, tables, Items, no_items, item}
+use Rattle.toml_edit_model.specs.Tree.{Slots, no_slots, slot, Tree, shown_prefix, shown_suffix, shown_raw, scalar_text, key_text}
+use Rattle.toml_edit_model.specs.Tree.{node_decor, is_value_node}
+use Rattle.toml_edit_model.specs.Print.{one_space, dot_prefix, dot_suffix, last_leaf, segments, element_default, header_default}
+use Rattle.toml_edit_model.specs.Print.{is_line_node, root_prefix, root_suffix, print_in}
 use Rattle.toml_edit_model.specs.Order.{sorted_by}
 
 -- ---- commas, and whether there are lines

@@ -9,7 +9,8 @@ use Rattle.toml_edit_model.specs.Syntax.{Document, IsDocument, IsCut}
 use Rattle.toml_edit_model.specs.Accepted.{is_accepted, AcceptedAs}
 use Rattle.toml_edit_model.specs.Meaning.{SameFacts, meaning}
 use Rattle.toml_edit_model.specs.Shown.{shown_meaning}
-use Rattle.toml_edit_model.specs.Tree.{Raw, owned, span, Node, nothing, leaf, list, inline, table, tables, Items, no_items, item, Slots, no_slots, slot, Tree}
+use Rattle.toml_edit_model.specs.Tree.{Raw, owned, span, Node, nothing, leaf, list, inline, table, tables, Items, no_items, item, Slots}
+use Rattle.toml_edit_model.specs.Tree.{no_slots, slot, Tree}
 use Rattle.toml_edit_model.specs.TreeOf.{Form, spanned_in, owned_in, IsTreeOf}
 use Rattle.toml_edit_model.specs.OwnedForm.{cut_out, owned_tree, RawFits, IsOver}
 

@@ -1,11 +1,13 @@
 -- How statements are added, one after another, to the slots of a document's tables, and where one
 -- can't be (TOML 1.1.0, "Keys", "Table" and "Array of Tables"). At the end all this by numbered
 -- paths, which only proofs cite.
-use Rattle.std.specs.Prelude.{ℕ, zero, suc, ◌+◌, Bool, true, false, not, ◌&&◌, if◌then◌else◌, List, [], ◌∷◌, Option, Some, None, option_map, option_and_then}
+use Rattle.std.specs.Prelude.{ℕ, zero, suc, ◌+◌, Bool, true, false, not, ◌&&◌, if◌then◌else◌, List, [], ◌∷◌, Option, Some, None, option_map}
+use Rattle.std.specs.Prelude.{option_and_then}
 use Rattle.toml_edit_model.specs.Mode.{Mode}
 use Rattle.toml_edit_model.specs.Text.{Text, same_text}
 use Rattle.toml_edit_model.specs.Syntax.{Statement, key_line, header}
-use Rattle.toml_edit_model.specs.Paths.{at_key, at_element, Path, Mention, Source, Context, line_mentions, header_mentions, header_role_of, source_of, path_start}
+use Rattle.toml_edit_model.specs.Paths.{at_key, at_element, Path, Mention, Source, Context, line_mentions, header_mentions, header_role_of}
+use Rattle.toml_edit_model.specs.Paths.{source_of, path_start}
 use Rattle.toml_edit_model.specs.Tree.{Extent, Node, table, tables, Items, no_items, item, Slots, no_slots, slot}
 use Rattle.toml_edit_model.specs.TreeOf.{spanned_in, key_at, key_extent, made_by_path, header_fields, brackets_from, brackets_to}
 use Rattle.toml_edit_laws.specs.FlatTree.{with_slot}

@@ -1,14 +1,21 @@
 -- A test that all texts of the grammar pass: a text that fails it has no cut.
-use Rattle.std.specs.Prelude.{◌≡◌, refl, ◌⊎◌, ◌≤◌, ◌<◌, ℕ, zero, suc, ◌+◌, Bool, true, false, ◌||◌, ◌==◌, List, [], ◌∷◌, ◌++◌, length, map, codes}
+use Rattle.std.specs.Prelude.{◌≡◌, refl, ◌⊎◌, ◌≤◌, ◌<◌, ℕ, zero, suc, ◌+◌, Bool, true, false, ◌||◌, ◌==◌, List, [], ◌∷◌, ◌++◌, length, map}
+use Rattle.std.specs.Prelude.{codes}
 use Rattle.std.proofs.Common.{sym, ap, subst, ◌∙◌, append_assoc, append-nil, inl, inr, arith}
 use Rattle.std.specs.List.{list_all, AllByRecursion}
 use Rattle.std.proofs.lemmas.Bool.{false≢true}
 use Rattle.std.proofs.lemmas.List.{length-append}
 use Rattle.toml_edit_model.specs.Text.{Text, same_text, is_empty, joined}
 use Rattle.toml_edit_model.specs.Trivia.{is_blank, IsWhiteSpace, IsWholeTrivia, IsLineEnd, IsFinalTrivia, lf, crlf, IsNewline}
-use Rattle.toml_edit_model.specs.Syntax.{Segment, Frame, Value, scalar, array, inline_table, Elements, no_elements, element, Pairs, no_pairs, pair, Statement, key_line, header, Document, begins_unspaced, opening_brackets, closing_brackets, brackets_text, segment_text, path_text, frame_text, comma_text, value_text, elements_text, pairs_text, statement_text, mark_text, IsSpacedSegment, IsSpelledSegment, IsPath, IsFrame, IsClose, has_elements, has_pairs, IsValue, AreElements, ArePairs, IsStatement, AreStatements, IsCut}
+use Rattle.toml_edit_model.specs.Syntax.{Segment, Frame, Value, scalar, array, inline_table, Elements, no_elements, element, Pairs}
+use Rattle.toml_edit_model.specs.Syntax.{no_pairs, pair, Statement, key_line, header, Document, begins_unspaced, opening_brackets}
+use Rattle.toml_edit_model.specs.Syntax.{closing_brackets, brackets_text, segment_text, path_text, frame_text, comma_text, value_text}
+use Rattle.toml_edit_model.specs.Syntax.{elements_text, pairs_text, statement_text, mark_text, IsSpacedSegment, IsSpelledSegment, IsPath}
+use Rattle.toml_edit_model.specs.Syntax.{IsFrame, IsClose, has_elements, has_pairs, IsValue, AreElements, ArePairs, IsStatement}
+use Rattle.toml_edit_model.specs.Syntax.{AreStatements, IsCut}
 use Rattle.toml_edit_model.specs.Lone.{IsLoneValue, IsLonePath}
-use Rattle.toml_edit_model.proofs.Machines.{after, between, trivia_next, whole_leaves, is_between, may_end, final_leaves, line_next, line_end_leaves}
+use Rattle.toml_edit_model.proofs.Machines.{after, between, trivia_next, whole_leaves, is_between, may_end, final_leaves, line_next}
+use Rattle.toml_edit_model.proofs.Machines.{line_end_leaves}
 use Rattle.toml_edit_model.proofs.TokenTests.{is_key, key_passes, is_scalar, scalar_passes}
 
 -- ---- parts
@@ -21,7 +28,11 @@ Part = (Text → Bool) → Text → Bool
 abbrev pub split : (Text → Bool) → (Text → Bool) → Text → Text → Bool
 split test rest read [] = elim (test read) [ true ↦ rest [] | false ↦ false ]
 split test rest read (c ∷ t) =
-    elim (elim (test read) as (λ _. Bool) [ true ↦ rest (c ∷ t) | false ↦ false ]) [ true ↦ true | false ↦ split test rest (read ++ (c ∷ [])) t ]
+    elim (elim (test read) as (λ _. Bool) [ true ↦ rest (c ∷ t) | false ↦ false ]) [
+      | true ↦ true
+      | false ↦
+          split test rest (read ++ (c ∷ [])) t
+    ]
 
 abbrev pub beginning : (Text → Bool) → Part
 beginning test rest t = split test rest [] t
@@ -58,14 +69,16 @@ shorter p u k few = let e : length (p ++ u) ≡ length p + length u = length-app
 then : (k : ℕ) (f g : Part) (p q : Text) → Passes k f p → Passes k g q → Passes k (λ rest. f (g rest)) (p ++ q)
 then k f g p q one other rest u few r =
     ap (f (g rest)) (append_assoc p q u)
-    ∙ one (g rest) (q ++ u) (subst (λ t. length t ≤ k) (append_assoc p q u) few) (other rest u (shorter p (q ++ u) k (subst (λ t. length t ≤ k) (append_assoc p q u) few)) r)
+    ∙ one (g rest) (q ++ u) (subst (λ t. length t ≤ k) (append_assoc p q u) few)
+    (other rest u (shorter p (q ++ u) k (subst (λ t. length t ≤ k) (append_assoc p q u) few)) r)
 
 -- the same part, with this text
 passes_as : (k : ℕ) (f : Part) (p q : Text) → p ≡ q → Passes k f p → Passes k f q
 passes_as k f p q e h = subst (Passes k f) e h
 
 -- behind a byte fewer are left
-byte_passes : (k : ℕ) (c : ℕ) (f : Part) (p : Text) → (c == c) ≡ true → ((j : ℕ) → suc j ≡ k → Passes j f p) → Passes k (λ rest. byte c (f rest)) (c ∷ p)
+byte_passes : (k : ℕ) (c : ℕ) (f : Part) (p : Text) → (c == c) ≡ true → ((j : ℕ) → suc j ≡ k → Passes j f p)
+    → Passes k (λ rest. byte c (f rest)) (c ∷ p)
 byte_passes zero c f p same h rest u few r = absurd (omega arith)
 byte_passes (suc k) c f p same h rest u few r =
     let fewer : length (p ++ u) ≤ k = omega arith in
@@ -123,12 +136,14 @@ path (suc n) rest t = segment (either (λ r. r) (λ r. byte 0x2E (path n r)) res
 segment_passes : (k : ℕ) (s : Segment) → IsSpacedSegment s → IsSpelledSegment s → Passes k segment (segment_text s)
 segment_passes k s (before, behind) spelled =
     then k white (λ r. beginning is_key (white r)) s.before (s.spelled ++ s.after) (white_passes k s.before before)
-    (then k (beginning is_key) white s.spelled s.after (beginning_passes k is_key s.spelled (key_passes s.key s.spelled spelled)) (white_passes k s.after behind))
+    (then k (beginning is_key) white s.spelled s.after (beginning_passes k is_key s.spelled (key_passes s.key s.spelled spelled))
+    (white_passes k s.after behind))
 
 nothing_passes : (k : ℕ) → Passes k (λ r. r) []
 nothing_passes k rest u few r = r
 
-path_passes : (p : List Segment) → AllByRecursion IsSpacedSegment p → AllByRecursion IsSpelledSegment p → (is_empty p ≡ false) → (n k : ℕ) → k < n
+path_passes : (p : List Segment) → AllByRecursion IsSpacedSegment p → AllByRecursion IsSpelledSegment p → (is_empty p ≡ false) → (n k : ℕ)
+    → k < n
     → Passes k (path n) (path_text p)
 path_passes [] spaced spelled some n k enough = absurd cc
 path_passes (s ∷ []) (h, hs) (g, gs) some zero k enough = absurd (omega arith)
@@ -176,7 +191,8 @@ frame_passes : (follow : Part) (MayFollow : Text → Type 0) → ((j : ℕ) (t :
     → Passes k (frame follow n value) (frame_text f v)
 frame_passes follow MayFollow follows f (spaced, is_path) v n value k enough h =
     then k whole (λ r. path n (white (byte 0x3D (white (value (follow r)))))) f.leading _ (whole_passes k f.leading spaced.leading)
-    (then k (path n) (λ r. white (byte 0x3D (white (value (follow r))))) (path_text f.path) _ (path_passes f.path spaced.segments is_path.spelled (some_segments f.path is_path.begins) n k enough)
+    (then k (path n) (λ r. white (byte 0x3D (white (value (follow r))))) (path_text f.path) _
+    (path_passes f.path spaced.segments is_path.spelled (some_segments f.path is_path.begins) n k enough)
     (then k white (λ r. byte 0x3D (white (value (follow r)))) f.before_equals _ (white_passes k f.before_equals spaced.before_equals)
     (then k (byte 0x3D) (λ r. white (value (follow r))) (codes "=") _ (one_byte k 0x3D refl)
     (then k white (λ r. value (follow r)) f.after_equals _ (white_passes k f.after_equals spaced.after_equals)
@@ -217,17 +233,21 @@ mutual
       first_passes k (beginning is_scalar) (either (λ r. byte 0x5B (inner n behind_bracket r)) (λ r. byte 0x7B (inner n behind_brace r))) t
       (beginning_passes k is_scalar t (scalar_passes s t h))
   value_passes (array es comma t) (closes, h) (suc n) k enough =
-      second_passes k (beginning is_scalar) (either (λ r. byte 0x5B (inner n behind_bracket r)) (λ r. byte 0x7B (inner n behind_brace r))) (value_text (array es comma t))
+      second_passes k (beginning is_scalar) (either (λ r. byte 0x5B (inner n behind_bracket r)) (λ r. byte 0x7B (inner n behind_brace r)))
+      (value_text (array es comma t))
       (first_passes k (λ r. byte 0x5B (inner n behind_bracket r)) (λ r. byte 0x7B (inner n behind_brace r)) (value_text (array es comma t))
       (byte_passes k 0x5B (inner n behind_bracket) (elements_text es ++ (comma_text comma ++ (t ++ codes "]"))) refl
       (λ j e. elements_pass es comma t closes h n j (omega arith))))
   value_passes (inline_table ps comma t) (closes, h) (suc n) k enough =
-      second_passes k (beginning is_scalar) (either (λ r. byte 0x5B (inner n behind_bracket r)) (λ r. byte 0x7B (inner n behind_brace r))) (value_text (inline_table ps comma t))
-      (second_passes k (λ r. byte 0x5B (inner n behind_bracket r)) (λ r. byte 0x7B (inner n behind_brace r)) (value_text (inline_table ps comma t))
+      second_passes k (beginning is_scalar) (either (λ r. byte 0x5B (inner n behind_bracket r)) (λ r. byte 0x7B (inner n behind_brace r)))
+      (value_text (inline_table ps comma t))
+      (second_passes k (λ r. byte 0x5B (inner n behind_bracket r)) (λ r. byte 0x7B (inner n behind_brace r))
+      (value_text (inline_table ps comma t))
       (byte_passes k 0x7B (inner n behind_brace) (pairs_text ps ++ (comma_text comma ++ (t ++ codes "}"))) refl
       (λ j e. pairs_pass ps comma t closes h n j (omega arith))))
 
-  elements_pass : (es : Elements) (comma : Bool) (t : Text) → IsClose (has_elements es) comma t → AreElements es → (n k : ℕ) → suc (k + k) < n
+  elements_pass : (es : Elements) (comma : Bool) (t : Text) → IsClose (has_elements es) comma t → AreElements es → (n k : ℕ)
+      → suc (k + k) < n
       → Passes k (inner n behind_bracket) (elements_text es ++ (comma_text comma ++ (t ++ codes "]")))
   elements_pass no_elements true t (whole_t, e) h n k enough = absurd cc
   elements_pass no_elements false t closes h zero k enough = absurd (omega arith)
@@ -238,53 +258,74 @@ mutual
   elements_pass (element a v no_elements) false t closes h zero k enough = absurd (omega arith)
   elements_pass (element a v (element b w es)) comma t closes h zero k enough = absurd (omega arith)
   elements_pass (element a v no_elements) true t (whole_t, e) (hb, ha, hv, hs) (suc n) k enough =
-      second_passes k (λ r. whole (byte 0x5D r)) (λ r. one_element n (close 0x5D (inner n behind_bracket) r)) ((a.before ++ (value_text v ++ a.after)) ++ (0x2C ∷ (t ++ codes "]")))
+      second_passes k (λ r. whole (byte 0x5D r)) (λ r. one_element n (close 0x5D (inner n behind_bracket) r)) ((a.before
+      ++ (value_text v ++ a.after)) ++ (0x2C ∷ (t ++ codes "]")))
       (then k (one_element n) (close 0x5D (inner n behind_bracket)) (a.before ++ (value_text v ++ a.after)) (0x2C ∷ (t ++ codes "]"))
       (element_passes a.before a.after (value_text v) n k hb ha (value_passes v hv n k (omega arith)))
-      (close_goes_on k 0x5D (inner n behind_bracket) (t ++ codes "]") (λ j e. elements_pass no_elements false t (whole_t, inl refl) tt n j (omega arith))))
+      (close_goes_on k 0x5D (inner n behind_bracket) (t ++ codes "]") (λ j e. elements_pass no_elements false t (
+        whole_t,
+        inl refl,
+      ) tt n j (omega arith))))
   elements_pass (element a v no_elements) false t (whole_t, e) (hb, ha, hv, hs) (suc n) k enough =
-      second_passes k (λ r. whole (byte 0x5D r)) (λ r. one_element n (close 0x5D (inner n behind_bracket) r)) ((a.before ++ (value_text v ++ a.after)) ++ (t ++ codes "]"))
+      second_passes k (λ r. whole (byte 0x5D r)) (λ r. one_element n (close 0x5D (inner n behind_bracket) r)) ((a.before
+      ++ (value_text v ++ a.after)) ++ (t ++ codes "]"))
       (then k (one_element n) (close 0x5D (inner n behind_bracket)) (a.before ++ (value_text v ++ a.after)) (t ++ codes "]")
       (element_passes a.before a.after (value_text v) n k hb ha (value_passes v hv n k (omega arith)))
-      (passes_as k (close 0x5D (inner n behind_bracket)) (codes "]") (t ++ codes "]") (nothing_there 0x5D t e) (close_ends k 0x5D (inner n behind_bracket) refl)))
+      (passes_as k (close 0x5D (inner n behind_bracket)) (codes "]") (t
+      ++ codes "]") (nothing_there 0x5D t e) (close_ends k 0x5D (inner n behind_bracket) refl)))
   elements_pass (element a v (element b w es)) comma t closes (hb, ha, hv, hs) (suc n) k enough =
       let tail : Text = comma_text comma ++ (t ++ codes "]") in
       let more : Text = elements_text (element b w es) in
-      second_passes k (λ r. whole (byte 0x5D r)) (λ r. one_element n (close 0x5D (inner n behind_bracket) r)) (elements_text (element a v (element b w es)) ++ tail)
-      (passes_as k (λ r. one_element n (close 0x5D (inner n behind_bracket) r)) ((a.before ++ (value_text v ++ a.after)) ++ (0x2C ∷ (more ++ tail)))
+      second_passes k (λ r. whole (byte 0x5D r)) (λ r. one_element n (close 0x5D (inner n behind_bracket) r))
+      (elements_text (element a v (element b w es)) ++ tail)
+      (passes_as k (λ r. one_element n (close 0x5D (inner n behind_bracket) r)) ((a.before ++ (value_text v ++ a.after))
+      ++ (0x2C ∷ (more ++ tail)))
       (elements_text (element a v (element b w es)) ++ tail) (regroup a.before (value_text v) a.after (0x2C ∷ more) tail)
       (then k (one_element n) (close 0x5D (inner n behind_bracket)) (a.before ++ (value_text v ++ a.after)) (0x2C ∷ (more ++ tail))
       (element_passes a.before a.after (value_text v) n k hb ha (value_passes v hv n k (omega arith)))
-      (close_goes_on k 0x5D (inner n behind_bracket) (more ++ tail) (λ j e. elements_pass (element b w es) comma t closes hs n j (omega arith)))))
+      (close_goes_on k 0x5D (inner n behind_bracket) (more
+      ++ tail) (λ j e. elements_pass (element b w es) comma t closes hs n j (omega arith)))))
 
   pairs_pass : (ps : Pairs) (comma : Bool) (t : Text) → IsClose (has_pairs ps) comma t → ArePairs ps → (n k : ℕ) → suc (k + k) < n
       → Passes k (inner n behind_brace) (pairs_text ps ++ (comma_text comma ++ (t ++ codes "}")))
   pairs_pass no_pairs true t (whole_t, e) h n k enough = absurd cc
   pairs_pass no_pairs false t closes h zero k enough = absurd (omega arith)
   pairs_pass no_pairs false t (whole_t, e) h (suc n) k enough =
-      first_passes k (λ r. whole (byte 0x7D r)) (λ r. frame whole n (inner n a_value) (close 0x7D (inner n behind_brace) r)) (t ++ codes "}")
+      first_passes k (λ r. whole (byte 0x7D r)) (λ r. frame whole n (inner n a_value) (close 0x7D (inner n behind_brace) r)) (t
+      ++ codes "}")
       (then k whole (byte 0x7D) t (codes "}") (whole_passes k t whole_t) (one_byte k 0x7D refl))
   pairs_pass (pair f v no_pairs) true t closes h zero k enough = absurd (omega arith)
   pairs_pass (pair f v no_pairs) false t closes h zero k enough = absurd (omega arith)
   pairs_pass (pair f v (pair g w ps)) comma t closes h zero k enough = absurd (omega arith)
   pairs_pass (pair f v no_pairs) true t (whole_t, e) (hf, hv, hs) (suc n) k enough =
-      second_passes k (λ r. whole (byte 0x7D r)) (λ r. frame whole n (inner n a_value) (close 0x7D (inner n behind_brace) r)) (frame_text f (value_text v) ++ (0x2C ∷ (t ++ codes "}")))
+      second_passes k (λ r. whole (byte 0x7D r)) (λ r. frame whole n (inner n a_value) (close 0x7D (inner n behind_brace) r))
+      (frame_text f (value_text v) ++ (0x2C ∷ (t ++ codes "}")))
       (then k (frame whole n (inner n a_value)) (close 0x7D (inner n behind_brace)) (frame_text f (value_text v)) (0x2C ∷ (t ++ codes "}"))
-      (frame_passes whole IsWholeTrivia whole_passes f hf (value_text v) n (inner n a_value) k (omega arith) (value_passes v hv n k (omega arith)))
-      (close_goes_on k 0x7D (inner n behind_brace) (t ++ codes "}") (λ j e. pairs_pass no_pairs false t (whole_t, inl refl) tt n j (omega arith))))
+      (frame_passes whole IsWholeTrivia whole_passes f hf (value_text v) n (inner n a_value) k (omega arith)
+      (value_passes v hv n k (omega arith)))
+      (close_goes_on k 0x7D (inner n behind_brace) (t ++ codes "}") (λ j e. pairs_pass no_pairs false t (
+        whole_t,
+        inl refl,
+      ) tt n j (omega arith))))
   pairs_pass (pair f v no_pairs) false t (whole_t, e) (hf, hv, hs) (suc n) k enough =
-      second_passes k (λ r. whole (byte 0x7D r)) (λ r. frame whole n (inner n a_value) (close 0x7D (inner n behind_brace) r)) (frame_text f (value_text v) ++ (t ++ codes "}"))
+      second_passes k (λ r. whole (byte 0x7D r)) (λ r. frame whole n (inner n a_value) (close 0x7D (inner n behind_brace) r))
+      (frame_text f (value_text v) ++ (t ++ codes "}"))
       (then k (frame whole n (inner n a_value)) (close 0x7D (inner n behind_brace)) (frame_text f (value_text v)) (t ++ codes "}")
-      (frame_passes whole IsWholeTrivia whole_passes f hf (value_text v) n (inner n a_value) k (omega arith) (value_passes v hv n k (omega arith)))
-      (passes_as k (close 0x7D (inner n behind_brace)) (codes "}") (t ++ codes "}") (nothing_there 0x7D t e) (close_ends k 0x7D (inner n behind_brace) refl)))
+      (frame_passes whole IsWholeTrivia whole_passes f hf (value_text v) n (inner n a_value) k (omega arith)
+      (value_passes v hv n k (omega arith)))
+      (passes_as k (close 0x7D (inner n behind_brace)) (codes "}") (t
+      ++ codes "}") (nothing_there 0x7D t e) (close_ends k 0x7D (inner n behind_brace) refl)))
   pairs_pass (pair f v (pair g w ps)) comma t closes (hf, hv, hs) (suc n) k enough =
       let tail : Text = comma_text comma ++ (t ++ codes "}") in
       let more : Text = pairs_text (pair g w ps) in
-      second_passes k (λ r. whole (byte 0x7D r)) (λ r. frame whole n (inner n a_value) (close 0x7D (inner n behind_brace) r)) (pairs_text (pair f v (pair g w ps)) ++ tail)
-      (passes_as k (λ r. frame whole n (inner n a_value) (close 0x7D (inner n behind_brace) r)) (frame_text f (value_text v) ++ (0x2C ∷ (more ++ tail)))
+      second_passes k (λ r. whole (byte 0x7D r)) (λ r. frame whole n (inner n a_value) (close 0x7D (inner n behind_brace) r))
+      (pairs_text (pair f v (pair g w ps)) ++ tail)
+      (passes_as k (λ r. frame whole n (inner n a_value) (close 0x7D (inner n behind_brace) r)) (frame_text f (value_text v)
+      ++ (0x2C ∷ (more ++ tail)))
       (pairs_text (pair f v (pair g w ps)) ++ tail) (sym (append_assoc (frame_text f (value_text v)) (0x2C ∷ more) tail))
       (then k (frame whole n (inner n a_value)) (close 0x7D (inner n behind_brace)) (frame_text f (value_text v)) (0x2C ∷ (more ++ tail))
-      (frame_passes whole IsWholeTrivia whole_passes f hf (value_text v) n (inner n a_value) k (omega arith) (value_passes v hv n k (omega arith)))
+      (frame_passes whole IsWholeTrivia whole_passes f hf (value_text v) n (inner n a_value) k (omega arith)
+      (value_passes v hv n k (omega arith)))
       (close_goes_on k 0x7D (inner n behind_brace) (more ++ tail) (λ j e. pairs_pass (pair g w ps) comma t closes hs n j (omega arith)))))
 
 -- ---- statements
@@ -292,28 +333,34 @@ mutual
 -- a path in brackets, with white space inside them
 abbrev in_brackets : ℕ → Part
 in_brackets n =
-    either (λ r. byte 0x5B (byte 0x5B (white (path n (white (byte 0x5D (byte 0x5D r))))))) (λ r. byte 0x5B (white (path n (white (byte 0x5D r)))))
+    either (λ r. byte 0x5B (byte 0x5B (white (path n (white (byte 0x5D (byte 0x5D r)))))))
+    (λ r. byte 0x5B (white (path n (white (byte 0x5D r)))))
 
 inside_brackets : (opening : Text) (p : List Segment) (closing end : Text) (ends : Part) (n k : ℕ) → k < n
     → IsWhiteSpace opening → AllByRecursion IsSpacedSegment p → IsPath p → IsWhiteSpace closing → Passes k ends end
     → Passes k (λ r. white (path n (white (ends r)))) (opening ++ (path_text p ++ (closing ++ end)))
 inside_brackets opening p closing end ends n k enough ho hs hp hc h =
     then k white (λ r. path n (white (ends r))) opening (path_text p ++ (closing ++ end)) (white_passes k opening ho)
-    (then k (path n) (λ r. white (ends r)) (path_text p) (closing ++ end) (path_passes p hs hp.spelled (some_segments p hp.begins) n k enough)
+    (then k (path n) (λ r. white (ends r)) (path_text p) (closing
+    ++ end) (path_passes p hs hp.spelled (some_segments p hp.begins) n k enough)
     (then k white ends closing end (white_passes k closing hc) h))
 
 brackets_pass : (is_array : Bool) (opening : Text) (p : List Segment) (closing : Text) (n k : ℕ) → k < n
     → IsWhiteSpace opening → AllByRecursion IsSpacedSegment p → IsPath p → IsWhiteSpace closing
     → Passes k (in_brackets n) (opening_brackets is_array ++ (opening ++ (path_text p ++ (closing ++ closing_brackets is_array))))
 brackets_pass true opening p closing n k enough ho hs hp hc =
-    first_passes k (λ r. byte 0x5B (byte 0x5B (white (path n (white (byte 0x5D (byte 0x5D r))))))) (λ r. byte 0x5B (white (path n (white (byte 0x5D r)))))
+    first_passes k (λ r. byte 0x5B (byte 0x5B (white (path n (white (byte 0x5D (byte 0x5D r)))))))
+    (λ r. byte 0x5B (white (path n (white (byte 0x5D r)))))
     (0x5B ∷ 0x5B ∷ (opening ++ (path_text p ++ (closing ++ codes "]]"))))
-    (byte_passes k 0x5B (λ r. byte 0x5B (white (path n (white (byte 0x5D (byte 0x5D r)))))) (0x5B ∷ (opening ++ (path_text p ++ (closing ++ codes "]]")))) refl
-    (λ j e. byte_passes j 0x5B (λ r. white (path n (white (byte 0x5D (byte 0x5D r))))) (opening ++ (path_text p ++ (closing ++ codes "]]"))) refl
+    (byte_passes k 0x5B (λ r. byte 0x5B (white (path n (white (byte 0x5D (byte 0x5D r)))))) (0x5B
+    ∷ (opening ++ (path_text p ++ (closing ++ codes "]]")))) refl
+    (λ j e. byte_passes j 0x5B (λ r. white (path n (white (byte 0x5D (byte 0x5D r))))) (opening
+    ++ (path_text p ++ (closing ++ codes "]]"))) refl
     (λ i f. inside_brackets opening p closing (codes "]]") (λ r. byte 0x5D (byte 0x5D r)) n i (omega arith) ho hs hp hc
     (byte_passes i 0x5D (byte 0x5D) (codes "]") refl (λ g e2. one_byte g 0x5D refl)))))
 brackets_pass false opening p closing n k enough ho hs hp hc =
-    second_passes k (λ r. byte 0x5B (byte 0x5B (white (path n (white (byte 0x5D (byte 0x5D r))))))) (λ r. byte 0x5B (white (path n (white (byte 0x5D r)))))
+    second_passes k (λ r. byte 0x5B (byte 0x5B (white (path n (white (byte 0x5D (byte 0x5D r)))))))
+    (λ r. byte 0x5B (white (path n (white (byte 0x5D r)))))
     (0x5B ∷ (opening ++ (path_text p ++ (closing ++ codes "]"))))
     (byte_passes k 0x5B (λ r. white (path n (white (byte 0x5D r)))) (opening ++ (path_text p ++ (closing ++ codes "]"))) refl
     (λ j e. inside_brackets opening p closing (codes "]") (byte 0x5D) n j (omega arith) ho hs hp hc (one_byte j 0x5D refl)))
@@ -326,13 +373,16 @@ statement ends n =
 statement_passes : (MayEnd : Text → Type 0) (ends : Part) → ((j : ℕ) (t : Text) → MayEnd t → Passes j ends t)
     → (s : Statement) → IsStatement MayEnd s → (n k : ℕ) → k + k < n → Passes k (statement ends n) (statement_text s)
 statement_passes MayEnd ends ended (key_line f v end) (hf, hv, he) n k enough =
-    first_passes k (λ r. frame line_end n (inner n a_value) (ends r)) (λ r. whole (in_brackets n (line_end (ends r)))) (frame_text f (value_text v) ++ end)
+    first_passes k (λ r. frame line_end n (inner n a_value) (ends r)) (λ r. whole (in_brackets n (line_end (ends r))))
+    (frame_text f (value_text v) ++ end)
     (then k (frame line_end n (inner n a_value)) ends (frame_text f (value_text v)) end
     (frame_passes line_end IsLineEnd line_end_passes f hf (value_text v) n (inner n a_value) k (omega arith) (value_passes v hv n k enough))
     (ended k end he))
 statement_passes MayEnd ends ended (header h end) ((spaced, is_path), he) n k enough =
-    second_passes k (λ r. frame line_end n (inner n a_value) (ends r)) (λ r. whole (in_brackets n (line_end (ends r)))) (h.leading ++ (brackets_text h ++ (h.trailing ++ end)))
-    (then k whole (λ r. in_brackets n (line_end (ends r))) h.leading (brackets_text h ++ (h.trailing ++ end)) (whole_passes k h.leading spaced.leading)
+    second_passes k (λ r. frame line_end n (inner n a_value) (ends r)) (λ r. whole (in_brackets n (line_end (ends r)))) (h.leading
+    ++ (brackets_text h ++ (h.trailing ++ end)))
+    (then k whole (λ r. in_brackets n (line_end (ends r))) h.leading (brackets_text h
+    ++ (h.trailing ++ end)) (whole_passes k h.leading spaced.leading)
     (then k (in_brackets n) (λ r. line_end (ends r)) (brackets_text h) (h.trailing ++ end)
     (brackets_pass h.is_array h.opening h.path h.closing n k (omega arith) spaced.opening spaced.segments is_path spaced.closing)
     (then k line_end ends h.trailing end (line_end_passes k h.trailing spaced.trailing) (ended k end he))))
@@ -353,7 +403,8 @@ some_statement (key_line f v end) (hf, hv, he) =
 some_statement (header h end) (hh, he) =
     let one : 1 ≤ length end = some_newline end he in
     let first : length end ≤ length (h.trailing ++ end) = at_most h.trailing end in
-    let second : length (h.trailing ++ end) ≤ length (brackets_text h ++ (h.trailing ++ end)) = at_most (brackets_text h) (h.trailing ++ end) in
+    let second : length (h.trailing ++ end) ≤ length (brackets_text h ++ (h.trailing ++ end)) =
+    at_most (brackets_text h) (h.trailing ++ end) in
     let third : length (brackets_text h ++ (h.trailing ++ end)) ≤ length (h.leading ++ (brackets_text h ++ (h.trailing ++ end))) =
     at_most h.leading (brackets_text h ++ (h.trailing ++ end)) in
     omega arith
@@ -379,11 +430,13 @@ body (suc n) t =
 ends_body : (n : ℕ) (t : Text) → may_end (after trivia_next between t) ≡ true → body (suc n) t ≡ true
 ends_body n t h = rw (body, h) refl
 
-second_of_three : (a b c : Bool) → b ≡ true → elim a as (λ _. Bool) [ true ↦ true | false ↦ elim b as (λ _. Bool) [ true ↦ true | false ↦ c ] ] ≡ true
+second_of_three : (a b c : Bool) → b ≡ true → elim a
+    as (λ _. Bool) [ true ↦ true | false ↦ elim b as (λ _. Bool) [ true ↦ true | false ↦ c ] ] ≡ true
 second_of_three true b c h = refl
 second_of_three false b c h = rw h refl
 
-third_of_three : (a b c : Bool) → c ≡ true → elim a as (λ _. Bool) [ true ↦ true | false ↦ elim b as (λ _. Bool) [ true ↦ true | false ↦ c ] ] ≡ true
+third_of_three : (a b c : Bool) → c ≡ true → elim a
+    as (λ _. Bool) [ true ↦ true | false ↦ elim b as (λ _. Bool) [ true ↦ true | false ↦ c ] ] ≡ true
 third_of_three true b c h = refl
 third_of_three false b c h = falls_back b c h
 
@@ -414,7 +467,8 @@ next_statement : (s : Statement) → IsStatement IsNewline s → (more : Text) (
     → body n more ≡ true → body (suc n) (statement_text s ++ more) ≡ true
 next_statement s h more n enough passes =
     goes_on n (statement_text s ++ more)
-    (statement_passes IsNewline newline newline_passes s h n (length (statement_text s ++ more)) (omega arith) (body n) more (omega arith) passes)
+    (statement_passes IsNewline newline newline_passes s h n (length (statement_text s ++ more)) (omega arith) (body n) more (omega arith)
+    passes)
 
 less_room : (s : Statement) → IsStatement IsNewline s → (more : Text) (n : ℕ) → room (statement_text s ++ more) < suc n → room more < n
 less_room s h more n enough =
@@ -436,7 +490,8 @@ before_more s h more final n enough passes =
     (next_statement s h (more ++ final) n enough_there (passes (less_room s h (more ++ final) n enough_there)))
 
 -- the last statement, without a newline
-at_end : (s : Statement) → IsStatement WithoutNewline s → (final : Text) → final ≡ [] → (n : ℕ) → room ((statement_text s ++ []) ++ final) < suc n
+at_end : (s : Statement) → IsStatement WithoutNewline s → (final : Text) → final ≡ [] → (n : ℕ)
+    → room ((statement_text s ++ []) ++ final) < suc n
     → body (suc n) ((statement_text s ++ []) ++ final) ≡ true
 at_end s h final none n enough =
     let e : (statement_text s ++ []) ++ final ≡ statement_text s ++ [] =
@@ -444,7 +499,8 @@ at_end s h final none n enough =
     let enough_there : room (statement_text s ++ []) < suc n = subst (λ t. room t < suc n) e enough in
     subst (λ t. body (suc n) t ≡ true) (sym e)
     (is_last n (statement_text s ++ [])
-    (statement_passes WithoutNewline nothing nothing_is s h n (length (statement_text s ++ [])) (omega arith) is_empty [] (omega arith) refl))
+    (statement_passes WithoutNewline nothing nothing_is s h n (length (statement_text s ++ [])) (omega arith) is_empty [] (omega arith)
+    refl))
 
 body_passes : (ss : List Statement) (final : Text) → AreStatements final ss → IsFinalTrivia final → (n : ℕ)
     → room (joined (map statement_text ss) ++ final) < n → body n (joined (map statement_text ss) ++ final) ≡ true
@@ -491,14 +547,16 @@ may_be_value t = white (λ r. inner (suc (room t)) a_value (white is_empty) r) t
 abbrev pub HasNoValue : Text → Type 0
 HasNoValue t = (v : Value) → IsLoneValue t v → ⊥
 
-value_alone : (before behind : Text) (v : Value) → IsWhiteSpace before → IsWhiteSpace behind → IsValue v → (t : Text) → t ≡ before ++ (value_text v ++ behind)
+value_alone : (before behind : Text) (v : Value) → IsWhiteSpace before → IsWhiteSpace behind → IsValue v → (t : Text) → t ≡ before
+    ++ (value_text v ++ behind)
     → may_be_value t ≡ true
 value_alone before behind v hb ha hv t e =
     let whole : Text = before ++ (value_text v ++ behind) in
     let enough : length t + length t < suc (room t) = omega arith in
     subst (λ u. white (λ r. inner (suc (room t)) a_value (white is_empty) r) u ≡ true) (append-nil whole ∙ sym e)
     (then (length t) white (λ r. inner (suc (room t)) a_value (white r)) before (value_text v ++ behind) (white_passes (length t) before hb)
-    (then (length t) (inner (suc (room t)) a_value) white (value_text v) behind (value_passes v hv (suc (room t)) (length t) enough) (white_passes (length t) behind ha))
+    (then (length t) (inner (suc (room t)) a_value) white (value_text v) behind (value_passes v hv (suc (room t)) (length t) enough)
+    (white_passes (length t) behind ha))
     is_empty [] (at_most_all whole t (append-nil whole ∙ sym e)) refl)
 
 pub no_value : (t : Text) → may_be_value t ≡ false → HasNoValue t
@@ -511,14 +569,16 @@ may_be_path t = white (λ r. path (suc (length t)) (white is_empty) r) t
 abbrev pub HasNoPath : Text → Type 0
 HasNoPath t = (before : Text) (p : List Segment) (behind : Text) → IsLonePath t before p behind → ⊥
 
-path_alone : (before behind : Text) (p : List Segment) → IsWhiteSpace before → IsWhiteSpace behind → AllByRecursion IsSpacedSegment p → IsPath p
+path_alone : (before behind : Text) (p : List Segment) → IsWhiteSpace before → IsWhiteSpace behind → AllByRecursion IsSpacedSegment p
+    → IsPath p
     → (t : Text) → t ≡ before ++ (path_text p ++ behind) → may_be_path t ≡ true
 path_alone before behind p hb ha hs hp t e =
     let whole : Text = before ++ (path_text p ++ behind) in
     let enough : length t < suc (length t) = omega arith in
     subst (λ u. white (λ r. path (suc (length t)) (white is_empty) r) u ≡ true) (append-nil whole ∙ sym e)
     (then (length t) white (λ r. path (suc (length t)) (white r)) before (path_text p ++ behind) (white_passes (length t) before hb)
-    (then (length t) (path (suc (length t))) white (path_text p) behind (path_passes p hs hp.spelled (some_segments p hp.begins) (suc (length t)) (length t) enough) (white_passes (length t) behind ha))
+    (then (length t) (path (suc (length t))) white (path_text p) behind
+    (path_passes p hs hp.spelled (some_segments p hp.begins) (suc (length t)) (length t) enough) (white_passes (length t) behind ha))
     is_empty [] (at_most_all whole t (append-nil whole ∙ sym e)) refl)
 
 pub no_path : (t : Text) → may_be_path t ≡ false → HasNoPath t

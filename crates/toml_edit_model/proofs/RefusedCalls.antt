@@ -10,12 +10,14 @@ use Rattle.toml_edit_model.specs.Sorting.{ReordersItems, IsDeepReorder}
 use Rattle.toml_edit_model.specs.examples.Parts.{plain_key}
 
 -- the lists in the two are as long
-reorders_length : (enters : Node → Bool) (R : List (Slot Node) → List (Slot Node) → Type 0) (mid after : List (Slot Node)) → ReordersItems enters R mid (slots_from after) → length mid ≡ length after
+reorders_length : (enters : Node → Bool) (R : List (Slot Node) → List (Slot Node) → Type 0) (mid after : List (Slot Node))
+    → ReordersItems enters R mid (slots_from after) → length mid ≡ length after
 reorders_length enters R mid [] r = ap length r
 reorders_length enters R mid (s ∷ after) r = ap length r.2 ∙ ap suc (reorders_length enters R r.1 after r.5)
 
 -- a sort that was refused has lost no slots
-pub keeps_length : (enters : Node → Bool) (before after : List (Slot Node)) → IsDeepReorder enters before after → length after ≡ length before
+pub keeps_length : (enters : Node → Bool) (before after : List (Slot Node)) → IsDeepReorder enters before after → length after
+    ≡ length before
 keeps_length enters before after r = sym (reorders_length enters IsPermutation r.0 after r.2) ∙ length_permutation before r.0 r.1
 
 -- a removal that moves the last slot into the gap

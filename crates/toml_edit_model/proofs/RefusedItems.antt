@@ -12,10 +12,12 @@ true_is_false : true ≡ false → ⊥
 true_is_false e = cc
 
 -- two slots of one key, in the root, and in a table in it
-pub equal_keys : SlotsAreWellMade (slot (plain_key (codes "a")) (plain_int 1) (slot (plain_key (codes "b")) (plain_int 2) (slot (plain_key (codes "a")) (plain_int 3) no_slots))) → ⊥
+pub equal_keys : SlotsAreWellMade (slot (plain_key (codes "a")) (plain_int 1)
+    (slot (plain_key (codes "b")) (plain_int 2) (slot (plain_key (codes "a")) (plain_int 3) no_slots))) → ⊥
 equal_keys h = true_is_false h.0
 
-pub equal_keys_below : IsWellMade (table_at None (slot (plain_key (codes "a")) (plain_int 1) (slot (plain_key (codes "a")) (plain_int 2) no_slots))) → ⊥
+pub equal_keys_below : IsWellMade (table_at None (slot (plain_key (codes "a")) (plain_int 1)
+    (slot (plain_key (codes "a")) (plain_int 2) no_slots))) → ⊥
 equal_keys_below h = true_is_false h.0
 
 -- different keys are well made
@@ -23,7 +25,8 @@ pub different_keys : SlotsAreWellMade (slot (plain_key (codes "a")) (plain_int 1
 different_keys = (refl, tt, (tt, refl), (refl, tt, (tt, refl), tt))
 
 -- a key `a` that is spelled `a b`
-pub false_key : SlotsAreWellMade (slot (record (plain_key (codes "a")) { spelling = Some (owned (codes "a b")) }) (plain_int 1) no_slots) → ⊥
+pub false_key : SlotsAreWellMade (slot (record (plain_key (codes "a")) { spelling = Some (owned (codes "a b")) }) (plain_int 1) no_slots)
+    → ⊥
 false_key h = no_key (codes "a b") refl _ h.1
 
 -- ---- scalars

@@ -1,6 +1,7 @@
 -- The comments of a decor, line by line (TOML 1.1.0, "Comment"), and what a change of them leaves.
 -- A decor may be any text: of one that is no trivia, too, a change leaves the rest.
-use Rattle.std.specs.Prelude.{◌≡◌, ℕ, suc, ◌-◌, ◌==◌, not, if◌then◌else◌, List, [], ◌∷◌, ◌++◌, length, take, drop, filter, flat_map, take_while, Option, Some, None, is_some, is_none}
+use Rattle.std.specs.Prelude.{◌≡◌, ℕ, suc, ◌-◌, ◌==◌, not, if◌then◌else◌, List, [], ◌∷◌, ◌++◌, length, take, drop, filter, flat_map}
+use Rattle.std.specs.Prelude.{take_while, Option, Some, None, is_some, is_none}
 use Rattle.std.specs.List.{AllByRecursion, before_first, filter_map, prefix_len, suffix_len}
 use Rattle.toml_edit_model.specs.Text.{Text, line_feed, space, hash, one, joined}
 use Rattle.toml_edit_model.specs.Mode.{exact, line_end, line_newline}

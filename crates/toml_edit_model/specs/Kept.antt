@@ -1,6 +1,7 @@
 -- The mention that the key of a path is kept from, the rank of a path, and keys spelled and spaced
 -- as they are kept (TOML 1.1.0, "Keys").
-use Rattle.std.specs.Prelude.{ℕ, Bool, true, nat_lt, if◌then◌else◌, List, [], ◌∷◌, map, filter, find, Option, Some, None, unwrap_or, option_map}
+use Rattle.std.specs.Prelude.{ℕ, Bool, true, nat_lt, if◌then◌else◌, List, [], ◌∷◌, map, filter, find, Option, Some, None, unwrap_or}
+use Rattle.std.specs.Prelude.{option_map}
 use Rattle.std.specs.List.{list_any, position_or_len}
 use Rattle.std.specs.Option.{option_or}
 use Rattle.toml_edit_model.specs.Syntax.{Segment}

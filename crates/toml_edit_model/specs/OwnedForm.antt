@@ -3,7 +3,8 @@
 use Rattle.std.specs.Prelude.{◌≤◌, ℕ, ◌-◌, take, drop, Option, Some, None, option_map}
 use Rattle.std.specs.Str.{IsCharBoundary}
 use Rattle.toml_edit_model.specs.Text.{Text}
-use Rattle.toml_edit_model.specs.Tree.{Raw, owned, span, Decor, Key, TableFields, Node, nothing, leaf, list, inline, table, tables, Items, no_items, item, Slots, no_slots, slot, Tree, SlotsAreWellMade}
+use Rattle.toml_edit_model.specs.Tree.{Raw, owned, span, Decor, Key, TableFields, Node, nothing, leaf, list, inline, table, tables, Items}
+use Rattle.toml_edit_model.specs.Tree.{no_items, item, Slots, no_slots, slot, Tree, SlotsAreWellMade}
 
 -- the text that a span cuts
 abbrev pub cut_out : Text → ℕ → ℕ → Text

@@ -5,7 +5,8 @@ use Rattle.std.specs.List.{list_all}
 use Rattle.toml_edit_model.specs.Order.{is_sorted_by}
 use Rattle.toml_edit_model.specs.Text.{Text, newline, same_text, has_byte, carriage_return}
 use Rattle.toml_edit_model.specs.Mode.{Mode, plain, exact}
-use Rattle.toml_edit_model.specs.Syntax.{Segment, Frame, Value, scalar, array, inline_table, Elements, no_elements, element, Pairs, no_pairs, pair, Statement, key_line, header, Document}
+use Rattle.toml_edit_model.specs.Syntax.{Segment, Frame, Value, scalar, array, inline_table, Elements, no_elements, element, Pairs}
+use Rattle.toml_edit_model.specs.Syntax.{no_pairs, pair, Statement, key_line, header, Document}
 use Rattle.toml_edit_model.specs.Accepted.{AcceptedAs}
 use Rattle.toml_edit_model.specs.Paths.{Mention, Source, PairSource, Placed, placed, pair_mentions}
 use Rattle.toml_edit_model.specs.Normal.{pair_before, is_line, line_before, opening_of, closing_of, kept_statement}

@@ -2,11 +2,13 @@
 -- the escapes `\e` and `\xHH` ("String"), a time without seconds ("Offset Date-Time" to "Local
 -- Time"), and in an inline table a newline, a comment or a comma after the last pair ("Inline
 -- Table").
-use Rattle.std.specs.Prelude.{ℕ, suc, ◌+◌, ◌-◌, Bool, true, false, not, ◌&&◌, ◌||◌, ◌==◌, if◌then◌else◌, List, [], ◌∷◌, ◌++◌, length, Option, Some, None}
+use Rattle.std.specs.Prelude.{ℕ, suc, ◌+◌, ◌-◌, Bool, true, false, not, ◌&&◌, ◌||◌, ◌==◌, if◌then◌else◌, List, [], ◌∷◌, ◌++◌, length}
+use Rattle.std.specs.Prelude.{Option, Some, None}
 use Rattle.std.specs.List.{list_any}
 use Rattle.toml_edit_model.specs.Text.{Text, line_feed, carriage_return, quote, hash, backslash}
 use Rattle.toml_edit_model.specs.Scalars.{Time, Scalar, string, datetime}
-use Rattle.toml_edit_model.specs.Syntax.{Segment, Value, scalar, array, inline_table, Elements, no_elements, element, Pairs, no_pairs, pair, Statement, key_line, header, value_text, frame_text, path_text, pairs_text, comma_text}
+use Rattle.toml_edit_model.specs.Syntax.{Segment, Value, scalar, array, inline_table, Elements, no_elements, element, Pairs, no_pairs, pair}
+use Rattle.toml_edit_model.specs.Syntax.{Statement, key_line, header, value_text, frame_text, path_text, pairs_text, comma_text}
 use Rattle.toml_edit_model.specs.Paths.{next_start, path_start}
 
 pub data Version : Type 0 where

@@ -15,9 +15,11 @@ pub mod Tokens
 pub mod Spellings
 pub mod Cuts
 pub mod Fits
+pub mod Misfits
 pub mod Modes
 pub mod Versions
 pub mod TreesOfTexts
+pub mod TriviaTrees
 pub mod WholeTexts
 pub mod ShortTexts
 pub mod EditedTrees

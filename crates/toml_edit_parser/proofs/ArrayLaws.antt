@@ -1,5 +1,6 @@
 -- An array, from its elements and its end.
-use Rattle.std.proofs.Common.{◌≡◌, ℕ, suc, ◌+◌, ◌-◌, ◌<◌, Bool, true, false, ◌==◌, List, [], ◌∷◌, ◌++◌, length, refl, sym, ap, ◌∙◌, subst, arith, Some, None, codes}
+use Rattle.std.proofs.Common.{◌≡◌, ℕ, suc, ◌+◌, ◌-◌, ◌<◌, Bool, true, false, ◌==◌, List, [], ◌∷◌, ◌++◌, length, refl, sym, ap, ◌∙◌, subst}
+use Rattle.std.proofs.Common.{arith, Some, None, codes}
 use Rattle.std.specs.Prelude.{Result, Ok, Err}
 use Rattle.std.specs.Borrow.{Bor}
 use Rattle.std.proofs.lemmas.Bool.{ne_eqb}
@@ -20,7 +21,8 @@ use Rattle.toml_edit_syntax.specs.ValueEvents.{close_events, shortened}
 use Rattle.toml_edit_tree.specs.declared.item.Item.{Item}
 use Rattle.toml_edit_parser.specs.declared.reader.Close.{Close}
 use Rattle.toml_edit_tree.specs.declared.value.Value as code
-use Rattle.toml_edit_parser.specs.ValueRead.{span_at, spanned_raw, split_before, split_close, ElementsStand, NamesOne, IsRead, ReadsValue, AreRead, MakesArray, EndsArray, array_of}
+use Rattle.toml_edit_parser.specs.ValueRead.{span_at, spanned_raw, split_before, split_close, ElementsStand, NamesOne, IsRead, ReadsValue}
+use Rattle.toml_edit_parser.specs.ValueRead.{AreRead, MakesArray, EndsArray, array_of}
 use Rattle.toml_edit_tree.specs.Containers.{array_node}
 use Rattle.toml_edit_tree.specs.View.{items_view, value_view}
 use Rattle.toml_edit_parser.proofs.ReadLaws.{mapped}
@@ -40,7 +42,8 @@ abbrev pub end_at : ℕ → Bool → Text → Close
 end_at at comma t = record { comma = comma; inner = span_at (at - length t) t; end = at + 1 }
 
 pub array_end_split : (level at : ℕ) (comma : Bool) (t : Text) (more : List Event)
-    → split_close (shortened (suc level) (close_events ArrayClose (codes "]") at comma t ++ more)) ≡ Some (end_at at comma t, shortened level more)
+    → split_close (shortened (suc level) (close_events ArrayClose (codes "]") at comma t ++ more))
+    ≡ Some (end_at at comma t, shortened level more)
 array_end_split level at true t more = rw (less level) refl
 array_end_split level at false t more = rw (less level) refl
 
@@ -49,7 +52,8 @@ pub array_ends : (level at : ℕ) (comma : Bool) (t : Text) (more : List Event)
 array_ends level at true t more = refl
 array_ends level at false t more = refl
 
-pub elements_stand : (source : Text) (es : Elements) (comma : Bool) (t : Text) (start : ℕ) → Stands source start (value_text (array es comma t)) → ElementsStand source (start + 1) es
+pub elements_stand : (source : Text) (es : Elements) (comma : Bool) (t : Text) (start : ℕ)
+    → Stands source start (value_text (array es comma t)) → ElementsStand source (start + 1) es
 elements_stand source no_elements comma t start h = tt
 elements_stand source (element a v es) comma t start h =
     let later : Text = comma_text comma ++ (t ++ codes "]") in
@@ -61,8 +65,10 @@ not_deep level start below =
     let e : (level == nesting_limit) ≡ false = ne_eqb level nesting_limit (λ same. omega (arith, same)) in
     rw e refl
 
-pub array_fault : (es : Elements) (comma : Bool) (t : Text) (start level : ℕ) → level < nesting_limit → value_faults (array es comma t) start level ≡ elements_faults es (start + 1) (suc level)
-array_fault es comma t start level below = ap (λ (x : List Fault). x ++ elements_faults es (start + 1) (suc level)) (not_deep level start below)
+pub array_fault : (es : Elements) (comma : Bool) (t : Text) (start level : ℕ) → level < nesting_limit
+    → value_faults (array es comma t) start level ≡ elements_faults es (start + 1) (suc level)
+array_fault es comma t start level below =
+    ap (λ (x : List Fault). x ++ elements_faults es (start + 1) (suc level)) (not_deep level start below)
 
 -- a text in brackets has a byte
 pub size_is : (start n : ℕ) → start + suc n - 1 + 1 ≡ start + suc n
@@ -71,10 +77,13 @@ size_is start n = omega arith
 abbrev fields_of : Decor → Bool → Raw → Extent → ArrayFields
 fields_of d comma r extent = record { decor = d; comma = comma; trailing = r; extent = extent }
 
-pub array_read : (es : Elements) (comma : Bool) (t : Text) (start level : ℕ) (more : List Event) (items : List Item) (inner : List Event) (n : Node) (rest : List Event)
+pub array_read : (es : Elements) (comma : Bool) (t : Text) (start level : ℕ) (more : List Event) (items : List Item) (inner : List Event)
+    (n : Node) (rest : List Event)
     → level < nesting_limit
-    → AreRead es (start + 1) (suc level) (close_events ArrayClose (codes "]") (start + length (value_text (array es comma t)) - 1) comma t ++ more) items inner
-    → MakesArray start (end_at (start + length (value_text (array es comma t)) - 1) comma t) (items_view items) (shortened level more) n rest
+    → AreRead es (start + 1) (suc level) (close_events ArrayClose (codes "]") (start + length (value_text (array es comma t)) - 1) comma t
+    ++ more) items inner
+    → MakesArray start (end_at (start + length (value_text (array es comma t)) - 1) comma t) (items_view items) (shortened level more) n
+    rest
     → IsRead (array es comma t) start level more n rest
 array_read es comma t start level more items inner n rest below h made =
     let size = length (value_text (array es comma t)) in
@@ -85,10 +94,17 @@ array_read es comma t start level more items inner n rest below h made =
       node = λ i before after e.
           let trailing = spanned_raw-is (at - length t) t in
           let close = size_is start (length (elements_text es ++ (comma_text comma ++ (t ++ codes "]")))) in
-          subst (λ m. IsValueNode spanned_form (array es comma t) i before after (with_decor (decor_at spanned_form i before (start + size) after) m)) (sym made.node) (
+          subst (λ m. IsValueNode spanned_form (array es comma t) i before after
+          (with_decor (decor_at spanned_form i before (start + size) after) m)) (sym made.node) (
             ap (λ (r : Raw). fields_of (decor_at spanned_form i before (start + size) after) comma r (Some (start, at + 1))) trailing
-                ∙ ap (λ j. fields_of (decor_at spanned_form i before (start + size) after) comma (span_of (at - length t) t) (Some (start, j))) close
-                ∙ ap (λ j. fields_of (decor_at spanned_form i before (j + size) after) comma (span_of (j + size - 1 - length t) t) (Some (j, j + size))) e,
+                ∙ ap (λ j. fields_of (decor_at spanned_form i before (start + size) after) comma (span_of (at - length t) t) (Some (
+                  start,
+                  j,
+                ))) close
+                ∙ ap (λ j. fields_of (decor_at spanned_form i before (j + size) after) comma (span_of (j + size - 1 - length t) t) (Some (
+                  j,
+                  j + size,
+                ))) e,
             subst (λ j. AreElementNodes spanned_form es (j + 1) (items_view items)) e h.nodes,
           );
     }
@@ -104,9 +120,11 @@ made_array start own close xs behind more n same is =
     }
 
 -- an array whose elements were read is what its end makes of them
-pub array_closed : (source : Text) (es : Elements) (comma : Bool) (t : Text) (start level : ℕ) (more : List Event) (items : List Item) (inner : List Event)
+pub array_closed : (source : Text) (es : Elements) (comma : Bool) (t : Text) (start level : ℕ) (more : List Event) (items : List Item)
+    (inner : List Event)
     (r : Result (code.Value × Bor (List Event)) ParseFault) → level < nesting_limit
-    → AreRead es (start + 1) (suc level) (close_events ArrayClose (codes "]") (start + length (value_text (array es comma t)) - 1) comma t ++ more) items inner
+    → AreRead es (start + 1) (suc level) (close_events ArrayClose (codes "]") (start + length (value_text (array es comma t)) - 1) comma t
+    ++ more) items inner
     → EndsArray start (end_at (start + length (value_text (array es comma t)) - 1) comma t) (items_view items) (shortened level more) r
     → ReadsValue source (array es comma t) start level more r
 array_closed source es comma t start level more items inner (Ok r) below h made =
@@ -115,5 +133,7 @@ array_closed source es comma t start level more items inner (Err e) below h made
 
 -- a fault of its elements is one of the array
 pub array_refused : (source : Text) (es : Elements) (comma : Bool) (t : Text) (start level : ℕ) (e : ParseFault) → level < nesting_limit
-    → IfToml e (NamesOne source (elements_faults es (start + 1) (suc level))) → IfToml e (NamesOne source (value_faults (array es comma t) start level))
-array_refused source es comma t start level e below h = subst (λ fs. IfToml e (NamesOne source fs)) (sym (array_fault es comma t start level below)) h
+    → IfToml e (NamesOne source (elements_faults es (start + 1) (suc level)))
+    → IfToml e (NamesOne source (value_faults (array es comma t) start level))
+array_refused source es comma t start level e below h =
+    subst (λ fs. IfToml e (NamesOne source fs)) (sym (array_fault es comma t start level below)) h

@@ -1,5 +1,6 @@
 -- What the functions of the descent along a path ask of each other, and where their texts lie.
-use Rattle.std.proofs.Common.{◌≡◌, ◌<◌, ℕ, zero, suc, List, [], ◌∷◌, length, refl, sym, ap, ◌∙◌, subst, arith, rules, true, false, Option, Some, slice_get}
+use Rattle.std.proofs.Common.{◌≡◌, ◌<◌, ℕ, zero, suc, List, [], ◌∷◌, length, refl, sym, ap, ◌∙◌, subst, arith, rules, true, false, Option}
+use Rattle.std.proofs.Common.{Some, slice_get}
 use Rattle.std.specs.Prelude.{Result, Ok, Err, OnOk}
 use Rattle.std.proofs.lemmas.Option.{same_Some}
 use Rattle.toml_edit_model.specs.Text.{Text}
@@ -33,7 +34,8 @@ use Rattle.toml_edit_tree.specs.declared.value.Value.{Value, out-Value}
 use Rattle.toml_edit_tree.specs.declared.value.Value.TheVariants as values
 use Rattle.toml_edit_tree.specs.declared.array.Array.{Array}
 use Rattle.toml_edit_parser.specs.declared.pairs.KeyPath.{KeyPath}
-use Rattle.toml_edit_parser.specs.PairRead.{AddsEntry, AddsInside, IsEndOfPath, IsPathAt, IsPathIn, NamesClash, PathView, path_of, split_dot}
+use Rattle.toml_edit_parser.specs.PairRead.{AddsEntry, AddsInside, IsEndOfPath, IsPathAt, IsPathIn, NamesClash, PathView, path_of}
+use Rattle.toml_edit_parser.specs.PairRead.{split_dot}
 use Rattle.toml_edit_tree.specs.Containers.{ArrayView, InlineView, array_node, inline_node}
 use Rattle.toml_edit_parser.specs.ValueRead.{AreIn, split_first}
 use Rattle.toml_edit_tree.specs.View.{item_view, slots_view, value_view}
@@ -46,8 +48,10 @@ use Rattle.toml_edit_model.specs.OwnedForm.{KeyFits, NodeFits, SlotsFit, cut_out
 -- ---- refusals
 
 -- the name of a path's first key can't be refused
-pub name-refused : (source : Text) (e : Entry) (p : List Segment) (start : ℕ) (above : Path) (path : KeyPath) (first : Event) (rest : List Event) (old : Slots)
-    (err : ParseFault) → IsEndOfPath p → Stands source start (path_text p) → IsPathAt e start p path → Some (first, rest) ≡ split_first path.events.now
+pub name-refused : (source : Text) (e : Entry) (p : List Segment) (start : ℕ) (above : Path) (path : KeyPath) (first : Event)
+    (rest : List Event) (old : Slots)
+    (err : ParseFault) → IsEndOfPath p → Stands source start (path_text p) → IsPathAt e start p path → Some (first, rest)
+    ≡ split_first path.events.now
     → ((k : Text) → SpellsKey k (cut_out source first.span.start first.span.end) → IfToml err (λ r. ⊥))
     → IfToml err (NamesClash source (entry_clash (line_mentions e start above p) old))
 name-refused source e [] start above path first rest old err are stands at split told = absurd (let g = are.some in cc)
@@ -56,15 +60,18 @@ name-refused source e (s ∷ p) start above path first rest old err are stands a
     mapped err (λ r. ⊥) _ (λ r none. absurd none) (told s.key (key-spelled source s p start first are stands parts.0))
 
 -- nothing stands in the way below a new key
-pub below-refused : (source : Text) (ms : List (Mention Entry)) (es : List (repr.Slot Item)) (err : ParseFault) → es ≡ [] → IfToml err (NamesClash source (entry_clash ms (slots_view es))) → IfToml err (λ r. ⊥)
+pub below-refused : (source : Text) (ms : List (Mention Entry)) (es : List (repr.Slot Item)) (err : ParseFault) → es ≡ []
+    → IfToml err (NamesClash source (entry_clash ms (slots_view es))) → IfToml err (λ r. ⊥)
 below-refused source ms es err new h =
-    new-refused source ms err (λ r. ⊥) (subst (λ (xs : List (repr.Slot Item)). IfToml err (NamesClash source (entry_clash ms (slots_view xs)))) new h)
+    new-refused source ms err (λ r. ⊥) (subst (λ (xs : List (repr.Slot Item)). IfToml err
+    (NamesClash source (entry_clash ms (slots_view xs)))) new h)
 
 -- ---- where the parts of a path lie
 
 -- the parts behind a dot
 pub dot_in : (t : Text) (path : KeyPath) (after : Span) (inside : KeyPath) (rest : List Event)
-    → ◌≡◌ {A = Option (Span × PathView)} (Some (after, path_of inside)) (split_dot path rest) → AreIn t rest → IsSpanOf t path.prefix → IsSpanOf t path.suffix
+    → ◌≡◌ {A = Option (Span × PathView)} (Some (after, path_of inside)) (split_dot path rest) → AreIn t rest → IsSpanOf t path.prefix
+    → IsSpanOf t path.suffix
     → IsSpanOf t after × IsPathIn t inside × (length inside.events.now < length rest)
 dot_in t path after inside [] dot h prefix suffix = absurd cc
 dot_in t path after inside (a ∷ []) dot h prefix suffix = absurd cc
@@ -87,20 +94,24 @@ on_ok (Ok x) h f = f h
 on_ok (Err e) h f = tt
 
 -- an item that stands in slots
-pub fits-found : (t : Text) (es : List (repr.Slot Item)) (at : ℕ) (x : Item) → SlotsFit t (slots_view es) → Some x ≡ slice_get (items_of es) at → NodeFits t (item_view x)
+pub fits-found : (t : Text) (es : List (repr.Slot Item)) (at : ℕ) (x : Item) → SlotsFit t (slots_view es) → Some x
+    ≡ slice_get (items_of es) at → NodeFits t (item_view x)
 fits-found t [] at x h there = absurd cc
 fits-found t (e ∷ es) zero x h there = subst (λ (y : Item). NodeFits t (item_view y)) (sym (same_Some x e.item there)) h.1
 fits-found t (e ∷ es) (suc at) x h there = fits-found t es at x h.2 there
 
 -- slots with another item at a place
-pub fits-put : (t : Text) (es : List (repr.Slot Item)) (at : ℕ) (y : Item) → SlotsFit t (slots_view es) → NodeFits t (item_view y) → SlotsFit t (slots_view (with_item at y es))
+pub fits-put : (t : Text) (es : List (repr.Slot Item)) (at : ℕ) (y : Item) → SlotsFit t (slots_view es) → NodeFits t (item_view y)
+    → SlotsFit t (slots_view (with_item at y es))
 fits-put t [] at y h n = h
 fits-put t (e ∷ es) zero y h n = (h.0, n, h.2)
 fits-put t (e ∷ es) (suc at) y h n = (h.0, h.1, fits-put t es at y h.2 n)
 
 -- slots with a new key that holds a dotted inline table
-pub fits-below : (t : Text) (es : List (repr.Slot Item)) (k : Key) (extent : Extent) (inner : Slots) (holder : Node) (new : Slots) → KeyFits t k
-    → SlotsFit t (slots_view es) → SlotsFit t inner → holder ≡ inline (path_fields extent) inner → new ≡ with_slot (slots_view es) k holder → SlotsFit t new
+pub fits-below : (t : Text) (es : List (repr.Slot Item)) (k : Key) (extent : Extent) (inner : Slots) (holder : Node) (new : Slots)
+    → KeyFits t k
+    → SlotsFit t (slots_view es) → SlotsFit t inner → holder ≡ inline (path_fields extent) inner → new ≡ with_slot (slots_view es) k holder
+    → SlotsFit t new
 fits-below t es k extent inner holder new key slots fits held is =
     subst (SlotsFit t) (sym (is ∙ ap (with_slot (slots_view es) k) held))
     (fits-with_slot t (slots_view es) k (inline (path_fields extent) inner) slots key ((tt, tt), tt, fits))
@@ -108,7 +119,8 @@ fits-below t es k extent inner holder new key slots fits held is =
 -- ---- the item at a key
 
 -- it goes on in the slots of an inline table
-pub went-in : {A : Type 0} (source : Text) (m : Mention Entry) (ms : List (Mention Entry)) (n : Node) (held left : InlineView) (old new : Slots)
+pub went-in : {A : Type 0} (source : Text) (m : Mention Entry) (ms : List (Mention Entry)) (n : Node) (held left : InlineView)
+    (old new : Slots)
     (result : Result A ParseFault) → held.fields.is_dotted ≡ true → old ≡ held.slots → left ≡ record { fields = held.fields; slots = new }
     → AddsEntry source ms n old new result → AddsInside source m ms n (inline_node held) (inline_node left) result
 went-in source m ms n held left old new result dotted was is h =
@@ -116,7 +128,8 @@ went-in source m ms n held left old new result dotted was is h =
     (went-on source m ms n held.fields held.slots new result dotted (subst (λ (ss : Slots). AddsEntry source ms n ss new result) was h))
 
 -- an inline table with other slots
-pub fits-in : (t : Text) (held left : InlineView) (new : Slots) → left ≡ record { fields = held.fields; slots = new } → NodeFits t (inline_node held)
+pub fits-in : (t : Text) (held left : InlineView) (new : Slots) → left ≡ record { fields = held.fields; slots = new }
+    → NodeFits t (inline_node held)
     → SlotsFit t new → NodeFits t (inline_node left)
 fits-in t held left new is h fits = subst (λ (v : InlineView). NodeFits t (inline_node v)) (sym is) (h.0, h.1, fits)
 
@@ -131,7 +144,8 @@ alike_leaf n s spelling d e = subst StopsAlike (sym e) (record { stops = tt; sam
 alike_list : (n : Node) (a : ArrayView) → n ≡ array_node a → StopsAlike n
 alike_list n a e = subst StopsAlike (sym e) (record { stops = tt; same = refl })
 
-alike_open : (o : Value-F Item Value Array ArrayOfTables InlineTable Table) → ((t : InlineTable) → roll-Value o ≡ values.InlineTable t → ⊥) → StopsAlike (value_view (roll-Value o))
+alike_open : (o : Value-F Item Value Array ArrayOfTables InlineTable Table) → ((t : InlineTable) → roll-Value o ≡ values.InlineTable t → ⊥)
+    → StopsAlike (value_view (roll-Value o))
 unfolding roll-Value denote.Hole.Carrier.roll
 alike_open (Value-F.String f) h = alike_leaf _ _ _ _ (view-String f)
 alike_open (Value-F.Integer f) h = alike_leaf _ _ _ _ (view-Integer f)

@@ -4,7 +4,8 @@ use Rattle.std.specs.Prelude.{Contains, Result, Ok, Err}
 use Rattle.std.specs.Borrow.{Bor}
 use Rattle.std.proofs.lemmas.List.Elements.{Contains-append_left, Contains-append_right}
 use Rattle.toml_edit_model.specs.Text.{Text}
-use Rattle.toml_edit_model.specs.Syntax.{Around, Value, Elements, no_elements, element, IsValue, AreElements, value_text, elements_text, nesting_limit}
+use Rattle.toml_edit_model.specs.Syntax.{Around, Value, Elements, no_elements, element, IsValue, AreElements, value_text, elements_text}
+use Rattle.toml_edit_model.specs.Syntax.{nesting_limit}
 use Rattle.toml_edit_model.specs.Faults.{Fault, value_faults, elements_faults}
 use Rattle.toml_edit_model.specs.Tree.{Node}
 use Rattle.toml_edit_model.specs.TreeOf.{spanned_form, decor_at, IsValueNode, AreElementNodes}
@@ -58,7 +59,8 @@ at_start source es start level more events done none h =
 abbrev pub next_element : ℕ → Around → Value → ℕ
 next_element start a v = start + length a.before + length (value_text v) + length a.after + 1
 
-pub record Next (source : Text) (es : Elements) (start level : ℕ) (more : List Event) (before : Span) (tail : List Event) (done : List Item) : Type 0 where
+pub record Next (source : Text) (es : Elements) (start level : ℕ) (more : List Event) (before : Span) (tail : List Event)
+    (done : List Item) : Type 0 where
   pub around : Around
   pub value : Value
   pub others : Elements
@@ -73,10 +75,13 @@ pub record Next (source : Text) (es : Elements) (start level : ℕ) (more : List
   pub tail_is : tail ≡ shortened level (value_events (place + length around.before) value
       ++ (event After (place + length around.before + length (value_text value)) around.after
       ∷ (elements_events (next_element place around value) others ++ more)))
-  pub faultless : value_faults value (place + length around.before) level ≡ [] → elements_faults others (next_element place around value) level ≡ []
+  pub faultless : value_faults value (place + length around.before) level ≡ []
+      → elements_faults others (next_element place around value) level ≡ []
       → elements_faults es start level ≡ []
-  pub fault : (f : Fault) → Contains (value_faults value (place + length around.before) level) f → Contains (elements_faults es start level) f
-  pub later_fault : (f : Fault) → Contains (elements_faults others (next_element place around value) level) f → Contains (elements_faults es start level) f
+  pub fault : (f : Fault) → Contains (value_faults value (place + length around.before) level) f
+      → Contains (elements_faults es start level) f
+  pub later_fault : (f : Fault) → Contains (elements_faults others (next_element place around value) level) f
+      → Contains (elements_faults es start level) f
   pub nodes : (x : Item) (xs : List Item) → IsValueNode spanned_form value place around.before around.after (item_view x)
       → AreElementNodes spanned_form others (next_element place around value) (items_view xs)
       → AreElementNodes spanned_form es start (items_view (done ++ x ∷ xs))
@@ -89,7 +94,8 @@ value_stands source start a v (element b w es) h =
     let later : Text = a.after ++ (codes "," ++ elements_text (element b w es)) in
     stands-left source (start + length a.before) (value_text v) later (stands-right source start a.before (value_text v ++ later) h)
 
-others_stand_there : (source : Text) (start : ℕ) (a : Around) (v : Value) (es : Elements) → Stands source start (elements_text (element a v es))
+others_stand_there : (source : Text) (start : ℕ) (a : Around) (v : Value) (es : Elements)
+    → Stands source start (elements_text (element a v es))
     → ElementsStand source (next_element start a v) es
 others_stand_there source start a v no_elements h = tt
 others_stand_there source start a v (element b w es) h =
@@ -108,7 +114,8 @@ next_of : (source : Text) (es : Elements) (start level : ℕ) (more rest : List 
     (left : Elements) (place : ℕ) → AreBefore source left place level more rest
     → (elements_faults left place level ≡ [] → elements_faults es start level ≡ [])
     → ((f : Fault) → Contains (elements_faults left place level) f → Contains (elements_faults es start level) f)
-    → ((others : List Item) → AreElementNodes spanned_form left place (items_view others) → AreElementNodes spanned_form es start (items_view (done ++ others)))
+    → ((others : List Item) → AreElementNodes spanned_form left place (items_view others)
+    → AreElementNodes spanned_form es start (items_view (done ++ others)))
     → Some (before, tail) ≡ split_before rest → Next source es start level more before tail done
 next_of source es start level more rest before tail done no_elements place h faultless fault nodes e =
     let f = e ∙ ap split_before h.events_are ∙ h.ends in absurd cc
@@ -129,7 +136,8 @@ next_of source es start level more rest before tail done (element a v others) pl
       below = h.below;
       ends = h.ends;
       before_is = p.0;
-      tail_is = p.1 ∙ ap (shortened level) (append_assoc (value_events at v) (event After after a.after ∷ elements_events next others) more);
+      tail_is = p.1 ∙ ap (shortened level) (append_assoc (value_events at v) (event After after a.after
+          ∷ elements_events next others) more);
       faultless = λ one two. faultless (both_none (value_faults v at level) (elements_faults others next level) one two);
       fault = λ f c. fault f (Contains-append_left (value_faults v at level) (elements_faults others next level) f c);
       later_fault = λ f c. fault f (Contains-append_right (value_faults v at level) (elements_faults others next level) f c);
@@ -142,7 +150,8 @@ next source es start level more rest before tail done h e =
     next_of source es start level more rest before tail done h.left h.place h.before h.faultless h.fault h.nodes e
 
 -- one more is done
-pub added : (source : Text) (es : Elements) (start level : ℕ) (more : List Event) (before : Span) (tail : List Event) (done now : List Item) (rest : List Event)
+pub added : (source : Text) (es : Elements) (start level : ℕ) (more : List Event) (before : Span) (tail : List Event) (done now : List Item)
+    (rest : List Event)
     (n : Next source es start level more before tail done)
     → AddsElement n.around n.value n.place level (elements_events (next_element n.place n.around n.value) n.others ++ more) done now rest
     → Left source es start level more rest now
@@ -161,10 +170,12 @@ added source es start level more before tail done now rest n h =
     }
 
 -- an element whose value was read is added with what stands around it
-pub element_read : (source : Text) (a : Around) (v : Value) (start level : ℕ) (more : List Event) (old new : List Item) (n : Node) (inner : List Event)
+pub element_read : (source : Text) (a : Around) (v : Value) (start level : ℕ) (more : List Event) (old new : List Item) (n : Node)
+    (inner : List Event)
     (r : Result (Bor (List Event)) ParseFault)
     → IsRead v (start + length a.before) level (event After (start + length a.before + length (value_text v)) a.after ∷ more) n inner
-    → EndsElement (with_decor (decor_at spanned_form start a.before (start + length a.before + length (value_text v)) a.after) n) (shortened level more) old new r
+    → EndsElement (with_decor (decor_at spanned_form start a.before (start + length a.before + length (value_text v)) a.after) n)
+    (shortened level more) old new r
     → ReadsElement source a v start level more old new r
 element_read source a v start level more old new n inner (Ok r) h put =
     record {
@@ -181,7 +192,8 @@ element_read source a v start level more old new n inner (Err e) h put = mapped 
 ended_of : (source : Text) (es : Elements) (start level : ℕ) (more rest : List Event) (done : List Item)
     (left : Elements) (place : ℕ) → AreBefore source left place level more rest
     → (elements_faults left place level ≡ [] → elements_faults es start level ≡ [])
-    → ((others : List Item) → AreElementNodes spanned_form left place (items_view others) → AreElementNodes spanned_form es start (items_view (done ++ others)))
+    → ((others : List Item) → AreElementNodes spanned_form left place (items_view others)
+    → AreElementNodes spanned_form es start (items_view (done ++ others)))
     → None ≡ split_before rest → AreRead es start level more done rest
 ended_of source es start level more rest done no_elements place h faultless nodes e =
     record {

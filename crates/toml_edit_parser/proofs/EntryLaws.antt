@@ -1,5 +1,6 @@
 -- The descent along a path: what stands at its first key, and what is added there or further on.
-use Rattle.std.proofs.Common.{◌≡◌, ℕ, zero, suc, ◌+◌, ◌-◌, Bool, true, false, List, [], ◌∷◌, length, cond, refl, sym, ap, ◌∙◌, subst, arith, Option, Some, None, is_some, option_map, slice_get}
+use Rattle.std.proofs.Common.{◌≡◌, ℕ, zero, suc, ◌+◌, ◌-◌, Bool, true, false, List, [], ◌∷◌, length, cond, refl, sym, ap, ◌∙◌, subst, arith}
+use Rattle.std.proofs.Common.{Option, Some, None, is_some, option_map, slice_get}
 use Rattle.std.specs.Prelude.{Result, Ok, Err, if◌then◌else◌}
 use Rattle.std.proofs.lemmas.Option.{same_Some}
 use Rattle.toml_edit_model.specs.Text.{Text, is_empty}
@@ -7,10 +8,12 @@ use Rattle.toml_edit_model.specs.Spelling.{SpellsKey}
 use Rattle.toml_edit_model.specs.Syntax.{Segment, segment_text, path_text}
 use Rattle.toml_edit_model.specs.Paths.{Path, Mention, mention_of, line_mentions, next_start, to_key}
 use Rattle.toml_edit_model.specs.Faults.{duplicate_key}
-use Rattle.toml_edit_model.specs.Tree.{Raw, owned, Decor, unset, Key, InlineFields, Node, nothing, leaf, list, inline, table, tables, Slots, no_slots, slot}
+use Rattle.toml_edit_model.specs.Tree.{Raw, owned, Decor, unset, Key, InlineFields, Node, nothing, leaf, list, inline, table, tables, Slots}
+use Rattle.toml_edit_model.specs.Tree.{no_slots, slot}
 use Rattle.toml_edit_model.specs.TreeOf.{Entry, spanned_form, span_of, key_of, key_extent}
 use Rattle.toml_edit_laws.specs.FlatTree.{with_slot}
-use Rattle.toml_edit_laws.specs.InlineTree.{node_at, with_node, path_fields, change_below, add_last, add_entry, clash_below, entry_clash, way_message, way_fault}
+use Rattle.toml_edit_laws.specs.InlineTree.{node_at, with_node, path_fields, change_below, add_last, add_entry, clash_below, entry_clash}
+use Rattle.toml_edit_laws.specs.InlineTree.{way_message, way_fault}
 use Rattle.toml_edit_laws.specs.Standing.{Stands}
 use Rattle.toml_edit_laws.proofs.common.StandingLaws.{stands-left, stands-right, cut_out-is}
 use Rattle.toml_edit_laws.proofs.common.Tests.{if-true}
@@ -26,7 +29,8 @@ use Rattle.toml_edit_syntax.specs.declared.event.EventKind.TheVariants.{Key as k
 use Rattle.toml_edit_syntax.specs.ValueEvents.{event, path_events}
 use Rattle.toml_edit_tree.specs.declared.item.Item.{Item}
 use Rattle.toml_edit_parser.specs.declared.pairs.KeyPath.{KeyPath}
-use Rattle.toml_edit_parser.specs.PairRead.{AddsEntry, AddsInside, AddsLast, IsEndOfPath, IsPassed, IsPathAt, NamesClash, AddsBelow, PathView, change_inside, key_with, leaf_of, path_of, split_dot}
+use Rattle.toml_edit_parser.specs.PairRead.{AddsEntry, AddsInside, AddsLast, IsEndOfPath, IsPassed, IsPathAt, NamesClash, AddsBelow}
+use Rattle.toml_edit_parser.specs.PairRead.{PathView, change_inside, key_with, leaf_of, path_of, split_dot}
 use Rattle.toml_edit_parser.specs.ValueRead.{span_at, spanned_raw, split_first}
 use Rattle.toml_edit_tree.specs.View.{item_view, slots_view}
 use Rattle.toml_edit_parser.proofs.ArrayLaws.{spanned_raw-is}
@@ -37,7 +41,8 @@ use Rattle.toml_edit_model.specs.OwnedForm.{cut_out}
 
 -- ---- slots at a place
 
-node_none : (b : Bool) (n : Node) (o : Option Node) (i : Option ℕ) → cond b (Some 0) (option_map suc i) ≡ None → (i ≡ None → o ≡ None) → cond b (Some n) o ≡ None
+node_none : (b : Bool) (n : Node) (o : Option Node) (i : Option ℕ) → cond b (Some 0) (option_map suc i) ≡ None → (i ≡ None → o ≡ None)
+    → cond b (Some n) o ≡ None
 node_none true n o i h f = absurd cc
 node_none false n o None h f = f refl
 node_none false n o (Some j) h f = absurd cc
@@ -64,7 +69,8 @@ node_some false e es o (Some j) (suc at) x h g f = f at (ap Some (same_place j a
 pub node-some : (k : Text) (es : List (repr.Slot Item)) (at : ℕ) (x : Item) → place k es ≡ Some at → Some x ≡ slice_get (items_of es) at
     → node_at k (slots_view es) ≡ Some (item_view x)
 node-some k [] at x h g = absurd cc
-node-some k (e ∷ es) at x h g = node_some (is_at k e) e es (node_at k (slots_view es)) (place k es) at x h g (λ j same there. node-some k es j x same there)
+node-some k (e ∷ es) at x h g =
+    node_some (is_at k e) e es (node_at k (slots_view es)) (place k es) at x h g (λ j same there. node-some k es j x same there)
 
 with_some : (b : Bool) (e : repr.Slot Item) (es : List (repr.Slot Item)) (i : Option ℕ) (at : ℕ) (y : Item) (ss : Slots)
     → cond b (Some 0) (option_map suc i) ≡ Some at → ((j : ℕ) → i ≡ Some j → slots_view (with_item j y es) ≡ ss)
@@ -79,7 +85,8 @@ with_some false e es (Some j) (suc at) y ss h f = ap (slot e.key (item_view e.it
 pub with-place : (k : Text) (es : List (repr.Slot Item)) (at : ℕ) (y : Item) → place k es ≡ Some at
     → slots_view (with_item at y es) ≡ with_node k (item_view y) (slots_view es)
 with-place k [] at y h = absurd cc
-with-place k (e ∷ es) at y h = with_some (is_at k e) e es (place k es) at y (with_node k (item_view y) (slots_view es)) h (λ j same. with-place k es j y same)
+with-place k (e ∷ es) at y h =
+    with_some (is_at k e) e es (place k es) at y (with_node k (item_view y) (slots_view es)) h (λ j same. with-place k es j y same)
 
 found_step : (b : Bool) (n : Node) (o : Option Node) (i : Option ℕ) → is_some (cond b (Some 0) (option_map suc i)) ≡ true
     → (is_some i ≡ true → (m : Node) × (o ≡ Some m)) → (m : Node) × (cond b (Some n) o ≡ Some m)
@@ -97,31 +104,37 @@ none_of None h = refl
 none_of (Some n) h = absurd cc
 
 -- a key that stands there is named
-pub last-refused : (source : Text) (at : Span) (k : Key) (n : Node) (es : List (repr.Slot Item)) (found : Option ℕ) (text : Text) (err : ParseFault)
+pub last-refused : (source : Text) (at : Span) (k : Key) (n : Node) (es : List (repr.Slot Item)) (found : Option ℕ) (text : Text)
+    (err : ParseFault)
     → found ≡ place text es → text ≡ k.name → true ≡ is_some found
     → IfToml err (λ r. r ≡ record { message = duplicate_key; span = Some (at.start, at.end); input = source })
-    → IfToml err (λ r. (m : Node) × (node_at k.name (slots_view es) ≡ Some m) × (r ≡ record { message = duplicate_key; span = Some (at.start, at.end); input = source }))
+    → IfToml err (λ r. (m : Node) × (node_at k.name (slots_view es) ≡ Some m)
+    × (r ≡ record { message = duplicate_key; span = Some (at.start, at.end); input = source }))
 last-refused source at k n es found text err is named there h =
     let o = node-found k.name es (sym (there ∙ ap is_some (is ∙ ap (λ t. place t es) named))) in
     mapped err _ _ (λ r same. (o.0, o.1, same)) h
 
 -- a new key is put last
-pub last-put : (k : Key) (n : Node) (es : List (repr.Slot Item)) (found : Option ℕ) (text : Text) (new : Slots) → found ≡ place text es → text ≡ k.name
+pub last-put : (k : Key) (n : Node) (es : List (repr.Slot Item)) (found : Option ℕ) (text : Text) (new : Slots) → found ≡ place text es
+    → text ≡ k.name
     → false ≡ is_some found → new ≡ with_slot (slots_view es) k n → add_last (slots_view es) k n (node_at k.name (slots_view es)) ≡ Some new
 last-put k n es found text new is named free put =
-    ap (add_last (slots_view es) k n) (node-none k.name es (none_of (place k.name es) (sym (free ∙ ap is_some (is ∙ ap (λ t. place t es) named)))))
+    ap (add_last (slots_view es) k n) (node-none k.name es
+    (none_of (place k.name es) (sym (free ∙ ap is_some (is ∙ ap (λ t. place t es) named)))))
     ∙ ap Some (sym put)
 
 -- ---- one step
 
-some_changed : (b : Bool) (g : InlineFields) (name : Text) (ss : Slots) (o : Option Slots) (new : Node) → cond b (option_map (inline g) o) None ≡ Some new
+some_changed : (b : Bool) (g : InlineFields) (name : Text) (ss : Slots) (o : Option Slots) (new : Node)
+    → cond b (option_map (inline g) o) None ≡ Some new
     → cond b (option_map (λ changed. with_node name (inline g changed) ss) o) None ≡ Some (with_node name new ss)
 some_changed true g name ss (Some changed) new e = ap (option_map (λ n. with_node name n ss)) e
 some_changed true g name ss None new e = absurd cc
 some_changed false g name ss o new e = absurd cc
 
 -- a change inside the item at a key
-pub below-some : (k : Key) (f : InlineFields) (change : Slots → Option Slots) (ss : Slots) (old new : Node) → change_inside change old ≡ Some new
+pub below-some : (k : Key) (f : InlineFields) (change : Slots → Option Slots) (ss : Slots) (old new : Node) → change_inside change old
+    ≡ Some new
     → change_below k f change ss (Some old) ≡ Some (with_node k.name new ss)
 below-some k f change ss (inline g inner) new e = some_changed g.is_dotted g k.name ss (change inner) new e
 below-some k f change ss nothing new e = absurd cc
@@ -132,7 +145,8 @@ below-some k f change ss (tables x xs) new e = absurd cc
 
 entry_step : (m : Mention Entry) (ms : List (Mention Entry)) (n : Node) (ss : Slots) → is_empty ms ≡ false
     → add_entry spanned_form (m ∷ ms) n ss
-    ≡ change_below (key_of spanned_form m.source.leaf m) (path_fields (key_extent spanned_form m)) (add_entry spanned_form ms n) ss (node_at m.segment.key ss)
+    ≡ change_below (key_of spanned_form m.source.leaf m) (path_fields (key_extent spanned_form m)) (add_entry spanned_form ms n) ss
+    (node_at m.segment.key ss)
 entry_step m [] n ss some = absurd cc
 entry_step m (r ∷ rest) n ss some = refl
 
@@ -147,7 +161,8 @@ clash-empty [] = refl
 clash-empty (m ∷ []) = refl
 clash-empty (m ∷ r ∷ rest) = refl
 
-mentions_some : (e : Entry) (start : ℕ) (above : Path) (s : Segment) (p : List Segment) → is_empty (line_mentions e start above (s ∷ p)) ≡ false
+mentions_some : (e : Entry) (start : ℕ) (above : Path) (s : Segment) (p : List Segment) → is_empty (line_mentions e start above (s ∷ p))
+    ≡ false
 mentions_some e start above s [] = refl
 mentions_some e start above s (r ∷ rest) = refl
 
@@ -188,40 +203,48 @@ behind_key start s (r ∷ rest) =
     let dot = start + length (segment_text s) in
     event BeforeDot (key_place start s + length s.spelled) s.after ∷ event AfterDot (dot + 1) r.before ∷ path_events (dot + 1) (r ∷ rest)
 
-path_from : (start : ℕ) (s : Segment) (rest : List Segment) → path_events start (s ∷ rest) ≡ event key_kind (key_place start s) s.spelled ∷ behind_key start s rest
+path_from : (start : ℕ) (s : Segment) (rest : List Segment) → path_events start (s ∷ rest) ≡ event key_kind (key_place start s) s.spelled
+    ∷ behind_key start s rest
 path_from start s [] = refl
 path_from start s (r ∷ rest) = refl
 
-pub first_of : (start : ℕ) (s : Segment) (p : List Segment) (events : List Event) (first : Event) (rest : List Event) → events ≡ path_events start (s ∷ p)
+pub first_of : (start : ℕ) (s : Segment) (p : List Segment) (events : List Event) (first : Event) (rest : List Event) → events
+    ≡ path_events start (s ∷ p)
     → Some (first, rest) ≡ split_first events → (first ≡ event key_kind (key_place start s) s.spelled) × (rest ≡ behind_key start s p)
 first_of start s p events first rest e f = same_parts first _ rest _ (f ∙ ap split_first (e ∙ path_from start s p))
 
-span_is : (start : ℕ) (s : Segment) (first : Event) → first ≡ event key_kind (key_place start s) s.spelled → first.span ≡ span_at (key_place start s) s.spelled
+span_is : (start : ℕ) (s : Segment) (first : Event) → first ≡ event key_kind (key_place start s) s.spelled → first.span
+    ≡ span_at (key_place start s) s.spelled
 span_is start s first e = ap (λ (x : Event). x.span) e
 
 -- a path has an event
-pub some-key : (p : List Segment) (start : ℕ) (events : List Event) (P : Type 0) → IsEndOfPath p → events ≡ path_events start p → None ≡ split_first events → P
+pub some-key : (p : List Segment) (start : ℕ) (events : List Event) (P : Type 0) → IsEndOfPath p → events ≡ path_events start p → None
+    ≡ split_first events → P
 some-key [] start events P are e f = absurd (let g = are.some in cc)
 some-key (s ∷ []) start events P are e f = absurd (let g = f ∙ ap split_first e in cc)
 some-key (s ∷ r ∷ rest) start events P are e f = absurd (let g = f ∙ ap split_first e in cc)
 
-path_head : (source : Text) (start : ℕ) (s : Segment) (rest : List Segment) → Stands source start (path_text (s ∷ rest)) → Stands source (key_place start s) s.spelled
+path_head : (source : Text) (start : ℕ) (s : Segment) (rest : List Segment) → Stands source start (path_text (s ∷ rest))
+    → Stands source (key_place start s) s.spelled
 path_head source start s [] h =
     stands-left source (key_place start s) s.spelled s.after (stands-right source start s.before _ h)
 path_head source start s (r ∷ rest) h =
     stands-left source (key_place start s) s.spelled s.after
     (stands-right source start s.before _ (stands-left source start (segment_text s) _ h))
 
-path_rest : (source : Text) (start : ℕ) (s r : Segment) (rest : List Segment) → Stands source start (path_text (s ∷ r ∷ rest)) → Stands source (next_start start s) (path_text (r ∷ rest))
+path_rest : (source : Text) (start : ℕ) (s r : Segment) (rest : List Segment) → Stands source start (path_text (s ∷ r ∷ rest))
+    → Stands source (next_start start s) (path_text (r ∷ rest))
 path_rest source start s r rest h =
     stands-right source (start + length (segment_text s)) (46 ∷ []) (path_text (r ∷ rest)) (stands-right source start (segment_text s) _ h)
 
 -- the first key is spelled at the first span
-pub key-spelled : (source : Text) (s : Segment) (p : List Segment) (start : ℕ) (first : Event) → IsEndOfPath (s ∷ p) → Stands source start (path_text (s ∷ p))
+pub key-spelled : (source : Text) (s : Segment) (p : List Segment) (start : ℕ) (first : Event) → IsEndOfPath (s ∷ p)
+    → Stands source start (path_text (s ∷ p))
     → first ≡ event key_kind (key_place start s) s.spelled → SpellsKey s.key (cut_out source first.span.start first.span.end)
 key-spelled source s p start first are stands e =
     subst (SpellsKey s.key)
-    (sym (ap (λ (x : Event). cut_out source x.span.start x.span.end) e ∙ cut_out-is source (key_place start s) s.spelled (path_head source start s p stands)))
+    (sym (ap (λ (x : Event). cut_out source x.span.start x.span.end) e
+    ∙ cut_out-is source (key_place start s) s.spelled (path_head source start s p stands)))
     are.spelled.0
 
 end_of : (s r : Segment) (rest : List Segment) → IsEndOfPath (s ∷ r ∷ rest) → IsEndOfPath (r ∷ rest)
@@ -233,7 +256,8 @@ end_of s r rest are = record { some = refl; ends = are.ends; spelled = are.spell
 abbrev Told : Text → Span → Text → Type 0
 Told source at name = (k : Text) → SpellsKey k (cut_out source at.start at.end) → name ≡ k
 
-pub record Facts (source : Text) (e : Entry) (p : List Segment) (start : ℕ) (path : KeyPath) (first : Event) (rest : List Event) (name : Text) : Type 0 where
+pub record Facts (source : Text) (e : Entry) (p : List Segment) (start : ℕ) (path : KeyPath) (first : Event) (rest : List Event)
+    (name : Text) : Type 0 where
   pub are : IsEndOfPath p
   pub stands : Stands source start (path_text p)
   pub at : IsPathAt e start p path
@@ -267,17 +291,21 @@ last_clash source e start above s at k old err spelled same h =
       (m, is.0),
       ap (option_map (λ n. (m, n))) (sym (ap (λ (x : Key). node_at x.name old) same) ∙ is.1),
       ap fault_of is.2 ∙ ap (λ (x : Span). fault_of (message_at duplicate_key x.start x.end source)) spelled
-          ∙ ap (λ t. fault_of (message_at t (key_place start s) (key_place start s + length s.spelled) source)) (sym (last_message m is.0 refl)),
+          ∙ ap (λ t. fault_of (message_at t (key_place start s) (key_place start s + length s.spelled) source))
+          (sym (last_message m is.0 refl)),
     )) h
 
-last_of : {A : Type 0} (source : Text) (e : Entry) (start : ℕ) (above : Path) (s : Segment) (at : Span) (k : Key) (n : Node) (old new : Slots) (result : Result A ParseFault)
+last_of : {A : Type 0} (source : Text) (e : Entry) (start : ℕ) (above : Path) (s : Segment) (at : Span) (k : Key) (n : Node)
+    (old new : Slots) (result : Result A ParseFault)
     → at ≡ span_at (key_place start s) s.spelled → k ≡ key_of spanned_form e.leaf (mention_of e start (to_key above s.key) value_role s)
     → AddsLast source at k n old new result → AddsEntry source (mention_of e start (to_key above s.key) value_role s ∷ []) n old new result
-last_of source e start above s at k n old new (Ok x) spelled same h = subst (λ (y : Key). add_last old y n (node_at y.name old) ≡ Some new) same h
+last_of source e start above s at k n old new (Ok x) spelled same h =
+    subst (λ (y : Key). add_last old y n (node_at y.name old) ≡ Some new) same h
 last_of source e start above s at k n old new (Err err) spelled same h = last_clash source e start above s at k old err spelled same h
 
 -- the last key of a path is added
-pub last-added : {A : Type 0} (source : Text) (e : Entry) (p : List Segment) (start : ℕ) (above : Path) (path : KeyPath) (first : Event) (rest : List Event) (name : Text)
+pub last-added : {A : Type 0} (source : Text) (e : Entry) (p : List Segment) (start : ℕ) (above : Path) (path : KeyPath) (first : Event)
+    (rest : List Event) (name : Text)
     (k : Key) (n : Node) (old new : Slots) (result : Result A ParseFault) → Facts source e p start path first rest name
     → None ≡ split_dot path rest → k ≡ key_with name first.span (leaf_of path) (spanned_raw path.before) (owned [])
     → AddsLast source first.span k n old new result → AddsEntry source (line_mentions e start above p) n old new result
@@ -289,7 +317,8 @@ last-added source e (s ∷ []) start above path first rest name k n old new resu
     let named = f.told s.key (key-spelled source s [] start first f.are f.stands parts.0) in
     let place = key_place start s + length s.spelled in
     last_of source e start above s first.span k n old new result at
-    (is ∙ key_is e start (to_key above s.key) value_role s name first.span (leaf_of path) (spanned_raw path.before) (owned []) spelled named at f.at.0
+    (is ∙ key_is e start (to_key above s.key) value_role s name first.span (leaf_of path) (spanned_raw path.before) (owned []) spelled named
+    at f.at.0
     (ap spanned_raw f.at.1 ∙ spanned_raw-is start s.before) (sym (ap (span_of place) (is_empty-nil s.after f.are.ends)))) h
 last-added source e (s ∷ r ∷ more) start above path first rest name k n old new result f none is h =
     let parts = first_of start s (r ∷ more) path.events.now first rest f.at.2 f.split in
@@ -310,7 +339,8 @@ abbrev decor_in : PathView → Decor
 decor_in p = record { prefix = Some (spanned_raw p.prefix); suffix = Some (spanned_raw p.suffix) }
 
 -- the path behind the dot is one of the same entry
-path_behind : (e : Entry) (start : ℕ) (s r : Segment) (more : List Segment) (path : KeyPath) (after : Span) (inside : KeyPath) (rest : List Event)
+path_behind : (e : Entry) (start : ℕ) (s r : Segment) (more : List Segment) (path : KeyPath) (after : Span) (inside : KeyPath)
+    (rest : List Event)
     → leaf_of path ≡ e.leaf → rest ≡ behind_key start s (r ∷ more) → IsBehind path after inside rest
     → (after ≡ span_at (key_place start s + length s.spelled) s.after) × IsPathAt e (next_start start s) (r ∷ more) inside
 path_behind e start s r more path after inside rest owns is dot =
@@ -320,12 +350,15 @@ path_behind e start s r more path after inside rest owns is dot =
 -- what is said of the rest of a path says the same of what is done there
 abbrev pub ToldInside : {A : Type 0} → Text → Entry → Span → KeyPath → Node → Node → Node → Result A ParseFault → Type 0
 ToldInside source e at inside n old new result =
-    (m : Mention Entry) (p : List Segment) (start : ℕ) (above : Path) → IsPassed at m → IsEndOfPath p → Stands source start (path_text p) → IsPathAt e start p inside
+    (m : Mention Entry) (p : List Segment) (start : ℕ) (above : Path) → IsPassed at m → IsEndOfPath p → Stands source start (path_text p)
+    → IsPathAt e start p inside
     → AddsInside source m (line_mentions e start above p) n old new result
 
-inside_of : {A : Type 0} (source : Text) (m : Mention Entry) (ms : List (Mention Entry)) (es : List (repr.Slot Item)) (at : ℕ) (x y : Item) (n : Node) (result : Result A ParseFault)
+inside_of : {A : Type 0} (source : Text) (m : Mention Entry) (ms : List (Mention Entry)) (es : List (repr.Slot Item)) (at : ℕ) (x y : Item)
+    (n : Node) (result : Result A ParseFault)
     → is_empty ms ≡ false → place m.segment.key es ≡ Some at → Some x ≡ slice_get (items_of es) at
-    → AddsInside source m ms n (item_view x) (item_view y) result → AddsEntry source (m ∷ ms) n (slots_view es) (slots_view (with_item at y es)) result
+    → AddsInside source m ms n (item_view x) (item_view y) result
+    → AddsEntry source (m ∷ ms) n (slots_view es) (slots_view (with_item at y es)) result
 inside_of source m ms es at x y n (Ok z) some here there h =
     let k = key_of spanned_form m.source.leaf m in
     let f = path_fields (key_extent spanned_form m) in
@@ -338,12 +371,15 @@ inside_of source m ms es at x y n (Err err) some here there h =
     (sym (clash_step m ms (slots_view es) some ∙ ap (clash_below m (entry_clash ms)) (node-some m.segment.key es at x here there))) h
 
 -- it goes on in the item that is there
-pub inside-added : {A : Type 0} (source : Text) (e : Entry) (p : List Segment) (start : ℕ) (above : Path) (path : KeyPath) (first : Event) (rest : List Event) (name : Text)
+pub inside-added : {A : Type 0} (source : Text) (e : Entry) (p : List Segment) (start : ℕ) (above : Path) (path : KeyPath) (first : Event)
+    (rest : List Event) (name : Text)
     (after : Span) (inside : KeyPath) (es : List (repr.Slot Item)) (at : ℕ) (x y : Item) (n : Node) (result : Result A ParseFault)
-    → Facts source e p start path first rest name → IsBehind path after inside rest → Some at ≡ place name es → Some x ≡ slice_get (items_of es) at
+    → Facts source e p start path first rest name → IsBehind path after inside rest → Some at ≡ place name es → Some x
+    ≡ slice_get (items_of es) at
     → ToldInside source e first.span inside n (item_view x) (item_view y) result
     → AddsEntry source (line_mentions e start above p) n (slots_view es) (slots_view (with_item at y es)) result
-inside-added source e [] start above path first rest name after inside es at x y n result f dot here there told = absurd (let g = f.are.some in cc)
+inside-added source e [] start above path first rest name after inside es at x y n result f dot here there told =
+    absurd (let g = f.are.some in cc)
 inside-added source e (s ∷ []) start above path first rest name after inside es at x y n result f dot here there told =
     let parts = first_of start s [] path.events.now first rest f.at.2 f.split in
     absurd (let g = dot ∙ ap (split_dot path) parts.1 in cc)
@@ -363,9 +399,11 @@ ToldBelow source e k at inside n old new result =
     (p : List Segment) (start : ℕ) (above : Path) → IsEndOfPath p → Stands source start (path_text p) → IsPathAt e start p inside
     → AddsBelow k at (line_mentions e start above p) n old new result
 
-below_of : {A : Type 0} (source : Text) (m : Mention Entry) (ms : List (Mention Entry)) (es : List (repr.Slot Item)) (k : Key) (at : Span) (n : Node) (new : Slots)
+below_of : {A : Type 0} (source : Text) (m : Mention Entry) (ms : List (Mention Entry)) (es : List (repr.Slot Item)) (k : Key) (at : Span)
+    (n : Node) (new : Slots)
     (result : Result A ParseFault) → is_empty ms ≡ false → place m.segment.key es ≡ None → k ≡ key_of spanned_form m.source.leaf m
-    → at ≡ span_at m.start m.segment.spelled → AddsBelow k at ms n (slots_view es) new result → AddsEntry source (m ∷ ms) n (slots_view es) new result
+    → at ≡ span_at m.start m.segment.spelled → AddsBelow k at ms n (slots_view es) new result
+    → AddsEntry source (m ∷ ms) n (slots_view es) new result
 below_of source m ms es k at n new (Ok z) some free same spelled h =
     let own = key_of spanned_form m.source.leaf m in
     let f = path_fields (key_extent spanned_form m) in
@@ -379,13 +417,15 @@ below_of source m ms es k at n new (Ok z) some free same spelled h =
 below_of source m ms es k at n new (Err err) some free same spelled h = mapped err (λ r. ⊥) _ (λ r none. absurd none) h
 
 -- it goes on below a new key
-pub below-added : {A : Type 0} (source : Text) (e : Entry) (p : List Segment) (start : ℕ) (above : Path) (path : KeyPath) (first : Event) (rest : List Event) (name : Text)
+pub below-added : {A : Type 0} (source : Text) (e : Entry) (p : List Segment) (start : ℕ) (above : Path) (path : KeyPath) (first : Event)
+    (rest : List Event) (name : Text)
     (after : Span) (inside : KeyPath) (es : List (repr.Slot Item)) (k : Key) (n : Node) (new : Slots) (result : Result A ParseFault)
     → Facts source e p start path first rest name → IsBehind path after inside rest → None ≡ place name es
     → k ≡ key_with name first.span unset (spanned_raw path.before) (spanned_raw after)
     → ToldBelow source e k first.span inside n (slots_view es) new result
     → AddsEntry source (line_mentions e start above p) n (slots_view es) new result
-below-added source e [] start above path first rest name after inside es k n new result f dot free is told = absurd (let g = f.are.some in cc)
+below-added source e [] start above path first rest name after inside es k n new result f dot free is told =
+    absurd (let g = f.are.some in cc)
 below-added source e (s ∷ []) start above path first rest name after inside es k n new result f dot free is told =
     let parts = first_of start s [] path.events.now first rest f.at.2 f.split in
     absurd (let g = dot ∙ ap (split_dot path) parts.1 in cc)
@@ -399,23 +439,27 @@ below-added source e (s ∷ r ∷ more) start above path first rest name after i
     let m = mention_of e start (to_key above s.key) dotted_role s in
     below_of source m (line_mentions e (next_start start s) (to_key above s.key) (r ∷ more)) es k first.span n new result
     (mentions_some e (next_start start s) (to_key above s.key) r more) (sym (free ∙ ap (λ t. place t es) named))
-    (is ∙ key_is e start (to_key above s.key) dotted_role s name first.span unset (spanned_raw path.before) (spanned_raw after) spelled named at refl
+    (is ∙ key_is e start (to_key above s.key) dotted_role s name first.span unset (spanned_raw path.before) (spanned_raw after) spelled
+    named at refl
     (ap spanned_raw f.at.1 ∙ spanned_raw-is start s.before) (ap spanned_raw behind.0 ∙ spanned_raw-is here s.after))
     at
     (told (r ∷ more) (next_start start s) (to_key above s.key) (end_of s r more f.are) (path_rest source start s r more f.stands) behind.1)
 
 -- in new slots nothing stands in the way
-pub new-refused : (source : Text) (ms : List (Mention Entry)) (err : ParseFault) (P : Report → Type 0) → IfToml err (NamesClash source (entry_clash ms no_slots)) → IfToml err P
+pub new-refused : (source : Text) (ms : List (Mention Entry)) (err : ParseFault) (P : Report → Type 0)
+    → IfToml err (NamesClash source (entry_clash ms no_slots)) → IfToml err P
 new-refused source ms err P h = mapped err _ _ (λ r is. absurd (let c = sym (clash-empty ms) ∙ is.2 in cc)) h
 
 -- ---- the item at a key
 
-passed_fault : (source : Text) (at : Span) (m : Mention Entry) (n : Node) (message : Text) (r : Report) → IsPassed at m → message ≡ way_message dotted_role n
+passed_fault : (source : Text) (at : Span) (m : Mention Entry) (n : Node) (message : Text) (r : Report) → IsPassed at m → message
+    ≡ way_message dotted_role n
     → r ≡ message_at message at.start at.end source → (r.input ≡ source) × (fault_of r ≡ way_fault (m, n))
 passed_fault source at m n message r passed said is = (
   ap (λ x. x.input) is,
   ap fault_of is ∙ ap (λ (x : Span). fault_of (message_at message x.start x.end source)) passed.1
-      ∙ ap (λ t. fault_of (message_at t m.start (m.start + length m.segment.spelled) source)) (said ∙ ap (λ x. way_message x n) (sym passed.0)),
+      ∙ ap (λ t. fault_of (message_at t m.start (m.start + length m.segment.spelled) source)) (said
+      ∙ ap (λ x. way_message x n) (sym passed.0)),
 )
 
 -- an item that is no dotted inline table
@@ -423,7 +467,8 @@ abbrev pub Stops : Node → Type 0
 Stops (inline f ss) = f.is_dotted ≡ false
 Stops _ = Unit {0}
 
-stop_below : (m : Mention Entry) (further : Slots → Option (Mention Entry × Node)) (n : Node) → Stops n → clash_below m further (Some n) ≡ Some (m, n)
+stop_below : (m : Mention Entry) (further : Slots → Option (Mention Entry × Node)) (n : Node) → Stops n → clash_below m further (Some n)
+    ≡ Some (m, n)
 stop_below m further nothing h = refl
 stop_below m further (leaf s spelling d) h = refl
 stop_below m further (list f xs) h = refl
@@ -432,18 +477,22 @@ stop_below m further (tables x xs) h = refl
 stop_below m further (inline f ss) h = rw h refl
 
 -- such an item is named
-pub stopped : (source : Text) (at : Span) (m : Mention Entry) (ms : List (Mention Entry)) (n : Node) (message : Text) (err : ParseFault) → IsPassed at m → Stops n
+pub stopped : (source : Text) (at : Span) (m : Mention Entry) (ms : List (Mention Entry)) (n : Node) (message : Text) (err : ParseFault)
+    → IsPassed at m → Stops n
     → message ≡ way_message dotted_role n → IfToml err (λ r. r ≡ message_at message at.start at.end source)
     → IfToml err (NamesClash source (clash_below m (entry_clash ms) (Some n)))
 stopped source at m ms n message err passed stops said h =
-    mapped err _ _ (λ r is. let f = passed_fault source at m n message r passed said is in (f.0, (m, n), stop_below m (entry_clash ms) n stops, f.1)) h
+    mapped err _ _ (λ r is. let f = passed_fault source at m n message r passed said is in
+    (f.0, (m, n), stop_below m (entry_clash ms) n stops, f.1)) h
 
-went_some : (b : Bool) (f : InlineFields) (o : Option Slots) (new : Slots) → b ≡ true → o ≡ Some new → cond b (option_map (inline f) o) None ≡ Some (inline f new)
+went_some : (b : Bool) (f : InlineFields) (o : Option Slots) (new : Slots) → b ≡ true → o ≡ Some new → cond b (option_map (inline f) o) None
+    ≡ Some (inline f new)
 went_some true f o new e h = ap (option_map (inline f)) h
 went_some false f o new e h = absurd cc
 
 -- it goes on in the slots of a dotted inline table
-pub went-on : {A : Type 0} (source : Text) (m : Mention Entry) (ms : List (Mention Entry)) (n : Node) (f : InlineFields) (old new : Slots) (result : Result A ParseFault)
+pub went-on : {A : Type 0} (source : Text) (m : Mention Entry) (ms : List (Mention Entry)) (n : Node) (f : InlineFields) (old new : Slots)
+    (result : Result A ParseFault)
     → f.is_dotted ≡ true → AddsEntry source ms n old new result → AddsInside source m ms n (inline f old) (inline f new) result
 went-on source m ms n f old new (Ok x) dotted h = went_some f.is_dotted f (add_entry spanned_form ms n old) new dotted h
 went-on source m ms n f old new (Err err) dotted h =

@@ -1,5 +1,6 @@
 -- An inline table, from its pairs and its end.
-use Rattle.std.proofs.Common.{◌≡◌, ℕ, suc, ◌+◌, ◌-◌, ◌<◌, Bool, true, false, List, [], ◌++◌, length, refl, sym, ap, ◌∙◌, subst, Some, None, codes}
+use Rattle.std.proofs.Common.{◌≡◌, ℕ, suc, ◌+◌, ◌-◌, ◌<◌, Bool, true, false, List, [], ◌++◌, length, refl, sym, ap, ◌∙◌, subst, Some, None}
+use Rattle.std.proofs.Common.{codes}
 use Rattle.std.specs.Prelude.{Result, Ok, Err}
 use Rattle.std.specs.Borrow.{Bor}
 use Rattle.toml_edit_model.specs.Text.{Text}
@@ -30,7 +31,8 @@ use Rattle.toml_edit_model.specs.TableMentions.{kept}
 use Rattle.toml_edit_model.specs.OwnedForm.{SlotsFit, NodeFits}
 
 inline_end_split : (level at : ℕ) (comma : Bool) (t : Text) (more : List Event)
-    → split_close (shortened (suc level) (close_events InlineTableClose (codes "}") at comma t ++ more)) ≡ Some (end_at at comma t, shortened level more)
+    → split_close (shortened (suc level) (close_events InlineTableClose (codes "}") at comma t ++ more))
+    ≡ Some (end_at at comma t, shortened level more)
 inline_end_split level at true t more = rw (less level) refl
 inline_end_split level at false t more = rw (less level) refl
 
@@ -39,7 +41,8 @@ pub inline_ends : (level at : ℕ) (comma : Bool) (t : Text) (more : List Event)
 inline_ends level at true t more = refl
 inline_ends level at false t more = refl
 
-pub pairs_stand : (source : Text) (ps : Pairs) (comma : Bool) (t : Text) (start : ℕ) → Stands source start (value_text (inline_table ps comma t)) → PairsStand source (start + 1) ps
+pub pairs_stand : (source : Text) (ps : Pairs) (comma : Bool) (t : Text) (start : ℕ)
+    → Stands source start (value_text (inline_table ps comma t)) → PairsStand source (start + 1) ps
 pairs_stand source no_pairs comma t start h = tt
 pairs_stand source (pair f v ps) comma t start h =
     let later : Text = comma_text comma ++ (t ++ codes "}") in
@@ -47,9 +50,11 @@ pairs_stand source (pair f v ps) comma t start h =
     stands-left source (start + 1) inner later (stands-right source start (codes "{") (inner ++ later) h)
 
 inline_fault : (ps : Pairs) (comma : Bool) (t : Text) (start level : ℕ) → level < nesting_limit
-    → value_faults (inline_table ps comma t) start level ≡ pair_clashes [] (pair_mentions (start + 1) ps) ++ pairs_faults ps (start + 1) (suc level)
+    → value_faults (inline_table ps comma t) start level ≡ pair_clashes [] (pair_mentions (start + 1) ps)
+    ++ pairs_faults ps (start + 1) (suc level)
 inline_fault ps comma t start level below =
-    ap (λ (x : List Fault). x ++ (pair_clashes [] (pair_mentions (start + 1) ps) ++ pairs_faults ps (start + 1) (suc level))) (not_deep level start below)
+    ap (λ (x : List Fault). x ++ (pair_clashes [] (pair_mentions (start + 1) ps) ++ pairs_faults ps (start + 1) (suc level)))
+    (not_deep level start below)
 
 -- what is refused of the pairs is a fault of the inline table
 pub inline-refused : (source : Text) (ps : Pairs) (comma : Bool) (t : Text) (start level : ℕ) (e : ParseFault) → level < nesting_limit
@@ -61,9 +66,11 @@ inline-refused source ps comma t start level e below h =
 abbrev fields_of : Decor → Bool → Raw → Extent → InlineFields
 fields_of d comma r extent = record { decor = d; is_dotted = false; comma = comma; trailing = r; extent = extent }
 
-inline_read : (ps : Pairs) (comma : Bool) (t : Text) (start level : ℕ) (more : List Event) (ss : Slots) (inner : List Event) (n : Node) (rest : List Event)
+inline_read : (ps : Pairs) (comma : Bool) (t : Text) (start level : ℕ) (more : List Event) (ss : Slots) (inner : List Event) (n : Node)
+    (rest : List Event)
     → level < nesting_limit
-    → ArePairsRead ps (start + 1) (suc level) (close_events InlineTableClose (codes "}") (start + length (value_text (inline_table ps comma t)) - 1) comma t ++ more) ss inner
+    → ArePairsRead ps (start + 1) (suc level) (close_events InlineTableClose (codes "}") (start
+    + length (value_text (inline_table ps comma t)) - 1) comma t ++ more) ss inner
     → MakesInline start (end_at (start + length (value_text (inline_table ps comma t)) - 1) comma t) ss (shortened level more) n rest
     → IsRead (inline_table ps comma t) start level more n rest
 inline_read ps comma t start level more ss inner n rest below h made =
@@ -72,23 +79,33 @@ inline_read ps comma t start level more ss inner n rest below h made =
     let clashes = pair_clashes [] (pair_mentions (start + 1) ps) in
     let none : clashes ≡ [] = is_empty-nil clashes (is_empty-clashes (start + 1) ps ∙ h.agreement) in
     record {
-      faultless = inline_fault ps comma t start level below ∙ ap (λ (x : List Fault). x ++ pairs_faults ps (start + 1) (suc level)) none ∙ h.faultless;
+      faultless = inline_fault ps comma t start level below ∙ ap (λ (x : List Fault). x ++ pairs_faults ps (start + 1) (suc level)) none
+          ∙ h.faultless;
       rest_is = made.rest_is;
       node = λ i before after e.
           let trailing = spanned_raw-is (at - length t) t in
           let close = size_is start (length (pairs_text ps ++ (comma_text comma ++ (t ++ codes "}")))) in
-          subst (λ m. IsValueNode spanned_form (inline_table ps comma t) i before after (with_decor (decor_at spanned_form i before (start + size) after) m)) (sym made.node) (
+          subst (λ m. IsValueNode spanned_form (inline_table ps comma t) i before after
+          (with_decor (decor_at spanned_form i before (start + size) after) m)) (sym made.node) (
             ap (λ (r : Raw). fields_of (decor_at spanned_form i before (start + size) after) comma r (Some (start, at + 1))) trailing
-                ∙ ap (λ j. fields_of (decor_at spanned_form i before (start + size) after) comma (span_of (at - length t) t) (Some (start, j))) close
-                ∙ ap (λ j. fields_of (decor_at spanned_form i before (j + size) after) comma (span_of (j + size - 1 - length t) t) (Some (j, j + size))) e,
+                ∙ ap (λ j. fields_of (decor_at spanned_form i before (start + size) after) comma (span_of (at - length t) t) (Some (
+                  start,
+                  j,
+                ))) close
+                ∙ ap (λ j. fields_of (decor_at spanned_form i before (j + size) after) comma (span_of (j + size - 1 - length t) t) (Some (
+                  j,
+                  j + size,
+                ))) e,
             subst (λ j. AreEntrySlots spanned_form (entries spanned_form ps (j + 1)) (kept (entries spanned_form ps (j + 1))) ss) e h.slots,
           );
     }
 
 -- an inline table whose pairs were read is closed
-pub inline-closed : (source : Text) (ps : Pairs) (comma : Bool) (t : Text) (start level : ℕ) (more : List Event) (ss : Slots) (inner : List Event) (opening : ℕ)
+pub inline-closed : (source : Text) (ps : Pairs) (comma : Bool) (t : Text) (start level : ℕ) (more : List Event) (ss : Slots)
+    (inner : List Event) (opening : ℕ)
     (result : Result (code.Value × Bor (List Event)) ParseFault) → level < nesting_limit → opening ≡ start
-    → ArePairsRead ps (start + 1) (suc level) (close_events InlineTableClose (codes "}") (start + length (value_text (inline_table ps comma t)) - 1) comma t ++ more) ss inner
+    → ArePairsRead ps (start + 1) (suc level) (close_events InlineTableClose (codes "}") (start
+    + length (value_text (inline_table ps comma t)) - 1) comma t ++ more) ss inner
     → ((close : Close) (behind : List Event) → split_close inner ≡ Some (close, behind) → EndsInline opening close ss behind result)
     → ReadsValue source (inline_table ps comma t) start level more result
 inline-closed source ps comma t start level more ss inner opening (Ok r) below same h told =
@@ -98,7 +115,8 @@ inline-closed source ps comma t start level more ss inner opening (Ok r) below s
     (record { rest_is = made.rest_is; node = made.node ∙ ap (λ j. inline_node (inline_of j (end_at at comma t) ss)) same })
 inline-closed source ps comma t start level more ss inner opening (Err e) below same h told =
     let at = start + length (value_text (inline_table ps comma t)) - 1 in
-    mapped e (λ r. ⊥) _ (λ r none. absurd none) (told (end_at at comma t) (shortened level more) (ap split_close h.rest_is ∙ inline_end_split level at comma t more))
+    mapped e (λ r. ⊥) _ (λ r none. absurd none) (told (end_at at comma t) (shortened level more) (ap split_close h.rest_is
+    ∙ inline_end_split level at comma t more))
 
 -- what is made of an inline table's end is what its end says
 pub made_inline : (start : ℕ) (own close : Close) (ss : Slots) (behind more : List Event) (n : Node) → (own ≡ close) × (behind ≡ more)

@@ -31,14 +31,16 @@ back : (start n : ℕ) → start ≡ start + n - n
 back start n = omega arith
 
 key_is : (own : Decor) (start : ℕ) (s : Segment) (name : Text) (at : Span) (before after : Raw) → (s.spelled ≡ [] → ⊥) → name ≡ s.key
-    → at ≡ span_at (start + length s.before) s.spelled → before ≡ span_of start s.before → after ≡ span_of (start + length s.before + length s.spelled) s.after
+    → at ≡ span_at (start + length s.before) s.spelled → before ≡ span_of start s.before → after
+    ≡ span_of (start + length s.before + length s.spelled) s.after
     → key_with name at own before after ≡ segment_key own start s
 key_is own start s name at before after some named spelled left right =
     let place = start + length s.before in
     ap (λ (t : Text). key_with t at own before after) named
     ∙ ap (λ (x : Span). key_with s.key x own before after) spelled
     ∙ ap (λ (r : Raw). with_spelling own s r before after) (sym (span_of-some place s.spelled some))
-    ∙ ap (λ (r : Raw). with_spelling own s (span_of place s.spelled) r after) (left ∙ ap (λ (j : ℕ). span_of j s.before) (back start (length s.before)))
+    ∙ ap (λ (r : Raw). with_spelling own s (span_of place s.spelled) r after) (left
+    ∙ ap (λ (j : ℕ). span_of j s.before) (back start (length s.before)))
     ∙ ap (λ (r : Raw). with_spelling own s (span_of place s.spelled) (span_of (place - length s.before) s.before) r) right
 
 -- what is told of the text at a span
@@ -46,11 +48,12 @@ abbrev Told : Text → Span → Text → Type 0
 Told source at name = (k : Text) → SpellsKey k (cut_out source at.start at.end) → name ≡ k
 
 -- what was read of a path
-pub record Seen (source : Text) (own : Decor) (p : List Segment) (start : ℕ) (path : KeyPath) (first : Event) (rest : List Event) : Type 0 where
-  pub are : IsEndOfPath p
-  pub stands : Stands source start (path_text p)
-  pub at : IsPathFrom own start p path
-  pub split : Some (first, rest) ≡ split_first path.events.now
+pub record Seen (source : Text) (own : Decor) (p : List Segment) (start : ℕ) (path : KeyPath) (first : Event) (rest : List Event) : Type 0
+  where
+    pub are : IsEndOfPath p
+    pub stands : Stands source start (path_text p)
+    pub at : IsPathFrom own start p path
+    pub split : Some (first, rest) ≡ split_first path.events.now
 
 one_event : (source : Text) (own : Decor) (start : ℕ) (s : Segment) (path : KeyPath) (first : Event) (rest : List Event)
     → Seen source own (s ∷ []) start path first rest → (first ≡ event key_kind (start + length s.before) s.spelled) × (rest ≡ [])
@@ -60,14 +63,18 @@ one_event source own start s path first rest f = same_parts first _ rest _ (f.sp
 abbrev behind_dot : ℕ → Segment → Segment → List Segment → List Event
 behind_dot start s r more =
     let dot = start + length (segment_text s) in
-    event BeforeDot (start + length s.before + length s.spelled) s.after ∷ event AfterDot (dot + 1) r.before ∷ path_events (dot + 1) (r ∷ more)
+    event BeforeDot (start + length s.before + length s.spelled) s.after ∷ event AfterDot (dot + 1) r.before
+    ∷ path_events (dot + 1) (r ∷ more)
 
-more_events : (source : Text) (own : Decor) (start : ℕ) (s r : Segment) (more : List Segment) (path : KeyPath) (first : Event) (rest : List Event)
-    → Seen source own (s ∷ r ∷ more) start path first rest → (first ≡ event key_kind (start + length s.before) s.spelled) × (rest ≡ behind_dot start s r more)
+more_events : (source : Text) (own : Decor) (start : ℕ) (s r : Segment) (more : List Segment) (path : KeyPath) (first : Event)
+    (rest : List Event)
+    → Seen source own (s ∷ r ∷ more) start path first rest → (first ≡ event key_kind (start + length s.before) s.spelled)
+    × (rest ≡ behind_dot start s r more)
 more_events source own start s r more path first rest f = same_parts first _ rest _ (f.split ∙ ap split_first f.at.2)
 
 -- the name of the first key can't be refused
-pub name-refused : (source : Text) (own : Decor) (p : List Segment) (start : ℕ) (path : KeyPath) (first : Event) (rest : List Event) (err : ParseFault)
+pub name-refused : (source : Text) (own : Decor) (p : List Segment) (start : ℕ) (path : KeyPath) (first : Event) (rest : List Event)
+    (err : ParseFault)
     → Seen source own p start path first rest
     → ((k : Text) → SpellsKey k (cut_out source first.span.start first.span.end) → IfToml err (λ r. ⊥)) → IfToml err (λ r. ⊥)
 name-refused source own [] start path first rest err f told = absurd (let g = f.are.some in cc)
@@ -77,7 +84,8 @@ name-refused source own (s ∷ r ∷ more) start path first rest err f told =
     told s.key (key-spelled source s (r ∷ more) start first f.are f.stands (more_events source own start s r more path first rest f).0)
 
 -- the last key of a path
-pub last-read : (source : Text) (own : Decor) (p : List Segment) (start : ℕ) (path : KeyPath) (first : Event) (rest : List Event) (name : Text) (k : Key)
+pub last-read : (source : Text) (own : Decor) (p : List Segment) (start : ℕ) (path : KeyPath) (first : Event) (rest : List Event)
+    (name : Text) (k : Key)
     → Seen source own p start path first rest → Told source first.span name → None ≡ split_dot path rest
     → k ≡ key_with name first.span (leaf_of path) (spanned_raw path.before) (owned [])
     → IsFirstKey own start p (record { key = k; span = first.span; rest = None })
@@ -113,7 +121,8 @@ abbrev decor_in : PathView → Decor
 decor_in p = record { prefix = Some (spanned_raw p.prefix); suffix = Some (spanned_raw p.suffix) }
 
 -- a key that a path passes through, and the path behind its dot
-pub passed-read : (source : Text) (own : Decor) (p : List Segment) (start : ℕ) (path : KeyPath) (first : Event) (rest : List Event) (name : Text) (k : Key)
+pub passed-read : (source : Text) (own : Decor) (p : List Segment) (start : ℕ) (path : KeyPath) (first : Event) (rest : List Event)
+    (name : Text) (k : Key)
     (after : Span) (inside : KeyPath) → Seen source own p start path first rest → Told source first.span name
     → ◌≡◌ {A = Option (Span × PathView)} (Some (after, path_of inside)) (split_dot path rest)
     → k ≡ key_with name first.span unset (spanned_raw path.before) (spanned_raw after)
@@ -130,8 +139,10 @@ passed-read source own (s ∷ r ∷ more) start path first rest name k after ins
       at,
       (
         is
-            ∙ key_is unset start s name first.span (spanned_raw path.before) (spanned_raw after) (spelled-some s.key s.spelled f.are.spelled.0)
-            (told s.key (key-spelled source s (r ∷ more) start first f.are f.stands e.0)) at (ap spanned_raw f.at.1 ∙ spanned_raw-is start s.before)
+            ∙ key_is unset start s name first.span (spanned_raw path.before) (spanned_raw after)
+            (spelled-some s.key s.spelled f.are.spelled.0)
+            (told s.key (key-spelled source s (r ∷ more) start first f.are f.stands e.0)) at (ap spanned_raw f.at.1
+            ∙ spanned_raw-is start s.before)
             (ap spanned_raw dots.0 ∙ spanned_raw-is place s.after),
         (ap decor_in dots.1 ∙ f.at.0, ap (λ (v : PathView). v.before) dots.1, ap (λ (v : PathView). v.events) dots.1),
       ),

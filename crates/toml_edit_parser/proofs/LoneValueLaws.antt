@@ -1,5 +1,6 @@
 -- A lone value, read as a value over its text and then given its own texts.
-use Rattle.std.proofs.Common.{◌≡◌, ◌⊎◌, inl, inr, refl, sym, ap, ◌∙◌, subst, ℕ, ◌+◌, arith, true, false, List, [], ◌++◌, length, append-nil, Option, Some, Bool, rules}
+use Rattle.std.proofs.Common.{◌≡◌, ◌⊎◌, inl, inr, refl, sym, ap, ◌∙◌, subst, ℕ, ◌+◌, arith, true, false, List, [], ◌++◌, length, append-nil}
+use Rattle.std.proofs.Common.{Option, Some, Bool, rules}
 use Rattle.std.specs.Prelude.{Contains, Result, Ok, Err, IsErrOf, IsOk}
 use Rattle.std.proofs.lemmas.Bool.{false≢true}
 use Rattle.toml_edit_model.specs.Mode.{plain}
@@ -63,7 +64,8 @@ pub record IsReadAlone (t : Text) (v : Value) (lone : IsLoneValue t v) (n : Node
   pub made : IsWellMade (owned_node t (with_decor unset n))
   pub item : IsLoneItem v (owned_node t (with_decor unset n))
 
-pub read-alone : (t : Text) (v : Value) (lone : IsLoneValue t v) (n : Node) (rest : List Event) → IsRead v (length lone.before) 0 [] n rest → IsReadAlone t v lone n
+pub read-alone : (t : Text) (v : Value) (lone : IsLoneValue t v) (n : Node) (rest : List Event) → IsRead v (length lone.before) 0 [] n rest
+    → IsReadAlone t v lone n
 read-alone t v lone n rest read =
     let i = length lone.before in
     let d = decor_at spanned_form i [] (i + length (value_text v)) [] in
@@ -74,7 +76,8 @@ read-alone t v lone n rest read =
     let bare = owned-bare t d n in
     record {
       accepted = sym (is_right_value-faults v i) ∙ ap is_empty read.faultless;
-      made = subst IsWellMade (sym bare) (made-bare unset (owned_node t (with_decor d n)) (value_well_made plain v i [] [] (owned_node t (with_decor d n)) lone.value right.2 right.1 node));
+      made = subst IsWellMade (sym bare) (made-bare unset (owned_node t (with_decor d n))
+          (value_well_made plain v i [] [] (owned_node t (with_decor d n)) lone.value right.2 right.1 node));
       item = (owned_node t (with_decor d n), owned_byte plain (owned_node t (with_decor d n)) v i 0 [] [] node, bare);
     }
 
@@ -85,19 +88,22 @@ module _ (t : Text) (es : List Event) (h : AreLoneEvents t es) where
   events_are v lone = h.every v lone ∙ ap (shortened 0) (sym (append-nil (value_events (length lone.before) v)))
 
   -- those of a value with no fault are not cut short
-  pub not_short : (v : Value) (lone : IsLoneValue t v) (n : Node) (rest : List Event) → IsRead v (length lone.before) 0 [] n rest → are_deep es ≡ false
+  pub not_short : (v : Value) (lone : IsLoneValue t v) (n : Node) (rest : List Event) → IsRead v (length lone.before) 0 [] n rest
+      → are_deep es ≡ false
   not_short v lone n rest read =
       let i = length lone.before in
       let right = (value_faults_right v i 0 (omega arith)).0 read.faultless in
       h.deep v lone ∙ within_depth v (omega (arith, right.0.0))
 
   -- The value is well made in owned form,
-  pub lone_made : (n : Node) (rest : List Event) → ((v : Value) (lone : IsLoneValue t v) → IsRead v (length lone.before) 0 [] n rest) → are_deep es ≡ false
+  pub lone_made : (n : Node) (rest : List Event) → ((v : Value) (lone : IsLoneValue t v) → IsRead v (length lone.before) 0 [] n rest)
+      → are_deep es ≡ false
       → IsWellMade (owned_node t (with_decor unset n))
   lone_made n rest told whole = let found = h.has_value whole in (read-alone t found.0 found.1 n rest (told found.0 found.1)).made
 
   -- and is then the lone value.
-  pub lone_read : (n m : Node) (rest : List Event) → ((v : Value) (lone : IsLoneValue t v) → IsRead v (length lone.before) 0 [] n rest) → are_deep es ≡ false
+  pub lone_read : (n m : Node) (rest : List Event) → ((v : Value) (lone : IsLoneValue t v) → IsRead v (length lone.before) 0 [] n rest)
+      → are_deep es ≡ false
       → m ≡ owned_node t (with_decor unset n) → IsLoneReading t m
   lone_read n m rest told whole is =
       let found = h.has_value whole in
@@ -111,7 +117,8 @@ module _ (t : Text) (es : List Event) (h : AreLoneEvents t es) where
       }
 
   -- Where the events are cut short, there is none.
-  pub no_value : (n : Node) (rest : List Event) → ((v : Value) (lone : IsLoneValue t v) → IsRead v (length lone.before) 0 [] n rest) → are_deep es ≡ true
+  pub no_value : (n : Node) (rest : List Event) → ((v : Value) (lone : IsLoneValue t v) → IsRead v (length lone.before) 0 [] n rest)
+      → are_deep es ≡ true
       → (v : Value) → IsLoneValue t v → ⊥
   no_value n rest told short v lone = false≢true (sym (not_short v lone n rest (told v lone)) ∙ short)
 
@@ -158,7 +165,8 @@ refused_whole t m span Memory none h listed syntax = tt
 
 -- the syntax of a text without events
 pub syntax_refused : (t m : Text) (s : ℕ × ℕ) (e : ParseFault) → Contains syntax_messages m
-    → IfToml e (λ r. r ≡ record { message = m; span = Some s; input = t }) → IfToml e (λ r. IsSyntaxFault (fault_of r) ⊎ ValueOpensTooMany t)
+    → IfToml e (λ r. r ≡ record { message = m; span = Some s; input = t })
+    → IfToml e (λ r. IsSyntaxFault (fault_of r) ⊎ ValueOpensTooMany t)
 syntax_refused t m s (Toml r) is h =
     inl (subst (λ (x : Report). IsSyntaxFault (fault_of x)) (sym h) (record { message = is; span = search rules }))
 syntax_refused t m s Memory is h = tt
@@ -177,7 +185,8 @@ still_memory e h = elim h [ inl ok ↦ absurd cc | inr is ↦ let f : e ≡ Memo
 -- ---- a text with no events
 
 -- a text with such events is read, or else memory ran out
-pub not_text : {A : Type 0} (r : Result A SyntaxFault) (f : SyntaxFault) (mistake : Mistake) (span : Span) → r ≡ Err f → f ≡ faults.Text mistake span → IsOk r ⊎ IsErrOf r faults.Memory → ⊥
+pub not_text : {A : Type 0} (r : Result A SyntaxFault) (f : SyntaxFault) (mistake : Mistake) (span : Span) → r ≡ Err f → f
+    ≡ faults.Text mistake span → IsOk r ⊎ IsErrOf r faults.Memory → ⊥
 not_text (Ok x) f mistake span e g told = absurd cc
 not_text (Err fault) f mistake span e g (inl h) = absurd cc
 not_text (Err fault) f mistake span e g (inr h) = absurd cc

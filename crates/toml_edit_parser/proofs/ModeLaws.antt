@@ -1,12 +1,14 @@
 -- Where the mode in which a text is read makes a difference, and where it makes none.
-use Rattle.std.proofs.Common.{◌≡◌, ◌⊎◌, inl, inr, ℕ, ◌+◌, ◌==◌, Bool, true, false, if◌then◌else◌, List, [], ◌∷◌, ◌++◌, length, codes, get_or, append-nil, refl, sym, ap, ◌∙◌, subst, arith}
+use Rattle.std.proofs.Common.{◌≡◌, ◌⊎◌, inl, inr, ℕ, ◌+◌, ◌==◌, Bool, true, false, if◌then◌else◌, List, [], ◌∷◌, ◌++◌, length, codes}
+use Rattle.std.proofs.Common.{get_or, append-nil, refl, sym, ap, ◌∙◌, subst, arith}
 use Rattle.std.specs.Prelude.{MatchBool}
 use Rattle.std.proofs.Math.Seq.{get_or_at}
 use Rattle.std.proofs.lemmas.List.{get_or_past, length-append}
 use Rattle.toml_edit_model.specs.Text.{Text, carriage_return, line_feed}
 use Rattle.toml_edit_model.specs.Trivia.{lf, crlf, IsNewline}
 use Rattle.toml_edit_model.specs.Mode.{Mode, plain, exact, but_last, with_return}
-use Rattle.toml_edit_model.specs.Syntax.{Frame, Value, scalar, array, inline_table, Elements, no_elements, element, Pairs, no_pairs, pair, Header, key_line, header, path_text, value_text, frame_text, statement_text, brackets_text}
+use Rattle.toml_edit_model.specs.Syntax.{Frame, Value, scalar, array, inline_table, Elements, no_elements, element, Pairs, no_pairs, pair}
+use Rattle.toml_edit_model.specs.Syntax.{Header, key_line, header, path_text, value_text, frame_text, statement_text, brackets_text}
 use Rattle.toml_edit_model.specs.Paths.{at_key, Mention, line_mentions}
 use Rattle.toml_edit_model.specs.Roles.{ends_path}
 use Rattle.toml_edit_model.specs.TableMentions.{under, kept}
@@ -29,24 +31,34 @@ module _ (mode : Mode) where
   entries-same : (ps : Pairs) (i : ℕ) → entries spanned_form ps i ≡ entries (spanned_in mode) ps i
   entries-same no_pairs i = refl
   entries-same (pair f v ps) i =
-      ap (λ ms. line_mentions (entry_of spanned_form i f v) (i + length f.leading) [] f.path ++ ms) (entries-same ps (i + length (frame_text f (value_text v)) + 1))
+      ap (λ ms. line_mentions (entry_of spanned_form i f v) (i + length f.leading) [] f.path
+      ++ ms) (entries-same ps (i + length (frame_text f (value_text v)) + 1))
 
   mutual
-    pub value-in-mode : (v : Value) (i : ℕ) (before after : Text) (n : Node) → IsValueNode spanned_form v i before after n → IsValueNode (spanned_in mode) v i before after n
+    pub value-in-mode : (v : Value) (i : ℕ) (before after : Text) (n : Node) → IsValueNode spanned_form v i before after n
+        → IsValueNode (spanned_in mode) v i before after n
     value-in-mode (scalar s t) i before after (leaf r spelling d) h = h
     value-in-mode (array es comma t) i before after (list f xs) h = (h.0, elements-in-mode es (i + length before + 1) xs h.1)
     value-in-mode (inline_table ps comma t) i before after (inline f ss) h =
-        let at = i + length before + 1 in
-        (h.0, subst (λ ms. AreEntrySlots (spanned_in mode) ms (kept ms) ss) (entries-same ps at) (slots-in-mode (entries spanned_form ps at) (kept (entries spanned_form ps at)) ss h.1))
+        let at = i + length before + 1 in (
+          h.0,
+          subst (λ ms. AreEntrySlots (spanned_in mode) ms (kept ms) ss) (entries-same ps at)
+              (slots-in-mode (entries spanned_form ps at) (kept (entries spanned_form ps at)) ss h.1),
+        )
     value-in-mode v i before after n h = absurd h
 
-    elements-in-mode : (es : Elements) (i : ℕ) (xs : Items) → AreElementNodes spanned_form es i xs → AreElementNodes (spanned_in mode) es i xs
+    elements-in-mode : (es : Elements) (i : ℕ) (xs : Items) → AreElementNodes spanned_form es i xs
+        → AreElementNodes (spanned_in mode) es i xs
     elements-in-mode no_elements i no_items h = tt
-    elements-in-mode (element a v es) i (item n xs) h =
-        (value-in-mode v i a.before a.after n h.0, elements-in-mode es (i + length a.before + length (value_text v) + length a.after + 1) xs h.1)
+    elements-in-mode (element a v es) i (item n xs) h = (
+      value-in-mode v i a.before a.after n h.0,
+      elements-in-mode es (i + length a.before + length (value_text v) + length a.after
+          + 1) xs h.1,
+    )
     elements-in-mode es i xs h = absurd h
 
-    slots-in-mode : (ms ks : List (Mention Entry)) (ss : Slots) → AreEntrySlots spanned_form ms ks ss → AreEntrySlots (spanned_in mode) ms ks ss
+    slots-in-mode : (ms ks : List (Mention Entry)) (ss : Slots) → AreEntrySlots spanned_form ms ks ss
+        → AreEntrySlots (spanned_in mode) ms ks ss
     slots-in-mode ms [] no_slots h = tt
     slots-in-mode ms (m ∷ rest) (slot k (inline f us) ss) h = (
       h.0,
@@ -54,16 +66,35 @@ module _ (mode : Mode) where
           (λ g. (g.0, slots-in-mode (under (at_key m.segment.key) ms) (kept (under (at_key m.segment.key) ms)) us g.1)) h.1,
       slots-in-mode ms rest ss h.2,
     )
-    slots-in-mode ms (m ∷ rest) (slot k nothing ss) h =
-        (h.0, by_role (ends_path m.role) (value-in-mode m.source.value m.source.start m.source.before m.source.after nothing) (λ g. g) h.1, slots-in-mode ms rest ss h.2)
-    slots-in-mode ms (m ∷ rest) (slot k (leaf s r d) ss) h =
-        (h.0, by_role (ends_path m.role) (value-in-mode m.source.value m.source.start m.source.before m.source.after (leaf s r d)) (λ g. g) h.1, slots-in-mode ms rest ss h.2)
-    slots-in-mode ms (m ∷ rest) (slot k (list f xs) ss) h =
-        (h.0, by_role (ends_path m.role) (value-in-mode m.source.value m.source.start m.source.before m.source.after (list f xs)) (λ g. g) h.1, slots-in-mode ms rest ss h.2)
-    slots-in-mode ms (m ∷ rest) (slot k (table f us) ss) h =
-        (h.0, by_role (ends_path m.role) (value-in-mode m.source.value m.source.start m.source.before m.source.after (table f us)) (λ g. g) h.1, slots-in-mode ms rest ss h.2)
-    slots-in-mode ms (m ∷ rest) (slot k (tables e xs) ss) h =
-        (h.0, by_role (ends_path m.role) (value-in-mode m.source.value m.source.start m.source.before m.source.after (tables e xs)) (λ g. g) h.1, slots-in-mode ms rest ss h.2)
+    slots-in-mode ms (m ∷ rest) (slot k nothing ss) h = (
+      h.0,
+      by_role (ends_path m.role) (value-in-mode m.source.value m.source.start m.source.before m.source.after nothing) (λ g. g) h.1,
+      slots-in-mode ms rest ss h.2,
+    )
+    slots-in-mode ms (m ∷ rest) (slot k (leaf s r d) ss) h = (
+      h.0,
+      by_role (ends_path m.role) (value-in-mode m.source.value m.source.start m.source.before m.source.after (leaf s r d)) (λ g. g)
+          h.1,
+      slots-in-mode ms rest ss h.2,
+    )
+    slots-in-mode ms (m ∷ rest) (slot k (list f xs) ss) h = (
+      h.0,
+      by_role (ends_path m.role) (value-in-mode m.source.value m.source.start m.source.before m.source.after (list f xs)) (λ g. g)
+          h.1,
+      slots-in-mode ms rest ss h.2,
+    )
+    slots-in-mode ms (m ∷ rest) (slot k (table f us) ss) h = (
+      h.0,
+      by_role (ends_path m.role) (value-in-mode m.source.value m.source.start m.source.before m.source.after (table f us)) (λ g. g)
+          h.1,
+      slots-in-mode ms rest ss h.2,
+    )
+    slots-in-mode ms (m ∷ rest) (slot k (tables e xs) ss) h = (
+      h.0,
+      by_role (ends_path m.role) (value-in-mode m.source.value m.source.start m.source.before m.source.after (tables e xs)) (λ g. g)
+          h.1,
+      slots-in-mode ms rest ss h.2,
+    )
     slots-in-mode ms ks ss h = absurd h
 
 -- ---- the suffix of a statement
@@ -79,7 +110,8 @@ suffix-by : (source : Text) (s : Span) (c : ℕ) → get_or source s.end 0 ≡ c
 suffix-by source s c e = ap (λ x. if x == carriage_return then record { start = s.start; end = s.end + 1 } else s) e
 
 -- The newline stands behind the text that begins at this byte, whose span is lengthened by what the mode counts to it.
-suffix-is : (mode : Mode) (source : Text) (at : ℕ) (t end : Text) → Stands source (at + length t) end → IsNewline end ⊎ ((end ≡ []) × (length source ≡ at + length t))
+suffix-is : (mode : Mode) (source : Text) (at : ℕ) (t end : Text) → Stands source (at + length t) end → IsNewline end
+    ⊎ ((end ≡ []) × (length source ≡ at + length t))
     → suffix_span mode source (span_at at t) ≡ span_at at (with_return mode t end)
 suffix-is plain source at t end stands ends = refl
 suffix-is exact source at t end stands (inl (lf, e)) =
@@ -87,7 +119,8 @@ suffix-is exact source at t end stands (inl (lf, e)) =
     suffix-by source (span_at at t) line_feed behind ∙ ap (span_at at) (sym (append-nil t)) ∙ ap (λ x. span_at at (t ++ but_last x)) (sym e)
 suffix-is exact source at t end stands (inl (crlf, e)) =
     let behind = byte-there source (at + length t) carriage_return (line_feed ∷ []) (subst (Stands source (at + length t)) e stands) in
-    let longer : at + length t + 1 ≡ at + length (t ++ carriage_return ∷ []) = let more = length-append t (carriage_return ∷ []) in omega (arith, more) in
+    let longer : at + length t + 1 ≡ at + length (t ++ carriage_return ∷ []) = let more = length-append t (carriage_return ∷ []) in
+    omega (arith, more) in
     suffix-by source (span_at at t) carriage_return behind
     ∙ ap (λ (i : ℕ). record { start = at; end = i }) longer
     ∙ ap (λ x. span_at at (t ++ but_last x)) (sym e)
@@ -109,7 +142,8 @@ frame-end start f t =
     omega (arith, one, two, three, four, five)
 
 -- the suffix of a key line
-pub line-suffix : (mode : Mode) (source : Text) (start : ℕ) (f : Frame) (v : Value) (end : Text) → Stands source start (statement_text (key_line f v end))
+pub line-suffix : (mode : Mode) (source : Text) (start : ℕ) (f : Frame) (v : Value) (end : Text)
+    → Stands source start (statement_text (key_line f v end))
     → IsEnded source start (key_line f v end)
     → suffix_span mode source (span_at (value_at_byte start f + length (value_text v)) f.trailing)
     ≡ span_at (value_at_byte start f + length (value_text v)) (with_return mode f.trailing end)
@@ -117,9 +151,11 @@ line-suffix mode source start f v end stands ends =
     let frame = frame_text f (value_text v) in
     let at = value_at_byte start f + length (value_text v) in
     let there = frame-end start f (value_text v) in
-    suffix-is mode source at f.trailing end (subst (λ i. Stands source i end) there (stands-right source start frame end stands)) (by_end ends)
+    suffix-is mode source at f.trailing end (subst (λ i. Stands source i end) there (stands-right source start frame end stands))
+    (by_end ends)
   where
-    by_end : IsEnded source start (key_line f v end) → IsNewline end ⊎ ((end ≡ []) × (length source ≡ value_at_byte start f + length (value_text v) + length f.trailing))
+    by_end : IsEnded source start (key_line f v end) → IsNewline end
+        ⊎ ((end ≡ []) × (length source ≡ value_at_byte start f + length (value_text v) + length f.trailing))
     by_end (inl is) = inl is
     by_end (inr (none, whole)) =
         let size = length-append (frame_text f (value_text v)) end in
@@ -128,7 +164,8 @@ line-suffix mode source start f v end stands ends =
         inr (none, omega (arith, size, empty, there, whole))
 
 -- the suffix of a header
-pub header-suffix : (mode : Mode) (source : Text) (start : ℕ) (h : Header) (end : Text) → Stands source start (statement_text (header h end))
+pub header-suffix : (mode : Mode) (source : Text) (start : ℕ) (h : Header) (end : Text)
+    → Stands source start (statement_text (header h end))
     → IsEnded source start (header h end)
     → suffix_span mode source (span_at (start + length h.leading + length (brackets_text h)) h.trailing)
     ≡ span_at (start + length h.leading + length (brackets_text h)) (with_return mode h.trailing end)
@@ -138,7 +175,8 @@ header-suffix mode source start h end stands ends =
     let behind = stands-right source (start + length h.leading) (brackets_text h) (h.trailing ++ end) brackets in
     suffix-is mode source at h.trailing end (stands-right source at h.trailing end behind) (by_end ends)
   where
-    by_end : IsEnded source start (header h end) → IsNewline end ⊎ ((end ≡ []) × (length source ≡ start + length h.leading + length (brackets_text h) + length h.trailing))
+    by_end : IsEnded source start (header h end) → IsNewline end
+        ⊎ ((end ≡ []) × (length source ≡ start + length h.leading + length (brackets_text h) + length h.trailing))
     by_end (inl is) = inl is
     by_end (inr (none, whole)) =
         let behind : Text = h.trailing ++ end in

@@ -1,10 +1,12 @@
 -- The loop over the pairs of an inline table: how far it is, and its steps.
-use Rattle.std.proofs.Common.{◌≡◌, ℕ, suc, ◌+◌, ◌≤◌, List, [], ◌∷◌, ◌++◌, length, refl, sym, ap, ◌∙◌, subst, append_assoc, arith, Some, None, codes, inl, inr}
+use Rattle.std.proofs.Common.{◌≡◌, ℕ, suc, ◌+◌, ◌≤◌, List, [], ◌∷◌, ◌++◌, length, refl, sym, ap, ◌∙◌, subst, append_assoc, arith, Some}
+use Rattle.std.proofs.Common.{None, codes, inl, inr}
 use Rattle.std.specs.Prelude.{Contains}
 use Rattle.std.proofs.lemmas.List.{length-append}
 use Rattle.std.proofs.lemmas.List.Elements.{Contains-append_left, Contains-append_right}
 use Rattle.toml_edit_model.specs.Text.{Text}
-use Rattle.toml_edit_model.specs.Syntax.{Frame, Value, Pairs, no_pairs, pair, IsValue, IsFrame, ArePairs, value_text, path_text, frame_text, pairs_text, nesting_limit}
+use Rattle.toml_edit_model.specs.Syntax.{Frame, Value, Pairs, no_pairs, pair, IsValue, IsFrame, ArePairs, value_text, path_text, frame_text}
+use Rattle.toml_edit_model.specs.Syntax.{pairs_text, nesting_limit}
 use Rattle.toml_edit_model.specs.Trivia.{IsWholeTrivia}
 use Rattle.toml_edit_model.specs.Paths.{pair_mentions}
 use Rattle.toml_edit_model.specs.Faults.{Fault, long_path, value_faults, pairs_faults, pair_clashes}
@@ -57,11 +59,13 @@ at_start source ps start level more events ss none h =
       fault = λ f c. c;
     }
 
-one_by_one : (ps : Pairs) (f : Frame) (v : Value) (qs : Pairs) → followed_by (followed_by ps (pair f v no_pairs)) qs ≡ followed_by ps (pair f v qs)
+one_by_one : (ps : Pairs) (f : Frame) (v : Value) (qs : Pairs) → followed_by (followed_by ps (pair f v no_pairs)) qs
+    ≡ followed_by ps (pair f v qs)
 one_by_one no_pairs f v qs = refl
 one_by_one (pair g w ps) f v qs = ap (pair g w) (one_by_one ps f v qs)
 
-end_of-more : (start : ℕ) (ps : Pairs) (f : Frame) (v : Value) → end_of_pairs start (followed_by ps (pair f v no_pairs)) ≡ next_pair (end_of_pairs start ps) f v
+end_of-more : (start : ℕ) (ps : Pairs) (f : Frame) (v : Value) → end_of_pairs start (followed_by ps (pair f v no_pairs))
+    ≡ next_pair (end_of_pairs start ps) f v
 end_of-more start no_pairs f v = refl
 end_of-more start (pair g w ps) f v = end_of-more (next_pair start g w) ps f v
 
@@ -71,7 +75,8 @@ followed_by-none (pair f v ps) = ap (pair f v) (followed_by-none ps)
 
 -- ---- the next pair
 
-pub record Next (source : Text) (ps : Pairs) (start level : ℕ) (more : List Event) (leading : Span) (tail : List Event) (ss : Slots) : Type 0 where
+pub record Next (source : Text) (ps : Pairs) (start level : ℕ) (more : List Event) (leading : Span) (tail : List Event) (ss : Slots) : Type
+    0 where
   pub done : Pairs
   pub frame : Frame
   pub value : Value
@@ -89,14 +94,18 @@ pub record Next (source : Text) (ps : Pairs) (start level : ℕ) (more : List Ev
   pub ends : split_leading (shortened level more) ≡ None
   pub leading_is : leading ≡ span_at place frame.leading
   pub tail_is : tail ≡ key_events place frame ++ shortened level (value_events (value_at_byte place frame) value
-      ++ (event After (value_at_byte place frame + length (value_text value)) frame.trailing ∷ (pairs_events (next_pair place frame value) others ++ more)))
+      ++ (event After (value_at_byte place frame + length (value_text value)) frame.trailing
+      ∷ (pairs_events (next_pair place frame value) others ++ more)))
   pub faultless : long_path frame.path ≡ [] → value_faults value (value_at_byte place frame) level ≡ []
       → pairs_faults others (next_pair place frame value) level ≡ [] → pairs_faults ps start level ≡ []
-  pub fault : (f : Fault) → Contains (long_path frame.path ++ value_faults value (value_at_byte place frame) level) f → Contains (pairs_faults ps start level) f
-  pub later_fault : (f : Fault) → Contains (pairs_faults others (next_pair place frame value) level) f → Contains (pairs_faults ps start level) f
+  pub fault : (f : Fault) → Contains (long_path frame.path ++ value_faults value (value_at_byte place frame) level) f
+      → Contains (pairs_faults ps start level) f
+  pub later_fault : (f : Fault) → Contains (pairs_faults others (next_pair place frame value) level) f
+      → Contains (pairs_faults ps start level) f
 
 frame_length : (f : Frame) (t : Text) → length (frame_text f t)
-    ≡ length f.leading + (length (path_text f.path) + (length f.before_equals + suc (length f.after_equals + (length t + length f.trailing))))
+    ≡ length f.leading + (length (path_text f.path) + (length f.before_equals
+    + suc (length f.after_equals + (length t + length f.trailing))))
 frame_length f t =
     let signs : Text = codes "=" ++ (f.after_equals ++ (t ++ f.trailing)) in
     length-append f.leading (path_text f.path ++ (f.before_equals ++ signs))
@@ -105,18 +114,22 @@ frame_length f t =
     ∙ ap (λ n. length f.before_equals + suc n) (length-append f.after_equals (t ++ f.trailing)
     ∙ ap (λ n. length f.after_equals + n) (length-append t f.trailing))))
 
-next_place : (start : ℕ) (f : Frame) (v : Value) → value_at_byte start f + length (value_text v) + length f.trailing + 1 ≡ next_pair start f v
+next_place : (start : ℕ) (f : Frame) (v : Value) → value_at_byte start f + length (value_text v) + length f.trailing + 1
+    ≡ next_pair start f v
 next_place start f v = let h = frame_length f (value_text v) in omega (arith, h)
 
-pair_stands : (source : Text) (start : ℕ) (f : Frame) (v : Value) (ps : Pairs) → Stands source start (pairs_text (pair f v ps)) → Stands source start (frame_text f (value_text v))
+pair_stands : (source : Text) (start : ℕ) (f : Frame) (v : Value) (ps : Pairs) → Stands source start (pairs_text (pair f v ps))
+    → Stands source start (frame_text f (value_text v))
 pair_stands source start f v no_pairs h = h
 pair_stands source start f v (pair g w ps) h = stands-left source start (frame_text f (value_text v)) _ h
 
-others_stand_there : (source : Text) (start : ℕ) (f : Frame) (v : Value) (ps : Pairs) → Stands source start (pairs_text (pair f v ps)) → PairsStand source (next_pair start f v) ps
+others_stand_there : (source : Text) (start : ℕ) (f : Frame) (v : Value) (ps : Pairs) → Stands source start (pairs_text (pair f v ps))
+    → PairsStand source (next_pair start f v) ps
 others_stand_there source start f v no_pairs h = tt
 others_stand_there source start f v (pair g w ps) h =
     let others : Text = pairs_text (pair g w ps) in
-    stands-right source (start + length (frame_text f (value_text v))) (codes ",") others (stands-right source start (frame_text f (value_text v)) (codes "," ++ others) h)
+    stands-right source (start + length (frame_text f (value_text v))) (codes ",") others
+    (stands-right source start (frame_text f (value_text v)) (codes "," ++ others) h)
 
 all_none : (a b c : List Fault) → a ≡ [] → b ≡ [] → c ≡ [] → a ++ (b ++ c) ≡ []
 all_none a b c e f g = ap (λ (x : List Fault). x ++ (b ++ c)) e ∙ ap (λ (x : List Fault). x ++ c) f ∙ g
@@ -125,11 +138,13 @@ among_all : (a b c : List Fault) (f : Fault) → Contains (a ++ b) f → Contain
 among_all a b c f h = subst (λ (x : List Fault). Contains x f) (append_assoc a b c) (Contains-append_left (a ++ b) c f h)
 
 -- the events of a pair up to its value have no brackets
-frame_whole : (level start : ℕ) (f : Frame) (more : List Event) → shortened level (frame_events start f ++ more) ≡ frame_events start f ++ shortened level more
+frame_whole : (level start : ℕ) (f : Frame) (more : List Event) → shortened level (frame_events start f ++ more) ≡ frame_events start f
+    ++ shortened level more
 frame_whole level start f more = ap (λ (x : List Event). event Leading start f.leading ∷ x) (key-whole level start f more)
 
 split_pair : (place level : ℕ) (f : Frame) (v : Value) (others : Pairs) (more : List Event)
-    → shortened level (pairs_events place (pair f v others) ++ more) ≡ frame_events place f ++ shortened level (value_events (value_at_byte place f) v
+    → shortened level (pairs_events place (pair f v others) ++ more) ≡ frame_events place f
+    ++ shortened level (value_events (value_at_byte place f) v
     ++ (event After (value_at_byte place f + length (value_text v)) f.trailing ∷ (pairs_events (next_pair place f v) others ++ more)))
 split_pair place level f v others more =
     let value = value_events (value_at_byte place f) v in
@@ -153,7 +168,8 @@ next_of source ps start level more rest leading tail ss done (pair f v others) a
     let place = end_of_pairs start done in
     let faults = value_faults v (value_at_byte place f) level in
     let later = pairs_faults others (next_pair place f v) level in
-    let p = same_spans leading (span_at place f.leading) tail _ (e ∙ ap split_leading (h.events_are ∙ split_pair place level f v others more)) in
+    let p = same_spans leading (span_at place f.leading) tail _ (e
+    ∙ ap split_leading (h.events_are ∙ split_pair place level f v others more)) in
     record {
       done = done;
       frame = f;
@@ -183,14 +199,16 @@ next source ps start level more rest leading tail ss h e =
     next_of source ps start level more rest leading tail ss h.done h.left h.all h.slots h.before h.faultless h.fault e
 
 -- one more is done
-pub added : (source : Text) (ps : Pairs) (start level : ℕ) (more : List Event) (leading : Span) (tail : List Event) (ss now : Slots) (rest : List Event)
+pub added : (source : Text) (ps : Pairs) (start level : ℕ) (more : List Event) (leading : Span) (tail : List Event) (ss now : Slots)
+    (rest : List Event)
     (n : Next source ps start level more leading tail ss)
     → AddsPair n.frame n.value n.place level (pairs_events (next_pair n.place n.frame n.value) n.others ++ more) ss now rest
     → Left source ps start level more rest now
 added source ps start level more leading tail ss now rest n h =
     let next = next_pair n.place n.frame n.value in
     let done = followed_by n.done (pair n.frame n.value no_pairs) in
-    let end : end_of_pairs start done ≡ next = end_of-more start n.done n.frame n.value ∙ ap (λ i. next_pair i n.frame n.value) n.place_is in
+    let end : end_of_pairs start done ≡ next = end_of-more start n.done n.frame n.value
+    ∙ ap (λ i. next_pair i n.frame n.value) n.place_is in
     let keyed = (keyed_pairs (pair n.frame n.value no_pairs) (n.grammar, n.value_grammar, tt)).0 in
     record {
       done = done;
@@ -207,8 +225,10 @@ added source ps start level more leading tail ss now rest n h =
 
 -- ---- a pair that is refused
 
-clash_named : (source : Text) (ps : Pairs) (start level : ℕ) (more : List Event) (leading : Span) (tail : List Event) (ss : Slots) (r : Report)
-    (n : Next source ps start level more leading tail ss) → NamesClash source (entry_clash (pair_path spanned_form n.place n.frame n.value) ss) r
+clash_named : (source : Text) (ps : Pairs) (start level : ℕ) (more : List Event) (leading : Span) (tail : List Event) (ss : Slots)
+    (r : Report)
+    (n : Next source ps start level more leading tail ss)
+    → NamesClash source (entry_clash (pair_path spanned_form n.place n.frame n.value) ss) r
     → NamesOne source (pair_clashes [] (pair_mentions start ps) ++ pairs_faults ps start level) r
 clash_named source ps start level more leading tail ss r n h =
     let clashes = pair_clashes [] (pair_mentions start ps) in
@@ -217,22 +237,29 @@ clash_named source ps start level more leading tail ss r n h =
     let first : clashes ≡ way_fault h.1 ∷ begins.0 = ap (λ qs. pair_clashes [] (pair_mentions start qs)) (sym n.all) ∙ begins.1 in (
       h.0,
       Contains-append_left clashes (pairs_faults ps start level) (fault_of r)
-          (subst (λ (fs : List Fault). Contains fs (fault_of r)) (sym first) (subst (Contains (way_fault h.1 ∷ begins.0)) (sym h.3) (here (way_fault h.1) begins.0))),
+          (subst (λ (fs : List Fault). Contains fs (fault_of r)) (sym first)
+          (subst (Contains (way_fault h.1 ∷ begins.0)) (sym h.3) (here (way_fault h.1) begins.0))),
     )
 
-pub refused : (source : Text) (ps : Pairs) (start level : ℕ) (more : List Event) (leading : Span) (tail : List Event) (ss : Slots) (e : ParseFault)
+pub refused : (source : Text) (ps : Pairs) (start level : ℕ) (more : List Event) (leading : Span) (tail : List Event) (ss : Slots)
+    (e : ParseFault)
     (n : Next source ps start level more leading tail ss) → IfToml e (NamesPair source n.frame n.value n.place level ss)
     → IfToml e (NamesOne source (pair_clashes [] (pair_mentions start ps) ++ pairs_faults ps start level))
 refused source ps start level more leading tail ss e n h = mapped e _ _ (λ r is. by_kind r is) h
   where
     by_kind : (r : Report) → NamesPair source n.frame n.value n.place level ss r
         → NamesOne source (pair_clashes [] (pair_mentions start ps) ++ pairs_faults ps start level) r
-    by_kind r (inl is) = (is.0, Contains-append_right (pair_clashes [] (pair_mentions start ps)) (pairs_faults ps start level) (fault_of r) (n.fault (fault_of r) is.1))
+    by_kind r (inl is) = (
+      is.0,
+      Contains-append_right (pair_clashes [] (pair_mentions start ps)) (pairs_faults ps start level) (fault_of r)
+          (n.fault (fault_of r) is.1),
+    )
     by_kind r (inr is) = clash_named source ps start level more leading tail ss r n is
 
 -- ---- the end
 
-ended_of : (source : Text) (ps : Pairs) (start level : ℕ) (more rest : List Event) (ss : Slots) (done left : Pairs) → followed_by done left ≡ ps
+ended_of : (source : Text) (ps : Pairs) (start level : ℕ) (more rest : List Event) (ss : Slots) (done left : Pairs) → followed_by done left
+    ≡ ps
     → AreSlotsOfPairs spanned_form done start ss → AreBefore source left (end_of_pairs start done) level more rest
     → (pairs_faults left (end_of_pairs start done) level ≡ [] → pairs_faults ps start level ≡ []) → None ≡ split_leading rest
     → ArePairsRead ps start level more ss rest
@@ -242,6 +269,8 @@ ended_of source ps start level more rest ss done no_pairs all slots h faultless 
 ended_of source ps start level more rest ss done (pair f v others) all slots h faultless e =
     let g = e ∙ ap split_leading (h.events_are ∙ split_pair (end_of_pairs start done) level f v others more) in absurd cc
 
-pub ended : (source : Text) (ps : Pairs) (start level : ℕ) (more rest : List Event) (ss : Slots) → Left source ps start level more rest ss → None ≡ split_leading rest
+pub ended : (source : Text) (ps : Pairs) (start level : ℕ) (more rest : List Event) (ss : Slots) → Left source ps start level more rest ss
+    → None ≡ split_leading rest
     → ArePairsRead ps start level more ss rest
-ended source ps start level more rest ss h e = ended_of source ps start level more rest ss h.done h.left h.all h.slots h.before h.faultless e
+ended source ps start level more rest ss h e =
+    ended_of source ps start level more rest ss h.done h.left h.all h.slots h.before h.faultless e

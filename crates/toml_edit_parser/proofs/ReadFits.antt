@@ -1,5 +1,6 @@
 -- What was read fits its text.
-use Rattle.std.proofs.Common.{◌≡◌, ℕ, ◌<◌, true, false, ◌==◌, Option, Some, None, List, [], ◌∷◌, ◌++◌, length, sym, subst, ap, arith, inl, inr}
+use Rattle.std.proofs.Common.{◌≡◌, ℕ, ◌<◌, true, false, ◌==◌, Option, Some, None, List, [], ◌∷◌, ◌++◌, length, sym, subst, ap, arith, inl}
+use Rattle.std.proofs.Common.{inr}
 use Rattle.std.proofs.lemmas.Bool.{cases_Bool}
 use Rattle.toml_edit_model.specs.Text.{Text}
 use Rattle.toml_edit_model.specs.Tree.{Decor, Node, nothing, leaf, list, inline, table, tables, Items}
@@ -25,7 +26,8 @@ fits-with_decor t (table fields ss) d h f = h
 fits-with_decor t (tables e xs) d h f = h
 
 -- one more item
-pub fits-item : (t : Text) (xs : List Item) (x : Item) → ItemsFit t (items_view xs) → NodeFits t (item_view x) → ItemsFit t (items_view (xs ++ x ∷ []))
+pub fits-item : (t : Text) (xs : List Item) (x : Item) → ItemsFit t (items_view xs) → NodeFits t (item_view x)
+    → ItemsFit t (items_view (xs ++ x ∷ []))
 fits-item t [] x h n = (n, tt)
 fits-item t (y ∷ xs) x h n = (h.0, fits-item t xs x h.1 n)
 
@@ -47,18 +49,33 @@ close_in t (a ∷ b ∷ []) close rest e h =
     elim (cases_Bool (is_comma a.kind)) [
       | inl is ↦ let f : ◌≡◌ {A = Option (Close × List Event)} (Some (close, rest)) None = rw is at e in absurd cc
       | inr is ↦
-          let f : ◌≡◌ {A = Option (Close × List Event)} (Some (close, rest)) (Some (record { comma = false; inner = a.span; end = b.span.end }, [])) = rw is at e in
-          let p = same_closes close _ rest _ f in
-          (subst (λ (c : Close). IsSpanOf t c.inner) (sym p.0) h.0, subst (AreIn t) (sym p.1) h.1.1, let n = ap (λ (ys : List Event). length ys) p.1 in omega arith)
+          let f : ◌≡◌ {A = Option (Close × List Event)} (Some (close, rest))
+          (Some (record { comma = false; inner = a.span; end = b.span.end }, [])) = rw is at e in
+          let p = same_closes close _ rest _ f in (
+            subst (λ (c : Close). IsSpanOf t c.inner) (sym p.0) h.0,
+            subst (AreIn t) (sym p.1) h.1.1,
+            let n =
+                ap (λ (ys : List Event). length ys) p.1 in omega arith,
+          )
     ]
 close_in t (a ∷ b ∷ c ∷ es) close rest e h =
     elim (cases_Bool (is_comma a.kind)) [
       | inl is ↦
-          let f : ◌≡◌ {A = Option (Close × List Event)} (Some (close, rest)) (Some (record { comma = true; inner = b.span; end = c.span.end }, es)) = rw is at e in
-          let p = same_closes close _ rest _ f in
-          (subst (λ (x : Close). IsSpanOf t x.inner) (sym p.0) h.1.0, subst (AreIn t) (sym p.1) h.1.1.1, let n = ap (λ (ys : List Event). length ys) p.1 in omega arith)
+          let f : ◌≡◌ {A = Option (Close × List Event)} (Some (close, rest))
+          (Some (record { comma = true; inner = b.span; end = c.span.end }, es)) = rw is at e in
+          let p = same_closes close _ rest _ f in (
+            subst (λ (x : Close). IsSpanOf t x.inner) (sym p.0) h.1.0,
+            subst (AreIn t) (sym p.1) h.1.1.1,
+            let n =
+                ap (λ (ys : List Event). length ys) p.1 in omega arith,
+          )
       | inr is ↦
-          let f : ◌≡◌ {A = Option (Close × List Event)} (Some (close, rest)) (Some (record { comma = false; inner = a.span; end = b.span.end }, c ∷ es)) = rw is at e in
-          let p = same_closes close _ rest _ f in
-          (subst (λ (x : Close). IsSpanOf t x.inner) (sym p.0) h.0, subst (AreIn t) (sym p.1) h.1.1, let n = ap (λ (ys : List Event). length ys) p.1 in omega arith)
+          let f : ◌≡◌ {A = Option (Close × List Event)} (Some (close, rest))
+          (Some (record { comma = false; inner = a.span; end = b.span.end }, c ∷ es)) = rw is at e in
+          let p = same_closes close _ rest _ f in (
+            subst (λ (x : Close). IsSpanOf t x.inner) (sym p.0) h.0,
+            subst (AreIn t) (sym p.1) h.1.1,
+            let n =
+                ap (λ (ys : List Event). length ys) p.1 in omega arith,
+          )
     ]

@@ -38,7 +38,8 @@ abbrev pub element_tail : ℕ → ℕ → Value → Text → List Event → List
 element_tail level at v after more = shortened level (value_events at v ++ (event After (at + length (value_text v)) after ∷ more))
 
 -- An element that begins with a scalar is one.
-pub scalar_element : (source : Text) (v : Value) (at level : ℕ) (after : Text) (more tail : List Event) (place : Span) (behind : List Event) (R : Value → Type 0)
+pub scalar_element : (source : Text) (v : Value) (at level : ℕ) (after : Text) (more tail : List Event) (place : Span) (behind : List Event)
+    (R : Value → Type 0)
     → Some (place, behind) ≡ split_scalar tail → tail ≡ element_tail level at v after more → IsValue v → Stands source at (value_text v)
     → ((s : scalars.Scalar) (t : Text) → Spells s t → Stands source at t → place ≡ span_at at t
     → behind ≡ shortened level (event After (at + length t) after ∷ more) → R (scalar s t))
@@ -48,15 +49,26 @@ scalar_element source (scalar s t) at level after more tail place behind R e is 
     f s t spells stands p.0 p.1
 scalar_element source (array es comma t) at level after more tail place behind R e is spells stands f =
     let g = e ∙ ap split_scalar is in
-    elim (eqb_tells level nesting_limit) [ inl (full, same) ↦ let h = rw full at g in absurd cc | inr (below, apart) ↦ let h = rw below at g in absurd cc ]
+    elim (eqb_tells level nesting_limit) [
+      | inl (full, same) ↦ let h = rw full at g in absurd cc
+      | inr (below, apart) ↦ let h =
+          rw below at g in absurd cc
+    ]
 scalar_element source (inline_table ps comma t) at level after more tail place behind R e is spells stands f =
     let g = e ∙ ap split_scalar is in
-    elim (eqb_tells level nesting_limit) [ inl (full, same) ↦ let h = rw full at g in absurd cc | inr (below, apart) ↦ let h = rw below at g in absurd cc ]
+    elim (eqb_tells level nesting_limit) [
+      | inl (full, same) ↦ let h = rw full at g in absurd cc
+      | inr (below, apart) ↦ let h =
+          rw below at g in absurd cc
+    ]
 
 -- So is a value that begins with a scalar, whatever events follow it.
-pub scalar_first : (source : Text) (v : Value) (at : ℕ) (es : ℕ → List Event) (tail : List Event) (place : Span) (behind : List Event) (R : Value → Type 0)
-    → Some (place, behind) ≡ split_scalar tail → tail ≡ shortened 0 (value_events at v ++ es (at + length (value_text v))) → IsValue v → Stands source at (value_text v)
-    → ((s : scalars.Scalar) (t : Text) → Spells s t → Stands source at t → place ≡ span_at at t → behind ≡ shortened 0 (es (at + length t)) → R (scalar s t))
+pub scalar_first : (source : Text) (v : Value) (at : ℕ) (es : ℕ
+    → List Event) (tail : List Event) (place : Span) (behind : List Event) (R : Value → Type 0)
+    → Some (place, behind) ≡ split_scalar tail → tail ≡ shortened 0 (value_events at v ++ es (at + length (value_text v))) → IsValue v
+    → Stands source at (value_text v)
+    → ((s : scalars.Scalar) (t : Text) → Spells s t → Stands source at t → place ≡ span_at at t → behind ≡ shortened 0 (es (at + length t))
+    → R (scalar s t))
     → R v
 scalar_first source (scalar s t) at es tail place behind R e is spells stands f =
     let p = same_spans place (span_at at t) behind (shortened 0 (es (at + length t))) (e ∙ ap split_scalar is) in
@@ -66,7 +78,8 @@ scalar_first source (inline_table ps comma t) at es tail place behind R e is spe
 
 -- ---- what its place says
 
-pub place_cut : (source : Text) (place : Span) (at : ℕ) (t : Text) → place ≡ span_at at t → Stands source at t → cut_out source place.start place.end ≡ t
+pub place_cut : (source : Text) (place : Span) (at : ℕ) (t : Text) → place ≡ span_at at t → Stands source at t
+    → cut_out source place.start place.end ≡ t
 place_cut source place at t is stands = ap (λ (p : Span). cut_out source p.start p.end) is ∙ cut_out-is source at t stands
 
 abbrev fault_from : Span → Text → Fault
@@ -88,14 +101,16 @@ scalar_refusal source s t at place message e is past told h =
 abbrev put_decor : Span → Span → Decor
 put_decor a b = record { prefix = Some (spanned_raw a); suffix = Some (spanned_raw b) }
 
-pub scalar_added : (a : Around) (s : scalars.Scalar) (t : Text) (start level : ℕ) (more : List Event) (old new : List Item) (before place : Span)
+pub scalar_added : (a : Around) (s : scalars.Scalar) (t : Text) (start level : ℕ) (more : List Event) (old new : List Item)
+    (before place : Span)
     (first : Event) (events rest : List Event) (w : code.Value) (d : Decor)
     → Spells s t → before ≡ span_at start a.before → place ≡ span_at (start + length a.before) t
     → events ≡ shortened level (event After (start + length a.before + length t) a.after ∷ more) → Some (first, rest) ≡ split_first events
     → is_in_range s t ≡ true → value_view w ≡ leaf s (Some (span place.start place.end)) d → d ≡ put_decor before first.span
     → new ≡ old ++ items.Value w ∷ []
     → AddsElement a (scalar s t) start level more old new rest
-scalar_added a s t start level more old new before place first events rest w d spells before_is place_is events_are split fits view decor put =
+scalar_added a s t start level more old new before place first events rest w d spells before_is place_is events_are split fits view decor
+    put =
     let at = start + length a.before in
     let end = at + length t in
     let p = same_parts first (event After end a.after) rest (shortened level more) (split ∙ ap split_first events_are) in
@@ -117,16 +132,21 @@ scalar_added a s t start level more old new before place first events rest w d s
     }
 
 -- the value of a key line, and the text that is counted to its suffix
-pub scalar_put : (mode : Mode) (source : Text) (s : scalars.Scalar) (t : Text) (start : ℕ) (before : Span) (after suffix : Text) (more : List Event) (place : Span) (first : Event)
+pub scalar_put : (mode : Mode) (source : Text) (s : scalars.Scalar) (t : Text) (start : ℕ) (before : Span) (after suffix : Text)
+    (more : List Event) (place : Span) (first : Event)
     (events rest : List Event) (w : code.Value) (d : Decor)
-    → Spells s t → place ≡ span_at start t → events ≡ shortened 0 (event LineEnd (start + length t) after ∷ more) → Some (first, rest) ≡ split_first events
+    → Spells s t → place ≡ span_at start t → events ≡ shortened 0 (event LineEnd (start + length t) after ∷ more) → Some (first, rest)
+    ≡ split_first events
     → suffix_span mode source (span_at (start + length t) after) ≡ span_at (start + length t) suffix
-    → is_in_range s t ≡ true → value_view w ≡ leaf s (Some (span place.start place.end)) d → d ≡ put_decor before (suffix_span mode source first.span)
+    → is_in_range s t ≡ true → value_view w ≡ leaf s (Some (span place.start place.end)) d → d
+    ≡ put_decor before (suffix_span mode source first.span)
     → IsLineValue mode (scalar s t) start before suffix more (item_view (items.Value w)) rest
-scalar_put mode source s t start before after suffix more place first events rest w d spells place_is events_are split counted fits view decor =
+scalar_put mode source s t start before after suffix more place first events rest w d spells place_is events_are split counted fits view
+    decor =
     let end = start + length t in
     let p = same_parts first (event LineEnd end after) rest (shortened 0 more) (split ∙ ap split_first events_are) in
-    let after_is : suffix_span mode source first.span ≡ span_at end suffix = ap (λ (x : Event). suffix_span mode source x.span) p.0 ∙ counted in
+    let after_is : suffix_span mode source first.span ≡ span_at end suffix = ap (λ (x : Event). suffix_span mode source x.span) p.0
+    ∙ counted in
     let spelling = λ (x : Span). leaf s (Some (span x.start x.end)) d in
     record {
       faultless = no_fault s t start fits;
@@ -145,7 +165,8 @@ scalar_put mode source s t start before after suffix more place first events res
 -- ---- it fits
 
 pub scalar_fits : (t : Text) (xs ys : List Item) (w : code.Value) (s : scalars.Scalar) (i j : ℕ) (d : Decor) (a b : Raw)
-    → value_view w ≡ leaf s (Some (span i j)) d → RawFits t (span i j) → d ≡ record { prefix = Some a; suffix = Some b } → RawFits t a → RawFits t b
+    → value_view w ≡ leaf s (Some (span i j)) d → RawFits t (span i j) → d ≡ record { prefix = Some a; suffix = Some b } → RawFits t a
+    → RawFits t b
     → ys ≡ xs ++ items.Value w ∷ [] → ItemsFit t (items_view xs) → ItemsFit t (items_view ys)
 scalar_fits t xs ys w s i j d a b view spelling decor before after put fit =
     let known = view-Value w ∙ view ∙ ap (leaf s (Some (span i j))) decor in

@@ -2,7 +2,8 @@
 use Rattle.std.proofs.Common.{◌≡◌, ℕ, ◌+◌, true, false, [], ◌∷◌, ◌++◌, length, Option, None, Some, refl, sym, ap, ◌∙◌, inl, inr}
 use Rattle.toml_edit_model.specs.Text.{Text, is_empty}
 use Rattle.toml_edit_model.specs.Scalars.{Date, Time, Offset, Scalar, string, integer, float, boolean, datetime}
-use Rattle.toml_edit_model.specs.Spelling.{SpellsKey, Spells, SpellsTime, SpellsParts, IsFloat, Digits, IsDigits, digits_text, plus, minus, unsigned, sign_text, base_number, base_prefix}
+use Rattle.toml_edit_model.specs.Spelling.{SpellsKey, Spells, SpellsTime, SpellsParts, IsFloat, Digits, IsDigits, digits_text, plus, minus}
+use Rattle.toml_edit_model.specs.Spelling.{unsigned, sign_text, base_number, base_prefix}
 use Rattle.toml_edit_model.specs.Tree.{span}
 use Rattle.toml_edit_model.specs.TreeOf.{span_of}
 

@@ -13,8 +13,12 @@ pub first_in : (t : Text) (es : List Event) (first : Event) (rest : List Event) 
     → IsSpanOf t first.span × AreIn t rest × (length rest < length es)
 first_in t [] first rest e h = absurd cc
 first_in t (x ∷ es) first rest e h =
-    let p = same_parts first x rest es e in
-    (subst (λ (y : Event). IsSpanOf t y.span) (sym p.0) h.0, subst (AreIn t) (sym p.1) h.1, let n = ap (λ (ys : List Event). length ys) p.1 in omega arith)
+    let p = same_parts first x rest es e in (
+      subst (λ (y : Event). IsSpanOf t y.span) (sym p.0) h.0,
+      subst (AreIn t) (sym p.1) h.1,
+      let n =
+          ap (λ (ys : List Event). length ys) p.1 in omega arith,
+    )
 
 -- the text before an element
 pub before_in : (t : Text) (es : List Event) (before : Span) (rest : List Event) → Some (before, rest) ≡ split_before es → AreIn t es

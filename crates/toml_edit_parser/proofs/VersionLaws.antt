@@ -58,12 +58,14 @@ shallow v h =
 
 module _ (version : Version) (t : Text) where
   pub reading_in : (es : List Event) (n : Node) → AreLoneEvents t es
-      → ((v : Value) → IsLoneValue t v → are_deep es ≡ false → is_value_of version v ≡ true) → IsLoneReading t n → IsLoneReadingIn version t n
+      → ((v : Value) → IsLoneValue t v → are_deep es ≡ false → is_value_of version v ≡ true) → IsLoneReading t n
+      → IsLoneReadingIn version t n
   reading_in es n are passed h =
       record {
         value = h.value;
         lone = h.lone;
-        accepted = ap (λ b. b && is_accepted_value h.value) (passed h.value h.lone (are.deep h.value h.lone ∙ shallow h.value h.accepted)) ∙ h.accepted;
+        accepted = ap (λ b. b && is_accepted_value h.value) (passed h.value h.lone (are.deep h.value h.lone ∙ shallow h.value h.accepted))
+            ∙ h.accepted;
         only = h.only;
         item = h.item;
       }
@@ -76,7 +78,8 @@ module _ (version : Version) (t : Text) where
         names =
             record {
               names = λ v lone.
-                  Contains-append_right (late_value_faults version (length lone.before) v) (value_faults v (length lone.before) 0) (fault_of r)
+                  Contains-append_right (late_value_faults version (length lone.before) v) (value_faults v (length lone.before) 0)
+                  (fault_of r)
                   (h.names.names v lone);
               allowed = (report_in version r h.listed).allowed;
             };
@@ -95,13 +98,15 @@ module _ (version : Version) (t : Text) where
   read_in es (Ok v) are passed h = reading_in es (value_view v) are passed h
   read_in es (Err e) are passed h = tt
 
-  pub refused_in : (r : Result code.Value ParseFault) → IfErr r (λ e. IfToml e (IsLoneRefusal t)) → IfErr r (λ e. IfToml e (IsLoneRefusalIn version t))
+  pub refused_in : (r : Result code.Value ParseFault) → IfErr r (λ e. IfToml e (IsLoneRefusal t))
+      → IfErr r (λ e. IfToml e (IsLoneRefusalIn version t))
   refused_in (Ok v) h = tt
   refused_in (Err e) h = fault_in e h
 
 -- ---- where a part is late
 
-module _ (t : Text) (s : Span) (told : (v : Value) (lone : IsLoneValue t v) → Contains (late_value v (length lone.before)) (s.start, s.end - s.start)) where
+module _ (t : Text) (s : Span) (told : (v : Value) (lone : IsLoneValue t v)
+    → Contains (late_value v (length lone.before)) (s.start, s.end - s.start)) where
   pub not_early : (v : Value) → IsLoneValue t v → is_value_of v1_0 v ≡ false
   not_early v lone = not_value_of v (length lone.before) (s.start, s.end - s.start) (told v lone)
 

@@ -44,7 +44,8 @@ view-Float f = search (rules, the_lemmas)
 pub view-Boolean : (f : FormattedView Bool) → value_view (values.Boolean f) ≡ leaf (boolean f.value) f.repr f.decor
 view-Boolean f = search (rules, the_lemmas)
 
-pub view-Datetime : (f : FormattedView code.Datetime) → value_view (values.Datetime f) ≡ leaf (datetime (datetime_view f.value)) f.repr f.decor
+pub view-Datetime : (f : FormattedView code.Datetime) → value_view (values.Datetime f)
+    ≡ leaf (datetime (datetime_view f.value)) f.repr f.decor
 view-Datetime f = search (rules, the_lemmas)
 
 -- each value is one of its variants

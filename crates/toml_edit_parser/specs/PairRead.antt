@@ -1,9 +1,11 @@
 -- What reading the pairs of an inline table or one of them does, by the events of the text.
-use Rattle.std.specs.Prelude.{◌≡◌, ◌≤◌, ◌<◌, ◌⊎◌, ℕ, suc, ◌+◌, ◌-◌, Bool, true, false, List, [], ◌∷◌, ◌++◌, length, take, drop, Option, Some, None, option_map, option_and_then, max, codes, position, if◌then◌else◌, Result, Ok, Err}
+use Rattle.std.specs.Prelude.{◌≡◌, ◌≤◌, ◌<◌, ◌⊎◌, ℕ, suc, ◌+◌, ◌-◌, Bool, true, false, List, [], ◌∷◌, ◌++◌, length, take, drop, Option}
+use Rattle.std.specs.Prelude.{Some, None, option_map, option_and_then, max, codes, position, if◌then◌else◌, Result, Ok, Err}
 use Rattle.std.specs.List.{AllByRecursion, last_or}
 use Rattle.std.specs.Borrow.{Bor}
 use Rattle.toml_edit_model.specs.Text.{Text, is_empty}
-use Rattle.toml_edit_model.specs.Syntax.{Segment, Frame, Value, Pairs, ArePairs, IsFrame, IsValue, IsSpelledSegment, inline_table, no_pairs, pair, ends_unspaced, frame_text, nesting_limit, path_text, pairs_text, value_text}
+use Rattle.toml_edit_model.specs.Syntax.{Segment, Frame, Value, Pairs, ArePairs, IsFrame, IsValue, IsSpelledSegment, inline_table, no_pairs}
+use Rattle.toml_edit_model.specs.Syntax.{pair, ends_unspaced, frame_text, nesting_limit, path_text, pairs_text, value_text}
 use Rattle.toml_edit_model.specs.Trivia.{IsWholeTrivia}
 use Rattle.toml_edit_model.specs.Conversions.{with_decor}
 use Rattle.toml_edit_model.specs.Paths.{Mention, Path, line_mentions, pair_mentions}
@@ -13,7 +15,8 @@ use Rattle.toml_edit_model.specs.Tree.{Raw, span, Decor, Key, Node, inline, Slot
 use Rattle.toml_edit_model.specs.TreeOf.{Entry, spanned_form, decor_at, entries, value_start, AreEntrySlots}
 use Rattle.toml_edit_laws.specs.Standing.{Stands}
 use Rattle.toml_edit_laws.specs.FlatTree.{with_slot}
-use Rattle.toml_edit_laws.specs.InlineTree.{node_at, path_fields, add_last, add_entry, clash_below, entry_clash, way_fault, pair_path, IsPairNode}
+use Rattle.toml_edit_laws.specs.InlineTree.{node_at, path_fields, add_last, add_entry, clash_below, entry_clash, way_fault, pair_path}
+use Rattle.toml_edit_laws.specs.InlineTree.{IsPairNode}
 use Rattle.toml_edit_error.specs.Report.{Report, fault_of}
 use Rattle.toml_edit_error.specs.Fault.{IfToml}
 use Rattle.toml_edit_error.specs.declared.toml_error.ParseFault.{ParseFault}

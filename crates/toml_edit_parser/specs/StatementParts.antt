@@ -8,7 +8,8 @@ use Rattle.toml_edit_model.specs.Scalars.{Scalar}
 use Rattle.toml_edit_model.specs.Spelling.{Spells}
 use Rattle.toml_edit_laws.specs.Standing.{Stands}
 use Rattle.toml_edit_model.specs.Syntax as syntax
-use Rattle.toml_edit_model.specs.Syntax.{Frame, Value, Header, Statement, IsFrame, IsHeader, IsValue, key_line, path_text, value_text, opening_brackets, closing_brackets, brackets_text, statement_text, newline_after}
+use Rattle.toml_edit_model.specs.Syntax.{Frame, Value, Header, Statement, IsFrame, IsHeader, IsValue, key_line, path_text, value_text}
+use Rattle.toml_edit_model.specs.Syntax.{opening_brackets, closing_brackets, brackets_text, statement_text, newline_after}
 use Rattle.toml_edit_model.specs.Faults.{own_faults, long_path, value_faults}
 use Rattle.toml_edit_model.specs.Tree.{Node}
 use Rattle.toml_edit_model.specs.TreeOf.{spanned_in, frame_leaf, header_leaf, value_start, IsValueNode}

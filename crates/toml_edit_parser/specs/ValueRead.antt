@@ -1,11 +1,13 @@
 -- What reading a value, the elements of an array or one of them does, by the events of the text.
-use Rattle.std.specs.Prelude.{◌≡◌, ◌≤◌, ◌<◌, ℕ, suc, ◌+◌, ◌-◌, Bool, true, false, List, [], ◌∷◌, ◌++◌, length, codes, Contains, Option, Some, None, if◌then◌else◌, ◌==◌, Result, Ok, Err, IfOk}
+use Rattle.std.specs.Prelude.{◌≡◌, ◌≤◌, ◌<◌, ℕ, suc, ◌+◌, ◌-◌, Bool, true, false, List, [], ◌∷◌, ◌++◌, length, codes, Contains, Option}
+use Rattle.std.specs.Prelude.{Some, None, if◌then◌else◌, ◌==◌, Result, Ok, Err, IfOk}
 use Rattle.std.specs.List.{AllByRecursion}
 use Rattle.std.specs.Borrow.{Bor}
 use Rattle.toml_edit_model.specs.Text.{Text}
 use Rattle.toml_edit_model.specs.Scalars as scalars
 use Rattle.toml_edit_model.specs.Spelling.{Spells}
-use Rattle.toml_edit_model.specs.Syntax.{Around, Value, Elements, AreElements, IsValue, array, no_elements, element, value_text, elements_text, nesting_limit}
+use Rattle.toml_edit_model.specs.Syntax.{Around, Value, Elements, AreElements, IsValue, array, no_elements, element, value_text}
+use Rattle.toml_edit_model.specs.Syntax.{elements_text, nesting_limit}
 use Rattle.toml_edit_model.specs.Faults.{Fault, value_faults, elements_faults}
 use Rattle.toml_edit_model.specs.Tree.{Raw, owned, span, unset, Node, Items}
 use Rattle.toml_edit_model.specs.TreeOf.{spanned_form, decor_at, IsValueNode, AreElementNodes}

@@ -1,11 +1,13 @@
 -- The comments of whole trivia, line by line, are those of its pieces.
-use Rattle.std.proofs.Common.{◌≡◌, refl, sym, ap, ◌∙◌, ℕ, ◌==◌, inl, inr, Bool, true, false, not, List, [], ◌∷◌, ◌++◌, Some, None, append_assoc, append-nil}
+use Rattle.std.proofs.Common.{◌≡◌, refl, sym, ap, ◌∙◌, ℕ, ◌==◌, inl, inr, Bool, true, false, not, List, [], ◌∷◌, ◌++◌, Some, None}
+use Rattle.std.proofs.Common.{append_assoc, append-nil}
 use Rattle.std.specs.Prelude.{if◌then◌else◌, take_while}
 use Rattle.std.specs.List.{before_first, cons_option, filter_map, flat_map, AllByRecursion}
 use Rattle.std.proofs.lemmas.List.Sums.{take_while-cons}
 use Rattle.toml_edit_model.specs.Text.{Text, line_feed, carriage_return, hash, newline}
 use Rattle.toml_edit_model.specs.Mode.{exact, ends_in_return, but_last, line_end}
-use Rattle.toml_edit_model.specs.Trivia.{is_blank, is_visible, Each, lf, crlf, comment, Piece, blank, break, remark, piece_text, IsPiece, IsLineEnd}
+use Rattle.toml_edit_model.specs.Trivia.{is_blank, is_visible, Each, lf, crlf, comment, Piece, blank, break, remark, piece_text, IsPiece}
+use Rattle.toml_edit_model.specs.Trivia.{IsLineEnd}
 use Rattle.toml_edit_model.specs.Comments.{begun_with, lines, first_line, body_in, first_comment, comments, bodies, AreBodies}
 use Rattle.toml_edit_laws.proofs.common.Each.{each-append}
 use Rattle.toml_edit_laws.proofs.common.LineEnds.{ended}
@@ -29,7 +31,8 @@ line_end-cons c (d ∷ t) h = by_test (ends_in_return (d ∷ t))
     by_test true = refl
     by_test false = refl
 
-before-cons : (c : ℕ) (t : Text) → (c == line_feed) ≡ false → before_first (λ x. x == line_feed) (c ∷ t) ≡ c ∷ before_first (λ x. x == line_feed) t
+before-cons : (c : ℕ) (t : Text) → (c == line_feed) ≡ false → before_first (λ x. x == line_feed) (c ∷ t) ≡ c
+    ∷ before_first (λ x. x == line_feed) t
 before-cons c t h =
     take_while-cons not_feed c t ∙ ap (λ b. if not b then c ∷ take_while not_feed t else []) h
 
@@ -56,7 +59,8 @@ comment-lf body h =
 comment-crlf : (body : Text) → Each is_visible body → first_comment ((comment body ++ (carriage_return ∷ [])) ++ newline) ≡ Some body
 comment-crlf body h =
     ap (λ u. body_in (line_end exact u))
-    (before-feed (comment body ++ (carriage_return ∷ [])) [] (each-append not_feed (comment body) (carriage_return ∷ []) (visible-feed body h) refl))
+    (before-feed (comment body ++ (carriage_return ∷ [])) [] (each-append not_feed (comment body) (carriage_return
+    ∷ []) (visible-feed body h) refl))
     ∙ ap body_in (ended exact (comment body) (carriage_return ∷ newline) (comment-end body h) (inl (crlf, refl))).trailing
 
 comments-run : (u t body : Text) → NoFeed u → first_comment (u ++ newline) ≡ Some body → comments (u ++ (line_feed ∷ t)) ≡ body ∷ comments t
@@ -79,8 +83,10 @@ comments-pieces (remark body lf ∷ ps) h =
 comments-pieces (remark body crlf ∷ ps) h =
     let rest = flat_map piece_text ps in
     let run = comment body ++ (carriage_return ∷ []) in
-    ap comments (append_assoc (comment body) (carriage_return ∷ newline) rest ∙ sym (append_assoc (comment body) (carriage_return ∷ []) (line_feed ∷ rest)))
-    ∙ comments-run run rest body (each-append not_feed (comment body) (carriage_return ∷ []) (visible-feed body h.0) refl) (comment-crlf body h.0)
+    ap comments (append_assoc (comment body) (carriage_return ∷ newline) rest
+    ∙ sym (append_assoc (comment body) (carriage_return ∷ []) (line_feed ∷ rest)))
+    ∙ comments-run run rest body (each-append not_feed (comment body) (carriage_return ∷ []) (visible-feed body h.0) refl)
+    (comment-crlf body h.0)
     ∙ ap (λ cs. body ∷ cs) (comments-pieces ps h.1)
 
 pub are-bodies : (t : Text) (found : List Text) → found ≡ comments t → AreBodies t found

@@ -1,5 +1,6 @@
 -- What the calls on comments leave, from what they find.
-use Rattle.std.proofs.Common.{◌≡◌, refl, sym, ap, subst, ◌∙◌, ℕ, ◌+◌, arith, true, false, [], ◌++◌, take, drop, Option, Some, None, append_assoc, append-nil}
+use Rattle.std.proofs.Common.{◌≡◌, refl, sym, ap, subst, ◌∙◌, ℕ, ◌+◌, arith, true, false, [], ◌++◌, take, drop, Option, Some, None}
+use Rattle.std.proofs.Common.{append_assoc, append-nil}
 use Rattle.std.specs.Prelude.{if◌then◌else◌, unwrap_or, take_while, is_some, option_and_then, Result, Ok, Err}
 use Rattle.std.specs.Borrow.{Bor}
 use Rattle.std.specs.Option.{option_copied}
@@ -10,7 +11,9 @@ use Rattle.toml_edit_model.specs.Mode.{Mode, shown_text}
 use Rattle.toml_edit_model.specs.Trivia.{is_blank, comment, IsWholeTrivia}
 use Rattle.toml_edit_model.specs.Tree.{Raw, owned, span, Decor, shown_side, shown_prefix, shown_suffix}
 use Rattle.toml_edit_model.specs.Fits.{EndsLine}
-use Rattle.toml_edit_model.specs.Comments.{first_line, after_first_line, last_newline, end_of_words, body_in, first_comment, without_comments, with_comment_line, before_comment, with_first_comment, without_first_comment, side_text, changed_side, with_comment_before, without_comments_before, with_comment_after}
+use Rattle.toml_edit_model.specs.Comments.{first_line, after_first_line, last_newline, end_of_words, body_in, first_comment}
+use Rattle.toml_edit_model.specs.Comments.{without_comments, with_comment_line, before_comment, with_first_comment, without_first_comment}
+use Rattle.toml_edit_model.specs.Comments.{side_text, changed_side, with_comment_before, without_comments_before, with_comment_after}
 use Rattle.toml_edit_laws.proofs.common.WhiteSpace.{shown-none}
 use Rattle.toml_edit_repr.specs.CommentPlaces.{HasHashAt}
 use Rattle.toml_edit_repr.specs.Comments.{PutsComment}
@@ -50,7 +53,8 @@ put-joined t l b s c a new is before line after =
     ∙ ap (λ u. u ++ (one hash ++ (c ++ (a ++ [])))) (before ∙ ap before_comment line)
     ∙ ap (λ u. before_comment (first_line t) ++ (comment c ++ u)) (append-nil a ∙ after)
 
-pub add-joined : (t c end w new : Text) (n : ℕ) → new ≡ t ++ (one hash ++ (c ++ (end ++ (w ++ [])))) → end ≡ last_newline t → n ≡ end_of_words t
+pub add-joined : (t c end w new : Text) (n : ℕ) → new ≡ t ++ (one hash ++ (c ++ (end ++ (w ++ [])))) → end ≡ last_newline t → n
+    ≡ end_of_words t
     → w ≡ drop n t → new ≡ with_comment_line c t
 add-joined t c end w new n is ends place rest =
     is ∙ ap (λ u. t ++ (comment c ++ (u ++ (w ++ [])))) ends
@@ -58,7 +62,8 @@ add-joined t c end w new n is ends place rest =
 
 -- ---- sides of a decor
 
-pub side-text : (side : Option Raw) (r : Option (Bor Text)) (d x : Bor Text) → option_copied r ≡ option_and_then text_of side → x ≡ unwrap_or r d
+pub side-text : (side : Option Raw) (r : Option (Bor Text)) (d x : Bor Text) → option_copied r ≡ option_and_then text_of side → x
+    ≡ unwrap_or r d
     → d.now ≡ [] → x.now ≡ side_text side
 side-text None None d x e is none = ap (λ (b : Bor Text). b.now) is ∙ none
 side-text None (Some r) d x e is none = absurd (let clash : Some r.now ≡ None = e in cc)
@@ -88,12 +93,14 @@ cut-side (Some (span i j)) h = absurd (let clash : false ≡ true = h in cc)
 pub nothing-removed : (d : Decor) → is_some (first_comment (side_text d.suffix)) ≡ false → d ≡ with_comment_after None d
 nothing-removed d h = ap (λ (side : Option Raw). record d { suffix = side }) (sym (same-side d.suffix h))
 
-pub comment-removed : (d : Decor) (a : Text) → is_some (first_comment (side_text d.suffix)) ≡ true → a ≡ after_first_line (side_text d.suffix)
+pub comment-removed : (d : Decor) (a : Text) → is_some (first_comment (side_text d.suffix)) ≡ true → a
+    ≡ after_first_line (side_text d.suffix)
     → record d { suffix = Some (owned a) } ≡ with_comment_after None d
 comment-removed d a h is =
     ap (λ u. record d { suffix = Some (owned u) }) is ∙ ap (λ (side : Option Raw). record d { suffix = side }) (sym (cut-side d.suffix h))
 
-lines-removed : (side : Option Raw) (t : Text) → Some t ≡ option_and_then text_of side → changed_side without_comments side ≡ Some (owned (without_comments t))
+lines-removed : (side : Option Raw) (t : Text) → Some t ≡ option_and_then text_of side → changed_side without_comments side
+    ≡ Some (owned (without_comments t))
 lines-removed None t e = absurd cc
 lines-removed (Some (owned u)) t e = let same : u ≡ t = cc in ap (λ x. Some (owned (without_comments x))) same
 lines-removed (Some (span i j)) t e = absurd cc
@@ -127,12 +134,14 @@ shown-side mode None = sym (shown-none mode)
 shown-side mode (Some (owned t)) = refl
 shown-side mode (Some (span i j)) = sym (shown-none mode)
 
-removed-suits : (mode : Mode) (side : Option Raw) → EndsLine mode (shown_side mode [] side) → EndsLine mode (shown_side mode [] (changed_side without_first_comment side))
+removed-suits : (mode : Mode) (side : Option Raw) → EndsLine mode (shown_side mode [] side)
+    → EndsLine mode (shown_side mode [] (changed_side without_first_comment side))
 removed-suits mode None g = g
 removed-suits mode (Some (owned t)) g = without_comment-suits mode t g
 removed-suits mode (Some (span i j)) g = g
 
-pub set-suits : (b : Option Text) (old new : Decor) (r : Result (Unit {0}) CommentFault) → PutsComment b (with_comment_after b old) old new r
+pub set-suits : (b : Option Text) (old new : Decor) (r : Result (Unit {0}) CommentFault)
+    → PutsComment b (with_comment_after b old) old new r
     → (mode : Mode) → EndsLine mode (shown_suffix mode [] old) → EndsLine mode (shown_suffix mode [] new)
 set-suits b old new (Err faults.Text) h mode g = subst (λ (d : Decor). EndsLine mode (shown_suffix mode [] d)) (sym h.1) g
 set-suits b old new (Err faults.Memory) h mode g = subst (λ (d : Decor). EndsLine mode (shown_suffix mode [] d)) (sym h.1) g
@@ -148,8 +157,10 @@ removed-inside mode None feed g = g
 removed-inside mode (Some (owned t)) feed g = without_comment-inside mode t feed g
 removed-inside mode (Some (span i j)) feed g = g
 
-pub set-inside : (b : Option Text) (old new : Decor) (r : Result (Unit {0}) CommentFault) → PutsComment b (with_comment_after b old) old new r
-    → (mode : Mode) → has_byte line_feed (side_text old.suffix) ≡ true → IsWholeTrivia (shown_suffix mode [] old) → IsWholeTrivia (shown_suffix mode [] new)
+pub set-inside : (b : Option Text) (old new : Decor) (r : Result (Unit {0}) CommentFault)
+    → PutsComment b (with_comment_after b old) old new r
+    → (mode : Mode) → has_byte line_feed (side_text old.suffix) ≡ true → IsWholeTrivia (shown_suffix mode [] old)
+    → IsWholeTrivia (shown_suffix mode [] new)
 set-inside b old new (Err faults.Text) h mode feed g = subst (λ (d : Decor). IsWholeTrivia (shown_suffix mode [] d)) (sym h.1) g
 set-inside b old new (Err faults.Memory) h mode feed g = subst (λ (d : Decor). IsWholeTrivia (shown_suffix mode [] d)) (sym h.1) g
 set-inside (Some body) old new (Ok u) h mode feed g =
@@ -158,7 +169,8 @@ set-inside (Some body) old new (Ok u) h mode feed g =
 set-inside None old new (Ok u) h mode feed g =
     subst (λ (d : Decor). IsWholeTrivia (shown_suffix mode [] d)) (sym h.1) (removed-inside mode old.suffix feed g)
 
-pub add-suits : (body : Text) (old new : Decor) (r : Result (Unit {0}) CommentFault) → PutsComment (Some body) (with_comment_before body old) old new r
+pub add-suits : (body : Text) (old new : Decor) (r : Result (Unit {0}) CommentFault)
+    → PutsComment (Some body) (with_comment_before body old) old new r
     → (mode : Mode) → IsWholeTrivia (shown_prefix mode [] old) → IsWholeTrivia (shown_prefix mode [] new)
 add-suits body old new (Err faults.Text) h mode g = subst (λ (d : Decor). IsWholeTrivia (shown_prefix mode [] d)) (sym h.1) g
 add-suits body old new (Err faults.Memory) h mode g = subst (λ (d : Decor). IsWholeTrivia (shown_prefix mode [] d)) (sym h.1) g
@@ -166,7 +178,8 @@ add-suits body old new (Ok u) h mode g =
     subst (λ (d : Decor). IsWholeTrivia (shown_prefix mode [] d)) (sym h.1)
     (with_line-suits mode body (side_text old.prefix) h.0 (subst IsWholeTrivia (shown-side mode old.prefix) g))
 
-lines-suit : (mode : Mode) (side : Option Raw) → IsWholeTrivia (shown_side mode [] side) → IsWholeTrivia (shown_side mode [] (changed_side without_comments side))
+lines-suit : (mode : Mode) (side : Option Raw) → IsWholeTrivia (shown_side mode [] side)
+    → IsWholeTrivia (shown_side mode [] (changed_side without_comments side))
 lines-suit mode None g = g
 lines-suit mode (Some (owned t)) g = without_lines-suits mode t g
 lines-suit mode (Some (span i j)) g = g

@@ -1,5 +1,6 @@
 -- The first line of a text, and the comment of a line, by the places that the code finds.
-use Rattle.std.proofs.Common.{◌≡◌, refl, sym, ap, subst, ◌∙◌, ℕ, zero, suc, ◌+◌, ◌-◌, ◌<◌, ◌≤◌, ◌==◌, arith, Bool, true, false, [], ◌∷◌, length, take, drop, get_or, Option, Some, None, length-take}
+use Rattle.std.proofs.Common.{◌≡◌, refl, sym, ap, subst, ◌∙◌, ℕ, zero, suc, ◌+◌, ◌-◌, ◌<◌, ◌≤◌, ◌==◌, arith, Bool, true, false, [], ◌∷◌}
+use Rattle.std.proofs.Common.{length, take, drop, get_or, Option, Some, None, length-take}
 use Rattle.std.specs.Prelude.{if◌then◌else◌, not, unwrap_or, take_while}
 use Rattle.std.specs.List.{before_first, prefix_len, suffix_len}
 use Rattle.std.specs.Str.{IsUtf8, IsCharBoundary}
@@ -10,7 +11,8 @@ use Rattle.memchr.specs.Find.{IsFirstByte, IsLastByte, is_byte}
 use Rattle.toml_edit_model.specs.Text.{Text, line_feed, carriage_return, hash, newline, one}
 use Rattle.toml_edit_model.specs.Mode.{exact, ends_in_return, but_last, line_end}
 use Rattle.toml_edit_model.specs.Trivia.{is_blank}
-use Rattle.toml_edit_model.specs.Comments.{begun_with, lines, first_line, after_first_line, before_last_feed, last_newline, body_in, end_of_words}
+use Rattle.toml_edit_model.specs.Comments.{begun_with, lines, first_line, after_first_line, before_last_feed, last_newline, body_in}
+use Rattle.toml_edit_model.specs.Comments.{end_of_words}
 use Rattle.toml_edit_laws.proofs.common.Tests.{false-by, true-false}
 use Rattle.toml_edit_repr.specs.CommentPlaces.{HasHashAt}
 
@@ -127,7 +129,8 @@ body_in-found zero (c ∷ l) h blanks here = subst (λ x. body_in (x ∷ l) ≡ 
 body_in-found (suc n) (c ∷ l) h blanks here =
     body_in-blank c l (blanks 0 (omega arith)) ∙ body_in-found n l (omega arith) (blank-tail n c l blanks) here
 
-body_in-other : (n : ℕ) (l : Text) → n < length l → BlankBelow n l → is_blank (get_or l n 0) ≡ false → (get_or l n 0 ≡ hash → ⊥) → body_in l ≡ None
+body_in-other : (n : ℕ) (l : Text) → n < length l → BlankBelow n l → is_blank (get_or l n 0) ≡ false → (get_or l n 0 ≡ hash → ⊥) → body_in l
+    ≡ None
 body_in-other n [] h blanks end other = absurd (omega arith)
 body_in-other zero (c ∷ l) h blanks end other =
     ap (λ b. if b then body_in l else (if c == hash then Some l else None)) end
@@ -162,7 +165,8 @@ feed-boundary t s n same utf8 found =
     let there : get_or t n 0 ≡ line_feed = ap (λ u. get_or u n 0) (sym same) ∙ here in
     IsCharBoundary-after_ascii t n utf8 (omega (arith, found.0.high, ap length same)) (omega arith)
 
-pub lines-split : (t s : Text) (n : ℕ) (a b : Text) → s ≡ t → IsFirstByte (is_byte line_feed) s (Some n) → a ≡ take (n + 1) t → b ≡ drop (n + 1) t
+pub lines-split : (t s : Text) (n : ℕ) (a b : Text) → s ≡ t → IsFirstByte (is_byte line_feed) s (Some n) → a ≡ take (n + 1) t → b
+    ≡ drop (n + 1) t
     → lines t ≡ a ∷ lines b
 lines-split t s n a b same found front back =
     ap lines (sym same) ∙ lines-first n s found.0.high (λ k below. found.0.before k (omega arith) below) found.1
@@ -186,7 +190,8 @@ hash-at l s n same below blanks here =
       body = body_in-found n s below blanks here ∙ ap (λ k. Some (drop k s)) (let next : suc n ≡ n + 1 = omega arith in next);
     })
 
-pub no-hash : (l s : Text) (n : ℕ) → s ≡ l → n < length s → BlankBelow n s → is_blank (get_or s n 0) ≡ false → (get_or s n 0 ≡ hash → ⊥) → body_in l ≡ None
+pub no-hash : (l s : Text) (n : ℕ) → s ≡ l → n < length s → BlankBelow n s → is_blank (get_or s n 0) ≡ false → (get_or s n 0 ≡ hash → ⊥)
+    → body_in l ≡ None
 no-hash l s n same below blanks end other = ap body_in (sym same) ∙ body_in-other n s below blanks end other
 
 pub no-hash-at-all : (l s : Text) (n : ℕ) → s ≡ l → length s ≤ n → BlankBelow n s → body_in l ≡ None
@@ -196,7 +201,8 @@ no-hash-at-all l s n same long blanks = ap body_in (sym same) ∙ body_in-white 
 abbrev pub BlankFrom : ℕ → Text → Type 0
 BlankFrom n t = (k : ℕ) → n ≤ k → k < length t → is_blank (get_or t k 0) ≡ true
 
-pub words-end : (t s : Text) (n : ℕ) → s ≡ t → n ≤ length s → BlankFrom n s → (0 < n → is_blank (get_or s (n - 1) 0) ≡ false) → n ≡ end_of_words t
+pub words-end : (t s : Text) (n : ℕ) → s ≡ t → n ≤ length s → BlankFrom n s → (0 < n → is_blank (get_or s (n - 1) 0) ≡ false) → n
+    ≡ end_of_words t
 words-end t s n same within blanks stop =
     let rest : suffix_len is_blank s ≡ length s - n = suffix_len_is is_blank s n 0 within blanks stop in
     let place : n ≡ end_of_words s = omega (arith, rest) in
@@ -215,7 +221,8 @@ white-boundary t s (suc n) same utf8 within blanks =
     subst (IsCharBoundary t) next
     (IsCharBoundary-after_ascii t n utf8 (omega (arith, within, ap length same)) (blank-ascii (get_or t n 0) white))
 
-pub white-place : (t s : Text) (n : ℕ) → s ≡ t → n ≤ length s → BlankBelow n s → (n < length s → is_blank (get_or s n 0) ≡ false) → n ≡ prefix_len is_blank t
+pub white-place : (t s : Text) (n : ℕ) → s ≡ t → n ≤ length s → BlankBelow n s → (n < length s → is_blank (get_or s n 0) ≡ false) → n
+    ≡ prefix_len is_blank t
 white-place t s n same within blanks stop =
     sym (prefix_len_is is_blank s n 0 within blanks stop) ∙ ap (prefix_len is_blank) same
 
@@ -236,9 +243,11 @@ last-feed-at t n m within is none here =
     record { within = omega (arith, within, is); before = ap (λ k. take k t) place }
 
 last-place : (t : Text) (o : Option ℕ) → IsLastByte (is_byte line_feed) t o → LastFeedAt t (unwrap_or o 0)
-last-place t None none = last-feed-at t 0 0 (omega arith) (omega arith) (λ k low high. none k (omega arith) high) (λ some. absurd (omega arith))
+last-place t None none =
+    last-feed-at t 0 0 (omega arith) (omega arith) (λ k low high. none k (omega arith) high) (λ some. absurd (omega arith))
 last-place t (Some n) found =
-    last-feed-at t (suc n) n (omega (arith, found.0.high)) (omega arith) (λ k low high. found.0.after k (omega arith) high) (λ some. found.1)
+    last-feed-at t (suc n) n (omega (arith, found.0.high)) (omega arith) (λ k low high. found.0.after k (omega arith) high)
+    (λ some. found.1)
 
 pub last-feed : (t s : Text) (o : Option ℕ) (e : ℕ) → s ≡ t → IsLastByte (is_byte line_feed) s o → e ≡ unwrap_or o 0 → LastFeedAt t e
 last-feed t s o e same found is =
@@ -253,13 +262,15 @@ newline-by t e b h is =
 pub newline-alone : (t : Text) (e : ℕ) → LastFeedAt t e → e ≡ 0 → newline ≡ last_newline t
 newline-alone t e h none = newline-by t e false h (ap (λ k. ends_in_return (take k t)) none)
 
-pub newline-lean : (t s : Text) (e n : ℕ) → s ≡ t → LastFeedAt t e → e ≡ suc n → (get_or s n 0 ≡ carriage_return → ⊥) → newline ≡ last_newline t
+pub newline-lean : (t s : Text) (e n : ℕ) → s ≡ t → LastFeedAt t e → e ≡ suc n → (get_or s n 0 ≡ carriage_return → ⊥) → newline
+    ≡ last_newline t
 newline-lean t s e n same h is other =
     newline-by t e false h
     (ap (λ k. ends_in_return (take k t)) is ∙ ends-at n t (omega (arith, h.within))
     ∙ false-by (get_or t n 0 == carriage_return) (λ x. other (ap (λ u. get_or u n 0) same ∙ (Decides-eqb _ _).0 x)))
 
-pub newline-full : (t s : Text) (e n : ℕ) → s ≡ t → LastFeedAt t e → e ≡ suc n → get_or s n 0 ≡ carriage_return → carriage_return ∷ newline ≡ last_newline t
+pub newline-full : (t s : Text) (e n : ℕ) → s ≡ t → LastFeedAt t e → e ≡ suc n → get_or s n 0 ≡ carriage_return → carriage_return ∷ newline
+    ≡ last_newline t
 newline-full t s e n same h is here =
     newline-by t e true h
     (ap (λ k. ends_in_return (take k t)) is ∙ ends-at n t (omega (arith, h.within))

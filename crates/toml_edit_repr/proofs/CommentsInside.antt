@@ -1,17 +1,21 @@
 -- A suffix of whole trivia that has a newline, as inside an array, stays whole trivia when the comment of its first line is changed.
-use Rattle.std.proofs.Common.{◌≡◌, refl, sym, ap, subst, ◌∙◌, ℕ, ◌==◌, inl, inr, Bool, true, false, not, List, [], ◌∷◌, ◌++◌, drop, length, append_assoc, append-nil}
+use Rattle.std.proofs.Common.{◌≡◌, refl, sym, ap, subst, ◌∙◌, ℕ, ◌==◌, inl, inr, Bool, true, false, not, List, [], ◌∷◌, ◌++◌, drop, length}
+use Rattle.std.proofs.Common.{append_assoc, append-nil}
 use Rattle.std.specs.Prelude.{if◌then◌else◌, is_some, ◌&&◌, ◌||◌}
 use Rattle.std.specs.List.{before_first, flat_map, list_all, AllByRecursion}
 use Rattle.std.proofs.lemmas.Bool.Decides.{Decides-eqb}
 use Rattle.std.proofs.Math.Seq.{drop-append_seam}
 use Rattle.toml_edit_model.specs.Text.{Text, line_feed, carriage_return, newline, one, joined, without_returns, has_byte}
 use Rattle.toml_edit_model.specs.Mode.{Mode, plain, exact, shown_text, ends_in_return, but_last, line_end}
-use Rattle.toml_edit_model.specs.Trivia.{is_blank, is_visible, Each, Newline, lf, crlf, newline_text, comment, Piece, blank, break, remark, piece_text, IsPiece, IsWholeTrivia, IsLineEnd}
-use Rattle.toml_edit_model.specs.Comments.{begun_with, lines, first_line, after_first_line, first_comment, before_comment, with_first_comment, without_first_comment}
+use Rattle.toml_edit_model.specs.Trivia.{is_blank, is_visible, Each, Newline, lf, crlf, newline_text, comment, Piece, blank, break, remark}
+use Rattle.toml_edit_model.specs.Trivia.{piece_text, IsPiece, IsWholeTrivia, IsLineEnd}
+use Rattle.toml_edit_model.specs.Comments.{begun_with, lines, first_line, after_first_line, first_comment, before_comment}
+use Rattle.toml_edit_model.specs.Comments.{with_first_comment, without_first_comment}
 use Rattle.toml_edit_laws.proofs.common.Tests.{and_left, and_right}
 use Rattle.toml_edit_laws.proofs.common.Trivia.{empty-end, shown-append}
 use Rattle.toml_edit_laws.proofs.common.WhiteSpace.{shown-none}
-use Rattle.toml_edit_repr.proofs.CommentsSuit.{not_feed, NoFeed, white-whole, whole-append, lines-run, lines-suit, joined-suits, lean-return, lean-other, last-kept, before-feed, put-line}
+use Rattle.toml_edit_repr.proofs.CommentsSuit.{not_feed, NoFeed, white-whole, whole-append, lines-run, lines-suit, joined-suits}
+use Rattle.toml_edit_repr.proofs.CommentsSuit.{lean-return, lean-other, last-kept, before-feed, put-line}
 
 -- ---- the end of a line before its newline
 
@@ -22,7 +26,11 @@ end-whole x n (white, rest, h, inl none, e) =
 end-whole x n (white, rest, h, inr (body, g, is), e) =
     subst (λ u. IsWholeTrivia (u ++ newline_text n)) (sym (e ∙ ap (λ u. white ++ u) is))
     (subst IsWholeTrivia (sym (append_assoc white (comment body) (newline_text n)))
-    (whole-append white (comment body ++ newline_text n) (white-whole white h) (remark body n ∷ [], (g, tt), sym (append-nil (comment body ++ newline_text n)))))
+    (whole-append white (comment body ++ newline_text n) (white-whole white h) (
+      remark body n ∷ [],
+      (g, tt),
+      sym (append-nil (comment body ++ newline_text n)),
+    )))
 
 -- the newline after the text is all of one
 abbrev Closed : Text → Newline → Type 0
@@ -38,19 +46,23 @@ no-feed-first : (c : ℕ) (x : Text) → c ≡ line_feed → NoFeed (c ∷ x) �
 no-feed-first c x e h = let clash : false ≡ true = and_left false (list_all not_feed x) (subst (λ d. NoFeed (d ∷ x)) e h) in cc
 
 -- no CR LF begins such a text before its newline
-no-crlf : (c : ℕ) (x rest : Text) (n : Newline) → NoFeed x → Closed (c ∷ x) n → c ≡ carriage_return → x ++ newline_text n ≡ line_feed ∷ rest → ⊥
+no-crlf : (c : ℕ) (x rest : Text) (n : Newline) → NoFeed x → Closed (c ∷ x) n → c ≡ carriage_return → x ++ newline_text n ≡ line_feed ∷ rest
+    → ⊥
 no-crlf c [] rest lf h g e is = let clash : true ≡ false = sym ((Decides-eqb c carriage_return).1 e) ∙ g in cc
 no-crlf c [] rest crlf h g e is = cc
 no-crlf c (d ∷ x) rest n h g e is = no-feed-first d x (cc) h
 
-not-newline : (p : ℕ → Bool) → (p line_feed ≡ true → ⊥) → (p carriage_return ≡ true → ⊥) → (c : ℕ) (rest : Text) (n : Newline) → p c ≡ true → newline_text n ≡ c ∷ rest → ⊥
+not-newline : (p : ℕ → Bool) → (p line_feed ≡ true → ⊥) → (p carriage_return ≡ true → ⊥) → (c : ℕ) (rest : Text) (n : Newline) → p c ≡ true
+    → newline_text n ≡ c ∷ rest → ⊥
 not-newline p feed ending c rest lf h e = let same : line_feed ≡ c = cc in feed (subst (λ d. p d ≡ true) (sym same) h)
 not-newline p feed ending c rest crlf h e = let same : carriage_return ≡ c = cc in ending (subst (λ d. p d ≡ true) (sym same) h)
 
-comment-part : (x b rest : Text) (n m : Newline) → NoFeed x → Closed x n → Each is_visible b → x ++ newline_text n ≡ b ++ (newline_text m ++ rest) → x ≡ b
+comment-part : (x b rest : Text) (n m : Newline) → NoFeed x → Closed x n → Each is_visible b → x ++ newline_text n ≡ b
+    ++ (newline_text m ++ rest) → x ≡ b
 comment-part [] [] rest n m h g v e = refl
 comment-part [] (d ∷ b) rest n m h g v e =
-    absurd (not-newline is_visible (λ k. let clash : is_visible line_feed ≡ true = k in cc) (λ k. let clash : is_visible carriage_return ≡ true = k in cc)
+    absurd (not-newline is_visible (λ k. let clash : is_visible line_feed ≡ true = k in cc) (λ k. let clash : is_visible carriage_return
+    ≡ true = k in cc)
     d (b ++ (newline_text m ++ rest)) n (and_left (is_visible d) _ v) e)
 comment-part (c ∷ x) [] rest n lf h g v e = absurd (no-feed-first c x (cc) h)
 comment-part (c ∷ x) [] rest n crlf h g v e = absurd (no-crlf c x rest n (and_right (not_feed c) _ h) g (cc) (cc))
@@ -60,7 +72,8 @@ comment-part (c ∷ x) (d ∷ b) rest n m h g v e =
     let same = comment-part x b rest n m (and_right (not_feed c) _ h) (closed-tail c x n g) (and_right (is_visible d) _ v) tail in
     cc
 
-whole-end : (ps : List Piece) → AllByRecursion IsPiece ps → (x : Text) (n : Newline) → NoFeed x → Closed x n → x ++ newline_text n ≡ flat_map piece_text ps → IsLineEnd x
+whole-end : (ps : List Piece) → AllByRecursion IsPiece ps → (x : Text) (n : Newline) → NoFeed x → Closed x n → x ++ newline_text n
+    ≡ flat_map piece_text ps → IsLineEnd x
 whole-end ps each [] n h g e = empty-end
 whole-end [] each (d ∷ x) n h g e = absurd (let clash : d ∷ (x ++ newline_text n) ≡ [] = e in cc)
 whole-end (blank c ∷ ps) each (d ∷ x) n h g e =
@@ -68,12 +81,14 @@ whole-end (blank c ∷ ps) each (d ∷ x) n h g e =
     let tail : x ++ newline_text n ≡ flat_map piece_text ps = cc in
     let (white, rest, w, o, is) = whole-end ps each.1 x n (and_right (not_feed d) _ h) (closed-tail d x n g) tail in
     (d ∷ white, rest, ap (λ b. b && list_all is_blank white) (ap is_blank head ∙ each.0) ∙ w, o, ap (λ u. d ∷ u) is)
-whole-end (break lf ∷ ps) each (d ∷ x) n h g e = absurd (no-feed-first d x (let parts : d ∷ (x ++ newline_text n) ≡ line_feed ∷ flat_map piece_text ps = e in cc) h)
+whole-end (break lf ∷ ps) each (d ∷ x) n h g e =
+    absurd (no-feed-first d x (let parts : d ∷ (x ++ newline_text n) ≡ line_feed ∷ flat_map piece_text ps = e in cc) h)
 whole-end (break crlf ∷ ps) each (d ∷ x) n h g e =
     let parts : d ∷ (x ++ newline_text n) ≡ carriage_return ∷ line_feed ∷ flat_map piece_text ps = e in
     absurd (no-crlf d x (flat_map piece_text ps) n (and_right (not_feed d) _ h) g (cc) (cc))
 whole-end (remark body m ∷ ps) each (d ∷ x) n h g e =
-    let parts : d ∷ (x ++ newline_text n) ≡ 35 ∷ (body ++ (newline_text m ++ flat_map piece_text ps)) = e ∙ append_assoc (comment body) (newline_text m) (flat_map piece_text ps) in
+    let parts : d ∷ (x ++ newline_text n) ≡ 35 ∷ (body ++ (newline_text m ++ flat_map piece_text ps)) = e
+    ∙ append_assoc (comment body) (newline_text m) (flat_map piece_text ps) in
     let head : d ≡ 35 = cc in
     let tail : x ++ newline_text n ≡ body ++ (newline_text m ++ flat_map piece_text ps) = cc in
     let same : x ≡ body = comment-part x body (flat_map piece_text ps) n m (and_right (not_feed d) _ h) (closed-tail d x n g) each.0 tail in
@@ -113,7 +128,8 @@ lean-open : (t : Text) → ends_in_return (without_returns t) ≡ false
 lean-open [] = refl
 lean-open (c ∷ t) = by_test (c == carriage_return) refl (lean-open t)
   where
-    by_test : (b : Bool) → (c == carriage_return) ≡ b → ends_in_return (without_returns t) ≡ false → ends_in_return (without_returns (c ∷ t)) ≡ false
+    by_test : (b : Bool) → (c == carriage_return) ≡ b → ends_in_return (without_returns t) ≡ false
+        → ends_in_return (without_returns (c ∷ t)) ≡ false
     by_test true e ih = ap ends_in_return (lean-return c t e) ∙ ih
     by_test false e ih = ap ends_in_return (lean-other c t e) ∙ cons-open c (without_returns t) e ih
 
@@ -197,8 +213,10 @@ inside mode t h whole =
     let (u, v, none, is) = find-feed t h in
     let p = parts mode u in
     let l = line_end exact u in
-    let line : first_line t ≡ l = ap (λ x. line_end exact (before_first (λ c. c == line_feed) x)) is ∙ ap (line_end exact) (before-feed u v none) in
-    let pieces = subst (AllByRecursion (λ x. IsWholeTrivia (shown_text mode x))) (ap lines is ∙ lines-run u v none) (lines-suit mode t whole) in
+    let line : first_line t ≡ l = ap (λ x. line_end exact (before_first (λ c. c == line_feed) x)) is
+    ∙ ap (line_end exact) (before-feed u v none) in
+    let pieces = subst (AllByRecursion (λ x. IsWholeTrivia (shown_text mode x))) (ap lines is
+    ∙ lines-run u v none) (lines-suit mode t whole) in
     let text : t ≡ l ++ (p.ending ++ (line_feed ∷ v)) =
     is ∙ ap (λ x. x ++ (line_feed ∷ v)) p.text ∙ append_assoc l p.ending (line_feed ∷ v) in
     let first : u ++ newline ≡ l ++ (p.ending ++ newline) = ap (λ x. x ++ newline) p.text ∙ append_assoc l p.ending newline in
@@ -228,10 +246,12 @@ together mode l r v n line is rest =
     subst (λ x. IsWholeTrivia (shown_text mode x)) (sym regrouped)
     (subst IsWholeTrivia (sym (shown-append mode (l ++ (r ++ newline)) v))
     (whole-append _ _
-    (subst IsWholeTrivia (sym (shown-append mode l (r ++ newline) ∙ ap (λ x. shown_text mode l ++ x) is)) (end-whole (shown_text mode l) n line))
+    (subst IsWholeTrivia (sym (shown-append mode l (r ++ newline) ∙ ap (λ x. shown_text mode l ++ x) is))
+    (end-whole (shown_text mode l) n line))
     rest))
 
-pub with_comment-inside : (mode : Mode) (body t : Text) → Each is_visible body → has_byte line_feed t ≡ true → IsWholeTrivia (shown_text mode t)
+pub with_comment-inside : (mode : Mode) (body t : Text) → Each is_visible body → has_byte line_feed t ≡ true
+    → IsWholeTrivia (shown_text mode t)
     → IsWholeTrivia (shown_text mode (with_first_comment body t))
 with_comment-inside mode body t h feed whole =
     let i = inside mode t feed whole in

@@ -1,5 +1,6 @@
 -- Texts that suit their places do so after changes of their comments.
-use Rattle.std.proofs.Common.{◌≡◌, refl, sym, ap, subst, ◌∙◌, ℕ, zero, suc, ◌-◌, ◌<◌, ◌≤◌, ◌==◌, ◌⊎◌, inl, inr, arith, Bool, true, false, not, List, [], ◌∷◌, ◌++◌, length, take, drop, get_or, reverse, append_assoc, append-nil}
+use Rattle.std.proofs.Common.{◌≡◌, refl, sym, ap, subst, ◌∙◌, ℕ, zero, suc, ◌-◌, ◌<◌, ◌≤◌, ◌==◌, ◌⊎◌, inl, inr, arith, Bool, true, false}
+use Rattle.std.proofs.Common.{not, List, [], ◌∷◌, ◌++◌, length, take, drop, get_or, reverse, append_assoc, append-nil}
 use Rattle.std.specs.Prelude.{if◌then◌else◌, take_while, filter, is_some, is_none, ◌&&◌}
 use Rattle.std.specs.List.{before_first, flat_map, list_all, AllByRecursion, suffix_len}
 use Rattle.std.proofs.lemmas.Bool.Decides.{Decides-eqb}
@@ -10,9 +11,12 @@ use Rattle.std.proofs.lemmas.List.Sums.{take_while-cons, prefix_len_passes, suff
 use Rattle.std.proofs.Math.Seq.{drop-append_seam}
 use Rattle.toml_edit_model.specs.Text.{Text, line_feed, carriage_return, space, newline, one, joined, without_returns}
 use Rattle.toml_edit_model.specs.Mode.{Mode, plain, exact, shown_text, ends_in_return, but_last, line_end}
-use Rattle.toml_edit_model.specs.Trivia.{is_blank, is_visible, Each, IsWhiteSpace, lf, crlf, newline_text, IsNewline, comment, Piece, blank, break, remark, piece_text, IsPiece, IsWholeTrivia, IsLineEnd}
+use Rattle.toml_edit_model.specs.Trivia.{is_blank, is_visible, Each, IsWhiteSpace, lf, crlf, newline_text, IsNewline, comment, Piece, blank}
+use Rattle.toml_edit_model.specs.Trivia.{break, remark, piece_text, IsPiece, IsWholeTrivia, IsLineEnd}
 use Rattle.toml_edit_model.specs.Fits.{EndsLine}
-use Rattle.toml_edit_model.specs.Comments.{begun_with, lines, first_line, after_first_line, before_last_feed, last_newline, end_of_words, body_in, first_comment, without_comments, with_comment_line, before_comment, with_first_comment, without_first_comment}
+use Rattle.toml_edit_model.specs.Comments.{begun_with, lines, first_line, after_first_line, before_last_feed, last_newline, end_of_words}
+use Rattle.toml_edit_model.specs.Comments.{body_in, first_comment, without_comments, with_comment_line, before_comment, with_first_comment}
+use Rattle.toml_edit_model.specs.Comments.{without_first_comment}
 use Rattle.toml_edit_laws.proofs.common.Each.{all-append, all-filter, each-append}
 use Rattle.toml_edit_laws.proofs.common.LineEnds.{ended, newline-is}
 use Rattle.toml_edit_laws.proofs.common.Tests.{and_left, and_right, true-false}
@@ -42,7 +46,8 @@ pub visible-feed : (t : Text) → Each is_visible t → NoFeed t
 visible-feed t h = no-feed is_visible (λ e. let clash : is_visible line_feed ≡ true = e in cc) t h
 
 end-feed : (t : Text) → IsLineEnd t → NoFeed t
-end-feed t (white, rest, h, inl none, e) = subst NoFeed (sym (e ∙ ap (λ u. white ++ u) none)) (each-append not_feed white [] (white-feed white h) refl)
+end-feed t (white, rest, h, inl none, e) =
+    subst NoFeed (sym (e ∙ ap (λ u. white ++ u) none)) (each-append not_feed white [] (white-feed white h) refl)
 end-feed t (white, rest, h, inr (body, g, is), e) =
     subst NoFeed (sym (e ∙ ap (λ u. white ++ u) is)) (each-append not_feed white (comment body) (white-feed white h) (visible-feed body g))
 
@@ -78,7 +83,8 @@ each-from p n [] h = ap (list_all p) (drop-nil n)
     drop-nil : (n : ℕ) → drop {A = ℕ} n [] ≡ []
     drop-nil zero = refl
     drop-nil (suc n) = refl
-each-from p zero (c ∷ t) h = ap (λ b. b && list_all p t) (h 0 (omega arith) (omega arith)) ∙ each-from p zero t (λ k low high. h (suc k) (omega arith) (omega arith))
+each-from p zero (c ∷ t) h = ap (λ b. b && list_all p t) (h 0 (omega arith) (omega arith))
+    ∙ each-from p zero t (λ k low high. h (suc k) (omega arith) (omega arith))
 each-from p (suc n) (c ∷ t) h = each-from p n t (λ k low high. h (suc k) (omega arith) (omega arith))
 
 -- the white space that a text ends in is some
@@ -115,7 +121,8 @@ lines-run (c ∷ u) t h =
     is-false true e = sym e
     is-false false e = refl
 
-begun-whole : (c : ℕ) (ls : List Text) → is_blank c ≡ true → AllByRecursion IsWholeTrivia ls → AllByRecursion IsWholeTrivia (begun_with c ls)
+begun-whole : (c : ℕ) (ls : List Text) → is_blank c ≡ true → AllByRecursion IsWholeTrivia ls
+    → AllByRecursion IsWholeTrivia (begun_with c ls)
 begun-whole c [] h g = ((blank c ∷ [], (h, tt), refl), tt)
 begun-whole c (l ∷ ls) h g = (whole-append (one c) l (blank c ∷ [], (h, tt), refl) g.0, g.1)
 
@@ -137,9 +144,15 @@ lines-whole (remark body crlf ∷ ps) h =
     let rest = flat_map piece_text ps in
     let run = comment body ++ (carriage_return ∷ []) in
     subst (AllByRecursion IsWholeTrivia)
-    (sym (ap lines (append_assoc (comment body) (carriage_return ∷ newline) rest ∙ sym (append_assoc (comment body) (carriage_return ∷ []) (line_feed ∷ rest)))
+    (sym (ap lines (append_assoc (comment body) (carriage_return ∷ newline) rest
+    ∙ sym (append_assoc (comment body) (carriage_return ∷ []) (line_feed ∷ rest)))
     ∙ lines-run run rest (each-append not_feed (comment body) (carriage_return ∷ []) (visible-feed body h.0) refl))) (
-      (remark body crlf ∷ [], (h.0, tt), append_assoc (comment body) (carriage_return ∷ []) newline ∙ sym (append-nil (comment body ++ (carriage_return ∷ newline)))),
+      (
+        remark body crlf ∷ [],
+        (h.0, tt),
+        append_assoc (comment body) (carriage_return ∷ []) newline
+            ∙ sym (append-nil (comment body ++ (carriage_return ∷ newline))),
+      ),
       lines-whole ps h.1,
     )
 
@@ -173,16 +186,19 @@ lean-other c t e = ap (λ b. if not b then c ∷ without_returns t else without_
 abbrev Lean : (Text → Type 0) → Text → Type 0
 Lean P l = P (without_returns l)
 
-return-headed : (H P : Text → Type 0) (c : ℕ) (ls : List Text) → (c == carriage_return) ≡ true → Headed (Lean H) P ls → Headed (Lean H) P (begun_with c ls)
+return-headed : (H P : Text → Type 0) (c : ℕ) (ls : List Text) → (c == carriage_return) ≡ true → Headed (Lean H) P ls
+    → Headed (Lean H) P (begun_with c ls)
 return-headed H P c [] e h = (subst H (sym (lean-return c [] e)) h, tt)
 return-headed H P c (l ∷ ls) e h = (subst H (sym (lean-return c l e)) h.0, h.1)
 
-other-headed : (H P : Text → Type 0) (c : ℕ) (ls : List Text) → (c == carriage_return) ≡ false → Headed (Lean (λ l. H (c ∷ l))) P ls → Headed (Lean H) P (begun_with c ls)
+other-headed : (H P : Text → Type 0) (c : ℕ) (ls : List Text) → (c == carriage_return) ≡ false → Headed (Lean (λ l. H (c ∷ l))) P ls
+    → Headed (Lean H) P (begun_with c ls)
 other-headed H P c [] e h = (subst H (sym (lean-other c [] e)) h, tt)
 other-headed H P c (l ∷ ls) e h = (subst H (sym (lean-other c l e)) h.0, h.1)
 
 -- the lines of a text without its carriage returns, and the lines of the text, each without them
-lean-lines : (P : Text → Type 0) → P [] → (t : Text) (H : Text → Type 0) → Headed H P (lines (without_returns t)) → Headed (Lean H) (Lean P) (lines t)
+lean-lines : (P : Text → Type 0) → P [] → (t : Text) (H : Text → Type 0) → Headed H P (lines (without_returns t))
+    → Headed (Lean H) (Lean P) (lines t)
 lean-lines P none [] H h = h
 lean-lines P none (c ∷ t) H h = by_tests (λ K k. lean-lines P none t K k) (c == carriage_return) refl (c == line_feed) refl
   where
@@ -203,7 +219,8 @@ lean-lines P none (c ∷ t) H h = by_tests (λ K k. lean-lines P none t K k) (c 
         subst (Headed (Lean H) (Lean P)) (sym (lines-other c t g))
         (other-headed H (Lean P) c (lines t) e (ih (λ l. H (c ∷ l)) (headed-begun H P c (lines (without_returns t)) begun)))
 
-pub lines-suit : (mode : Mode) (t : Text) → IsWholeTrivia (shown_text mode t) → AllByRecursion (λ l. IsWholeTrivia (shown_text mode l)) (lines t)
+pub lines-suit : (mode : Mode) (t : Text) → IsWholeTrivia (shown_text mode t)
+    → AllByRecursion (λ l. IsWholeTrivia (shown_text mode l)) (lines t)
 lines-suit exact t (ps, h, e) = subst (λ u. AllByRecursion IsWholeTrivia (lines u)) (sym e) (lines-whole ps h)
 lines-suit plain t (ps, h, e) =
     unheaded (Lean IsWholeTrivia) (lines t)
@@ -211,11 +228,13 @@ lines-suit plain t (ps, h, e) =
     (headed IsWholeTrivia (lines (without_returns t)) empty-trivia
     (subst (λ u. AllByRecursion IsWholeTrivia (lines u)) (sym e) (lines-whole ps h))))
 
-pub joined-suits : (mode : Mode) (ls : List Text) → AllByRecursion (λ l. IsWholeTrivia (shown_text mode l)) ls → IsWholeTrivia (shown_text mode (joined ls))
+pub joined-suits : (mode : Mode) (ls : List Text) → AllByRecursion (λ l. IsWholeTrivia (shown_text mode l)) ls
+    → IsWholeTrivia (shown_text mode (joined ls))
 joined-suits mode [] h = lean-trivia mode [] empty-trivia
 joined-suits mode (l ∷ ls) h = subst IsWholeTrivia (sym (shown-append mode l (joined ls))) (whole-append _ _ h.0 (joined-suits mode ls h.1))
 
-pub without_lines-suits : (mode : Mode) (t : Text) → IsWholeTrivia (shown_text mode t) → IsWholeTrivia (shown_text mode (without_comments t))
+pub without_lines-suits : (mode : Mode) (t : Text) → IsWholeTrivia (shown_text mode t)
+    → IsWholeTrivia (shown_text mode (without_comments t))
 without_lines-suits mode t h =
     joined-suits mode (filter (λ l. is_none (first_comment l)) (lines t))
     (all-filter (λ l. IsWholeTrivia (shown_text mode l)) (λ l. is_none (first_comment l)) (lines t) (lines-suit mode t h))
@@ -315,7 +334,8 @@ close plain l r (inr e) h =
     (sym (ap (λ u. without_returns (l ++ u)) e ∙ shown-append plain l (carriage_return ∷ []) ∙ append-nil (without_returns l))) h
 close exact l r (inl e) h = subst IsLineEnd (sym (ap (λ u. line_end exact (l ++ u)) e ∙ (ended exact l [] h (inr refl)).trailing)) h
 close exact l r (inr e) h =
-    subst IsLineEnd (sym (ap (λ u. line_end exact (l ++ u)) e ∙ (ended exact l (carriage_return ∷ newline) h (inl (crlf, refl))).trailing)) h
+    subst IsLineEnd (sym (ap (λ u. line_end exact (l ++ u)) e ∙ (ended exact l (carriage_return ∷ newline) h (inl (crlf, refl))).trailing))
+    h
 
 -- ---- another comment at the end of a line
 
@@ -348,7 +368,8 @@ more-comment s body (white, rest, h, inr (old, v, is), e) g =
     let same : s ≡ white ++ comment old = e ∙ ap (λ u. white ++ u) is in
     subst (λ u. IsLineEnd ((u ++ one space) ++ comment body)) (sym same)
     (subst IsLineEnd
-    (sym (ap (λ u. u ++ comment body) (append_assoc white (comment old) (one space)) ∙ append_assoc white (comment old ++ one space) (comment body)
+    (sym (ap (λ u. u ++ comment body) (append_assoc white (comment old) (one space))
+    ∙ append_assoc white (comment old ++ one space) (comment body)
     ∙ ap (λ u. white ++ u) (append_assoc (comment old) (one space) (comment body))))
     (white-comment white (old ++ (space ∷ comment body)) h (each-append is_visible old (space ∷ comment body) v g)))
 
@@ -366,17 +387,20 @@ take_while-white (c ∷ t) = by_test (is_blank c) refl (take_while-white t)
         ∙ ap (λ b. b && list_all is_blank (take_while is_blank t)) e ∙ ih
     by_test false e ih = ap (list_all is_blank) (take_while-cons is_blank c t ∙ ap (λ b. if b then c ∷ take_while is_blank t else []) e)
 
-pub put-line : (mode : Mode) (body l : Text) → Each is_visible body → IsLineEnd (shown_text mode l) → IsLineEnd (shown_text mode (before_comment l ++ comment body))
+pub put-line : (mode : Mode) (body l : Text) → Each is_visible body → IsLineEnd (shown_text mode l)
+    → IsLineEnd (shown_text mode (before_comment l ++ comment body))
 put-line mode body l h g = by_test (is_some (body_in l))
   where
     parts : (s : Text) → IsLineEnd (shown_text mode s ++ comment body) → IsLineEnd (shown_text mode (s ++ comment body))
     parts s k = subst IsLineEnd (sym (shown-append mode s (comment body) ∙ ap (λ u. shown_text mode s ++ u) (shown-comment mode body h))) k
 
-    by_test : (b : Bool) → IsLineEnd (shown_text mode ((if b then take_while is_blank l else take (end_of_words l) l ++ one space) ++ comment body))
+    by_test : (b : Bool) → IsLineEnd (shown_text mode ((if b then take_while is_blank l else take (end_of_words l) l ++ one space)
+        ++ comment body))
     by_test true =
         let white = take_while-white l in
         parts (take_while is_blank l)
-        (subst (λ u. IsLineEnd (u ++ comment body)) (sym (white-shown mode (take_while is_blank l) white)) (white-comment (take_while is_blank l) body white h))
+        (subst (λ u. IsLineEnd (u ++ comment body)) (sym (white-shown mode (take_while is_blank l) white))
+        (white-comment (take_while is_blank l) body white h))
     by_test false =
         let n = end_of_words l in
         let front : IsLineEnd (shown_text mode (take n l)) =
@@ -396,7 +420,8 @@ with_comment-suits mode body t h g =
     subst (λ u. EndsLine mode (shown_text mode u)) (append_assoc (before_comment l) (comment body) r)
     (close mode (before_comment l ++ comment body) r parts.rest (put-line mode body l h parts.line))
 
-pub without_comment-suits : (mode : Mode) (t : Text) → EndsLine mode (shown_text mode t) → EndsLine mode (shown_text mode (without_first_comment t))
+pub without_comment-suits : (mode : Mode) (t : Text) → EndsLine mode (shown_text mode t)
+    → EndsLine mode (shown_text mode (without_first_comment t))
 without_comment-suits mode t g = by_test (is_some (first_comment t))
   where
     by_test : (b : Bool) → EndsLine mode (shown_text mode (if b then after_first_line t else t))

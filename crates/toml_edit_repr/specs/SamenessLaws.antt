@@ -9,7 +9,8 @@ use Rattle.std.proofs.lemmas.Bool.Decides.{same_from_decides}
 use Rattle.std.proofs.lemmas.Slice.Eq.{bytes_eq-Decides}
 use Rattle.toml_edit_model.specs.Tree.{Raw, owned, span, Decor}
 use Rattle.toml_edit_repr.specs.Views.{FormattedView}
-use Rattle.toml_edit_repr.specs.Sameness.{same_raw, same_side, same_decor, same_formatted, raw_hash_input, side_hash_input, decor_hash_input, formatted_hash_input}
+use Rattle.toml_edit_repr.specs.Sameness.{same_raw, same_side, same_decor, same_formatted, raw_hash_input, side_hash_input}
+use Rattle.toml_edit_repr.specs.Sameness.{decor_hash_input, formatted_hash_input}
 
 -- ---- tests that find equal what is one
 

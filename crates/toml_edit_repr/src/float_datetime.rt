@@ -3,7 +3,7 @@ use crate::raw_string::{Mem, RawString};
 use crate::repr::{Repr, ScalarValue, ValueRepr, default_repr_of};
 use std::alloc::Global;
 use toml_edit_datetime::{Datetime, FloatText};
-use toml_edit_stream::{Printed, Sink};
+use toml_edit_io::{Printed, Sink};
 
 impl ScalarValue for FloatText {
     ghost use Rattle.toml_edit_model.specs.Scalars.{float};

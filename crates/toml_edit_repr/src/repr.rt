@@ -18,7 +18,7 @@ use std::fmt::{Formatter, Write};
 use std::hash::{Hash, Hasher};
 use std::marker::Model;
 use std::ops::Range;
-use toml_edit_stream::{Printed, Sink, print, show};
+use toml_edit_io::{Printed, Sink, print, show};
 
 /// The spelling of a scalar or a key: its representation in TOML, such as `0xFF` or `'a b'`.
 ///
@@ -563,7 +563,7 @@ impl<T: ValueRepr> Printed for Formatted<T> {
 
     ghost text = { formatted_text T.scalar };
 
-    #[tactic(auto, using(toml_edit_stream::proofs::Puts::put_steps))]
+    #[tactic(auto, using(toml_edit_io::proofs::Puts::put_steps))]
     fn put_into<S: Sink>(&self, out: &mut S) {
         put_side(out, Mode::Plain, self.decor.prefix(), "");
         put_scalar(out, self);

@@ -10,7 +10,7 @@ use crate::raw_string::Mem;
 use crate::repr::{Repr, ScalarValue, ValueRepr, default_repr_of};
 use itoa::Buffer;
 use std::alloc::Global;
-use toml_edit_stream::Sink;
+use toml_edit_io::Sink;
 use toml_edit_token::put_string;
 
 impl ScalarValue for String {

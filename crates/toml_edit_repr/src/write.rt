@@ -1,5 +1,5 @@
 //! Putting spellings, decors and trailing texts into sinks.
-#![tactic(auto, using(toml_edit_stream::proofs::Puts::put_steps))]
+#![tactic(auto, using(toml_edit_io::proofs::Puts::put_steps))]
 
 ghost use Rattle.std.specs.Prelude.{◌≡◌, ◌<◌, false, [], ◌++◌, if◌then◌else◌, length, option_and_then, IfSome, MatchOption};
 ghost use Rattle.std.specs.Option.{option_copied};
@@ -15,7 +15,7 @@ use crate::mode::Mode;
 use crate::raw_string::{RawString, is_space};
 use crate::repr::{Formatted, Repr, ValueRepr};
 use memchr::memchr;
-use toml_edit_stream::Sink;
+use toml_edit_io::Sink;
 
 /// Puts the spelling of the scalar, or the default one of its value if it has none that is a text.
 pub fn put_scalar<S: Sink, T: ValueRepr>(out: &mut S, scalar: &Formatted<T>)

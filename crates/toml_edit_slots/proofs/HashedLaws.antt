@@ -1,5 +1,6 @@
 -- Places in maps, and how they change.
-use Rattle.std.proofs.Common.{◌≡◌, ℕ, suc, ◌+◌, ◌≤◌, Bool, true, false, cond, List, [], ◌∷◌, ◌++◌, filter, Option, Some, None, option_map, is_some, length, remove, refl, sym, ap, subst, ◌∙◌, inl, inr, arith, string_bytes, slice_get}
+use Rattle.std.proofs.Common.{◌≡◌, ℕ, suc, ◌+◌, ◌≤◌, Bool, true, false, cond, List, [], ◌∷◌, ◌++◌, filter, Option, Some, None, option_map}
+use Rattle.std.proofs.Common.{is_some, length, remove, refl, sym, ap, subst, ◌∙◌, inl, inr, arith, string_bytes, slice_get}
 use Rattle.std.proofs.lemmas.Bool.{cases_Bool, cases_lt, false≢true}
 use Rattle.std.proofs.lemmas.Cmp.{nat_list_eq_equiv}
 use Rattle.std.proofs.lemmas.Map.Text.{is_text}
@@ -16,7 +17,8 @@ use Rattle.toml_edit_slots.specs.SlotIndex.{stands_at, with_text}
 use Rattle.toml_edit_slots.specs.Slots.{names, place_in}
 use Rattle.toml_edit_slots.specs.declared.hashed.Hashed.{Hashed}
 use Rattle.toml_edit_slots.specs.declared.slots.Slot.{Slot}
-use Rattle.toml_edit_slots.proofs.IndexLaws.{before-removed, cases_option, length-names, none_of, place_in-congr, place_in-is, place_in-own, some_place}
+use Rattle.toml_edit_slots.proofs.IndexLaws.{before-removed, cases_option, length-names, none_of, place_in-congr, place_in-is, place_in-own}
+use Rattle.toml_edit_slots.proofs.IndexLaws.{some_place}
 use Rattle.toml_edit_slots.proofs.NewLaws.{with_text-new, with_text-there}
 use Rattle.toml_edit_slots.proofs.SlotLaws.{none_next, some_next}
 
@@ -34,7 +36,8 @@ long-changed m n u w short long changed t =
     ]
 
 -- a new text at the end
-pub place_in-push : (us : List Text) (u : Text) → place_in u us ≡ None → (t : Text) → place_in t (us ++ u ∷ []) ≡ cond (same_text u t) (Some (length us)) (place_in t us)
+pub place_in-push : (us : List Text) (u : Text) → place_in u us ≡ None → (t : Text) → place_in t (us ++ u ∷ [])
+    ≡ cond (same_text u t) (Some (length us)) (place_in t us)
 place_in-push [] u h t = rw (nat_list_eq_equiv.symm u t) refl
 place_in-push (v ∷ us) u h t =
     elim (cases_Bool (same_text u v)) [
@@ -43,7 +46,8 @@ place_in-push (v ∷ us) u h t =
           let more = place_in-push us u (none_next (place_in u us) (rw other at h)) t in
           elim (cases_Bool (same_text t v)) [
             | inl here ↦
-                let apart : same_text u t ≡ false = nat_list_eq_equiv.symm u t ∙ nat_list_eq_equiv.congr t v u here ∙ nat_list_eq_equiv.symm v u ∙ other in
+                let apart : same_text u t ≡ false = nat_list_eq_equiv.symm u t ∙ nat_list_eq_equiv.congr t v u here
+                ∙ nat_list_eq_equiv.symm v u ∙ other in
                 rw (here, apart) refl
             | inr there ↦ elim (cases_Bool (same_text u t)) [
               | inl same ↦ rw (there, same) (ap (option_map suc) (rw same at more))
@@ -66,7 +70,8 @@ hashed-new es m n u is none put =
     subst (IsHashed n) (sym (with_text-new u (names es) new)) (hashed-push (names es) m n (length es) u (length-names es) new is put)
 
 -- a text that was put in, was not new, and got its place back
-pub hashed-back : {T : Type 0} (es : List (Slot T)) (m n o : Hashed) (u : Text) (at there : ℕ) → IsHashed m (names es) → place_of m u ≡ Some there
+pub hashed-back : {T : Type 0} (es : List (Slot T)) (m n o : Hashed) (u : Text) (at there : ℕ) → IsHashed m (names es) → place_of m u
+    ≡ Some there
     → IsPutAt at u m n → IsPutAt there u n o → IsHashed o (with_text u (names es))
 hashed-back es m n o u at there is some put back =
     subst (IsHashed o) (sym (with_text-there u (names es) there (sym (is u) ∙ some)))
@@ -80,7 +85,8 @@ hashed-back es m n o u at there is some put back =
 module _ (us : List Text) (apart : IsDistinct same_text us) (m n : Hashed) (at : ℕ) (u : Text)
     (here : slice_get us at ≡ Some u) (put : IsPutAt at u m n) where
   -- the same texts are here
-  pub keys-kept : ((t : Text) → is_some (place_of m t) ≡ is_some (place_in t us)) → (t : Text) → is_some (place_of n t) ≡ is_some (place_in t us)
+  pub keys-kept : ((t : Text) → is_some (place_of m t) ≡ is_some (place_in t us)) → (t : Text) → is_some (place_of n t)
+      ≡ is_some (place_in t us)
   keys-kept keys t =
       elim (cases_Bool (same_text u t)) [
         | inl same ↦ rw (put t, same, ← place_in-congr u t same us, place_in-own us at u here apart) refl
@@ -152,7 +158,8 @@ is_in-removed t (u ∷ us) i h a v =
           let (k, at, e) = some_next (place_in t us) i (rw there at h) in
           elim (cases_Bool (same_text v u)) [
             | inl own ↦
-                let other : same_text t v ≡ false = nat_list_eq_equiv.symm t v ∙ nat_list_eq_equiv.congr v u t own ∙ nat_list_eq_equiv.symm u t ∙ there in
+                let other : same_text t v ≡ false = nat_list_eq_equiv.symm t v ∙ nat_list_eq_equiv.congr v u t own
+                ∙ nat_list_eq_equiv.symm u t ∙ there in
                 rw (e, own, other) refl
             | inr other ↦ rw (e, other, some-next (place_in v (remove us k)), some-next (place_in v us)) (is_in-removed t us k at a.1 v)
           ]
@@ -162,7 +169,8 @@ taken_out : (b : Bool) (o : Option ℕ) → is_some (cond b None o) ≡ cond b f
 taken_out true o = refl
 taken_out false o = refl
 
-module _ (us : List Text) (apart : IsDistinct same_text us) (m n : Hashed) (i : ℕ) (u : Text) (at : place_in u us ≡ Some i) (is : IsHashed m us)
+module _ (us : List Text) (apart : IsDistinct same_text us) (m n : Hashed) (i : ℕ) (u : Text) (at : place_in u us
+    ≡ Some i) (is : IsHashed m us)
     (gone : (t : Text) → place_of n t ≡ cond (same_text u t) None (place_of m t)) where
   -- the others are here
   pub keys-left : (t : Text) → is_some (place_of n t) ≡ is_some (place_in t (remove us i))
@@ -203,7 +211,8 @@ module _ {K : Type 0} (text : K → Text) (us : List Text) where
       elim (cases_Bool (same_text t (text p.0))) [
         | inl same ↦
             let at : p.1 ≡ k = same_Some p.1 k (rw same at e) in
-            let stays : fits p ≡ true = ap (λ j. stands_at us j (text p.0)) at ∙ ap (λ o. option_map_or (λ u. same_text u (text p.0)) o false) is ∙ same in
+            let stays : fits p ≡ true = ap (λ j. stands_at us j (text p.0)) at
+            ∙ ap (λ o. option_map_or (λ u. same_text u (text p.0)) o false) is ∙ same in
             rw (stays, same) (ap Some at)
         | inr other ↦
             let rest = lookup-kept t k is es (rw other at e) in
@@ -234,7 +243,8 @@ module _ {K : Type 0} (text : K → Text) (us : List Text) where
       ]
 
 -- the entries that fit are the places of the texts
-pub hashed-fitting : (us : List Text) (m n : Hashed) → IsHashedBefore (length us) m us → n.short.entries ≡ filter (fits (λ t. t) us) m.short.entries
+pub hashed-fitting : (us : List Text) (m n : Hashed) → IsHashedBefore (length us) m us → n.short.entries
+    ≡ filter (fits (λ t. t) us) m.short.entries
     → n.long.entries ≡ filter (fits string_bytes us) m.long.entries → IsHashed n us
 hashed-fitting us m n right short long t =
     elim (cases_Bool (is_short t)) [

@@ -1,5 +1,6 @@
 -- Where texts stand in a list.
-use Rattle.std.proofs.Common.{◌≡◌, ℕ, zero, suc, ◌+◌, ◌-◌, ◌<◌, ◌≤◌, true, false, List, [], ◌∷◌, ◌++◌, Option, Some, None, option_map, is_some, length, remove, take, refl, sym, ap, subst, ◌∙◌, inl, inr, ◌⊎◌, arith, slice_get}
+use Rattle.std.proofs.Common.{◌≡◌, ℕ, zero, suc, ◌+◌, ◌-◌, ◌<◌, ◌≤◌, true, false, List, [], ◌∷◌, ◌++◌, Option, Some, None, option_map}
+use Rattle.std.proofs.Common.{is_some, length, remove, take, refl, sym, ap, subst, ◌∙◌, inl, inr, ◌⊎◌, arith, slice_get}
 use Rattle.std.proofs.lemmas.Bool.{cases_Bool, false≢true}
 use Rattle.std.proofs.lemmas.Cmp.{nat_list_eq_equiv}
 use Rattle.std.proofs.lemmas.Option.{none-some, same_Some, slice_get_within}
@@ -116,7 +117,8 @@ names-get (x ∷ es) zero s h = ap (λ (y : Slot _). Some y.key.name) (same_Some
 names-get (x ∷ es) (suc i) s h = names-get es i s h
 
 -- the name behind a gap, once the gap is closed
-pub name-behind : {T : Type 0} (es : List (Slot T)) (gap at : ℕ) (s : Slot T) → gap < at → slice_get es at ≡ Some s → slice_get (remove (names es) gap) (at - 1) ≡ Some s.key.name
+pub name-behind : {T : Type 0} (es : List (Slot T)) (gap at : ℕ) (s : Slot T) → gap < at → slice_get es at ≡ Some s
+    → slice_get (remove (names es) gap) (at - 1) ≡ Some s.key.name
 name-behind es gap zero s h is = absurd (omega (arith, h))
 name-behind es gap (suc at) s h is =
     let one : suc at - 1 ≡ at = omega arith in

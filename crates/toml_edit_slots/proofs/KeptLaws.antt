@@ -1,5 +1,6 @@
 -- Slots that are kept, and slots in another order.
-use Rattle.std.proofs.Common.{◌≡◌, ℕ, suc, ◌≤◌, Bool, true, false, cond, List, [], ◌∷◌, Option, Some, None, option_map, is_some, length, refl, sym, ap, ◌∙◌, inl, inr, arith, IsPermutation}
+use Rattle.std.proofs.Common.{◌≡◌, ℕ, suc, ◌≤◌, Bool, true, false, cond, List, [], ◌∷◌, Option, Some, None, option_map, is_some, length}
+use Rattle.std.proofs.Common.{refl, sym, ap, ◌∙◌, inl, inr, arith, IsPermutation}
 use Rattle.std.proofs.lemmas.Bool.{cases_Bool, false≢true}
 use Rattle.std.proofs.lemmas.Cmp.{nat_list_eq_equiv}
 use Rattle.std.proofs.lemmas.List.Sorted.{IsPermutation-map, length_permutation, list_any-IsPermutation}
@@ -41,7 +42,8 @@ may_index (Some x) us vs is long among = has_room x.value us vs is long among
 -- ---- slots that are kept
 
 module _ {T : Type 0} (says : Slot T → Bool → Type 0) where
-  all-chosen : (P : Text → Type 0) (b : Bool) (s : Slot T) (es : List (Slot T)) → P s.key.name → AllByRecursion P (names es) → AllByRecursion P (names (cond b (s ∷ es) es))
+  all-chosen : (P : Text → Type 0) (b : Bool) (s : Slot T) (es : List (Slot T)) → P s.key.name → AllByRecursion P (names es)
+      → AllByRecursion P (names (cond b (s ∷ es) es))
   all-chosen P true s es p a = (p, a)
   all-chosen P false s es p a = a
 
@@ -49,7 +51,8 @@ module _ {T : Type 0} (says : Slot T → Bool → Type 0) where
   all-kept P [] fs r a = rw r tt
   all-kept P (s ∷ es) fs r a = rw r.4 (all-chosen P r.0 s r.1 a.0 (all-kept P es r.1 r.3 a.1))
 
-  apart-chosen : (b : Bool) (s : Slot T) (es : List (Slot T)) → AllByRecursion (λ u. same_text s.key.name u ≡ false) (names es) → AreApart es → AreApart (cond b (s ∷ es) es)
+  apart-chosen : (b : Bool) (s : Slot T) (es : List (Slot T)) → AllByRecursion (λ u. same_text s.key.name u ≡ false) (names es)
+      → AreApart es → AreApart (cond b (s ∷ es) es)
   unfolding IsDistinct
   apart-chosen true s es a d = (a, d)
   apart-chosen false s es a d = d
@@ -60,7 +63,8 @@ module _ {T : Type 0} (says : Slot T → Bool → Type 0) where
   apart-kept (s ∷ es) fs r d =
       rw r.4 (apart-chosen r.0 s r.1 (all-kept (λ u. same_text s.key.name u ≡ false) es r.1 r.3 d.0) (apart-kept es r.1 r.3 d.1))
 
-  place-chosen : (t : Text) (b : Bool) (s : Slot T) (es : List (Slot T)) → is_at t s ≡ false → is_some (place t (cond b (s ∷ es) es)) ≡ true → is_some (place t es) ≡ true
+  place-chosen : (t : Text) (b : Bool) (s : Slot T) (es : List (Slot T)) → is_at t s ≡ false → is_some (place t (cond b (s ∷ es) es)) ≡ true
+      → is_some (place t es) ≡ true
   place-chosen t true s es other h = some_before (place t es) (rw other at h)
   place-chosen t false s es other h = h
 
@@ -102,7 +106,8 @@ module _ {T : Type 0} (es fs : List (Slot T)) (same : IsPermutation es fs) where
   apart-permuted a = IsDistinct-IsPermutation same_text nat_list_eq_equiv.symm (names es) (names fs) permuted a
 
   pub place-permuted : (t : Text) → is_some (place t fs) ≡ is_some (place t es)
-  place-permuted t = place-any t (names fs) ∙ sym (list_any-IsPermutation (same_text t) (names es) (names fs) permuted) ∙ sym (place-any t (names es))
+  place-permuted t = place-any t (names fs) ∙ sym (list_any-IsPermutation (same_text t) (names es) (names fs) permuted)
+      ∙ sym (place-any t (names es))
 
   pub length-permuted : length fs ≡ length es
   length-permuted = length_permutation es fs same

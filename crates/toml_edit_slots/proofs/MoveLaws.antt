@@ -1,5 +1,6 @@
 -- An element moved to another place, and slots of which one was moved.
-use Rattle.std.proofs.Common.{◌≡◌, ℕ, zero, suc, ◌+◌, ◌-◌, ◌<◌, ◌≤◌, List, [], ◌∷◌, ◌++◌, Option, Some, None, option_map, length, take, drop, insert, remove, slice_get, refl, sym, ap, subst, ◌∙◌, inl, inr, arith, IsPermutation, append_assoc}
+use Rattle.std.proofs.Common.{◌≡◌, ℕ, zero, suc, ◌+◌, ◌-◌, ◌<◌, ◌≤◌, List, [], ◌∷◌, ◌++◌, Option, Some, None, option_map, length, take}
+use Rattle.std.proofs.Common.{drop, insert, remove, slice_get, refl, sym, ap, subst, ◌∙◌, inl, inr, arith, IsPermutation, append_assoc}
 use Rattle.std.proofs.lemmas.List.{take-take}
 use Rattle.std.proofs.lemmas.List.Sorted.{IsPermutation-insert, IsPermutation-remove, IsPermutation-trans}
 use Rattle.std.proofs.lemmas.Option.{slice_get_cases, slice_get_within}
@@ -16,7 +17,8 @@ use Rattle.toml_edit_slots.proofs.SeenLaws.{lookup_slot-seen, one_seen, place-se
 use Rattle.toml_edit_slots.proofs.SlotLaws.{lookup_slot-present, place-within}
 
 -- what is put before each of two lists
-before : {A X : Type 0} (x : X) (f : A → List X) (o : Option A) (d : List X) → option_map_or (λ y. x ∷ f y) o (x ∷ d) ≡ x ∷ option_map_or f o d
+before : {A X : Type 0} (x : X) (f : A → List X) (o : Option A) (d : List X) → option_map_or (λ y. x ∷ f y) o (x ∷ d) ≡ x
+    ∷ option_map_or f o d
 before x f None d = refl
 before x f (Some y) d = refl
 
@@ -78,7 +80,8 @@ module _ {X : Type 0} where
       let one : k ≡ suc (i - j) = omega (arith, more, long) in
       ap (λ z. take j xs ++ (z ++ drop k (drop j xs))) is
       ∙ ap (λ m. take j xs ++ ((drop l (take m (drop j xs)) ++ take l (take m (drop j xs))) ++ drop m (drop j xs))) one
-      ∙ ap (λ m. take j xs ++ ((drop m (take (suc (i - j)) (drop j xs)) ++ take m (take (suc (i - j)) (drop j xs))) ++ drop (suc (i - j)) (drop j xs))) last
+      ∙ ap (λ m. take j xs ++ ((drop m (take (suc (i - j)) (drop j xs)) ++ take m (take (suc (i - j)) (drop j xs)))
+      ++ drop (suc (i - j)) (drop j xs))) last
       ∙ turned-right xs i j (i - j) (omega (arith, more)) within
 
   -- ---- what is moved
@@ -119,7 +122,8 @@ module _ {T : Type 0} where
   insert-seen (e ∷ es) zero s = refl
   insert-seen (e ∷ es) (suc j) s = ap (λ l. one_seen e ∷ l) (insert-seen es j s)
 
-  pub moved-seen : (t : Text) (es : List (Slot T)) (i j : ℕ) → AreApart es → place t es ≡ Some i → seen (moved i j es) ≡ moved_slot t j (seen es)
+  pub moved-seen : (t : Text) (es : List (Slot T)) (i j : ℕ) → AreApart es → place t es ≡ Some i → seen (moved i j es)
+      ≡ moved_slot t j (seen es)
   moved-seen t es i j apart at =
       elim (slice_get_cases es i).1 [
         | inl (s, below, here, own) ↦

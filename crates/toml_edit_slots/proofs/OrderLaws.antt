@@ -1,5 +1,6 @@
 -- Slots put in the order of their places.
-use Rattle.std.proofs.Common.{◌≡◌, ℕ, suc, ◌≤◌, ◌<◌, Bool, true, false, List, [], ◌∷◌, Option, Some, None, is_some, length, get_or, set, refl, sym, ap, ◌∙◌, inl, inr, arith, nat_le, option_map}
+use Rattle.std.proofs.Common.{◌≡◌, ℕ, suc, ◌≤◌, ◌<◌, Bool, true, false, List, [], ◌∷◌, Option, Some, None, is_some, length, get_or, set}
+use Rattle.std.proofs.Common.{refl, sym, ap, ◌∙◌, inl, inr, arith, nat_le, option_map}
 use Rattle.std.specs.Prelude.{◌||◌, ◌&&◌, if◌then◌else◌}
 use Rattle.std.specs.Global.{Box}
 use Rattle.std.specs.List.{IsDistinct, AllByRecursion}
@@ -48,7 +49,8 @@ module _ {T : Type 0} where
   from-zero [] = refl
   from-zero (s ∷ es) = let e : nat_le 0 (key_place s.key) ≡ true = grind (arith, nat_tests) in rw e refl
 
-  pub from-next : (n : ℕ) (s : Slot T) (es : List (Slot T)) → n ≤ key_place s.key → starts_from n (s ∷ es) ≡ starts_from (key_place s.key) es
+  pub from-next : (n : ℕ) (s : Slot T) (es : List (Slot T)) → n ≤ key_place s.key → starts_from n (s ∷ es)
+      ≡ starts_from (key_place s.key) es
   from-next n s [] h = let e : nat_le n (key_place s.key) ≡ true = grind (arith, nat_tests) in rw e refl
   from-next n s (t ∷ es) h = let e : nat_le n (key_place s.key) ≡ true = grind (arith, nat_tests) in rw e refl
 
@@ -155,5 +157,6 @@ module _ {T : Type 0} where
   replaced-set s (e ∷ es) i h =
       elim (cases_Bool (is_at s.key.name e)) [
         | inl same ↦ let is : 0 ≡ i = same_Some 0 i (rw same at h) in rw (same, ← is) refl
-        | inr other ↦ let (j, at, is) = some_next (place s.key.name es) i (rw other at h) in rw (other, is) (ap (λ l. e ∷ l) (replaced-set s es j at))
+        | inr other ↦ let (j, at, is) = some_next (place s.key.name es) i (rw other at h) in
+            rw (other, is) (ap (λ l. e ∷ l) (replaced-set s es j at))
       ]

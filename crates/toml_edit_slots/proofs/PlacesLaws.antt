@@ -1,5 +1,7 @@
 -- What is noted of texts, in an index of them.
-use Rattle.std.proofs.Common.{◌≡◌, ℕ, zero, suc, ◌+◌, ◌<◌, Bool, true, false, cond, List, [], ◌∷◌, ◌++◌, filter, Option, Some, None, option_map, is_some, length, remove, refl, sym, ap, ◌∙◌, inl, inr, ◌⊎◌, arith, nat_eq, slice_get, string_bytes, String}
+use Rattle.std.proofs.Common.{◌≡◌, ℕ, zero, suc, ◌+◌, ◌<◌, Bool, true, false, cond, List, [], ◌∷◌, ◌++◌, filter, Option, Some, None}
+use Rattle.std.proofs.Common.{option_map, is_some, length, remove, refl, sym, ap, ◌∙◌, inl, inr, ◌⊎◌, arith, nat_eq, slice_get}
+use Rattle.std.proofs.Common.{string_bytes, String}
 use Rattle.std.proofs.lemmas.Bool.{cases_Bool, cases_lt, false≢true}
 use Rattle.std.proofs.lemmas.Cmp.{nat_list_eq_equiv}
 use Rattle.std.proofs.lemmas.Map.Text.{is_eq-slice_cmp}
@@ -15,18 +17,22 @@ use Rattle.std.specs.Option.{option_map_or, option_or}
 use Rattle.std.specs.Ordering.{is_eq, nat_cmp}
 use Rattle.toml_edit_model.specs.Text.{Text, same_text}
 use Rattle.toml_edit_slots.specs.Slots.{names, place_in}
-use Rattle.toml_edit_slots.specs.SlotIndex.{AreNotedApart, HasTexts, IsIndexOf, IsNotedAt, IsRightBefore, IsSetTo, hash_stands_at, is_own, noted_place, second_hash, stands_at}
+use Rattle.toml_edit_slots.specs.SlotIndex.{AreNotedApart, HasTexts, IsIndexOf, IsNotedAt, IsRightBefore, IsSetTo, hash_stands_at, is_own}
+use Rattle.toml_edit_slots.specs.SlotIndex.{noted_place, second_hash, stands_at}
 use Rattle.toml_edit_slots.specs.declared.slots.Slot.{Slot}
 use Rattle.toml_edit_slots.specs.declared.places.Places.{Places}
-use Rattle.toml_edit_slots.proofs.IndexLaws.{before-removed, behind-removed, cases_option, none_of, place_in-congr, place_in-is, place_in-own, some_place}
+use Rattle.toml_edit_slots.proofs.IndexLaws.{before-removed, behind-removed, cases_option, none_of, place_in-congr, place_in-is}
+use Rattle.toml_edit_slots.proofs.IndexLaws.{place_in-own, some_place}
 
 -- ---- two texts
 
 -- texts at two places differ
-other_text : (us : List Text) (j k : ℕ) (t u : Text) → slice_get us j ≡ Some t → slice_get us k ≡ Some u → IsDistinct same_text us → (j ≡ k → ⊥) → same_text u t ≡ false
+other_text : (us : List Text) (j k : ℕ) (t u : Text) → slice_get us j ≡ Some t → slice_get us k ≡ Some u → IsDistinct same_text us
+    → (j ≡ k → ⊥) → same_text u t ≡ false
 other_text us j k t u ht hu apart ne =
     elim (cases_Bool (same_text u t)) [
-      | inl same ↦ absurd (ne (same_Some j k (sym (place_in-own us j t ht apart) ∙ sym (place_in-congr u t same us) ∙ place_in-own us k u hu apart)))
+      | inl same ↦ absurd (ne (same_Some j k (sym (place_in-own us j t ht apart) ∙ sym (place_in-congr u t same us)
+          ∙ place_in-own us k u hu apart)))
       | inr other ↦ other
     ]
 
@@ -51,14 +57,16 @@ noted-apart us m j k t u is ht hu other same =
       | inr bare ↦ elim (cases_Bool (is_own m u)) [
         | inl own ↦ inr own
         | inr none ↦
-            let one : j ≡ k = same_Some j k (sym (is j t ht) ∙ by_hash m t bare ∙ ap (get nat_cmp m.hashes) same ∙ sym (by_hash m u none) ∙ is k u hu) in
+            let one : j ≡ k = same_Some j k (sym (is j t ht) ∙ by_hash m t bare ∙ ap (get nat_cmp m.hashes) same ∙ sym (by_hash m u none)
+            ∙ is k u hu) in
             let alike : t ≡ u = same_Some t u (sym ht ∙ ap (slice_get us) one ∙ hu) in
             absurd (false≢true (sym other ∙ ap (same_text u) alike ∙ nat_list_eq_equiv.refl u))
       ]
     ]
 
 -- an index has the texts that are among its own
-pub texts-among : (us vs : List Text) (m : Places) → IsIndexOf m us → ((k : ℕ) (t : Text) → slice_get vs k ≡ Some t → (j : ℕ) × (slice_get us j ≡ Some t)) → HasTexts m vs
+pub texts-among : (us vs : List Text) (m : Places) → IsIndexOf m us
+    → ((k : ℕ) (t : Text) → slice_get vs k ≡ Some t → (j : ℕ) × (slice_get us j ≡ Some t)) → HasTexts m vs
 texts-among us vs m is among = record {
   noted = λ k t there. ap is_some (is (among k t there).0 t (among k t there).1);
   apart = λ j k t u ht hu other. noted-apart us m (among j t ht).0 (among k u hu).0 t u is (among j t ht).1 (among k u hu).1 other;
@@ -69,7 +77,8 @@ texts-among us vs m is among = record {
 -- what holds of the name at a place among slots
 pub stands-at : {T : Type 0} (es : List (Slot T)) (k : ℕ) (f : Text → Bool) (o : Option (Slot T)) → o ≡ slice_get es k
     → option_map_or f (option_map (λ s. s.key.name) o) false ≡ option_map_or f (slice_get (names es) k) false
-stands-at es k f o is = ap (λ p. option_map_or f p false) (ap (option_map (λ s. s.key.name)) is ∙ sym (slice_get-map (λ s. s.key.name) es k))
+stands-at es k f o is =
+    ap (λ p. option_map_or f p false) (ap (option_map (λ s. s.key.name)) is ∙ sym (slice_get-map (λ s. s.key.name) es k))
 
 pub not-there : (us : List Text) (m : Places) (t : Text) → IsIndexOf m us → noted_place m t ≡ None → place_in t us ≡ None
 not-there us m t is none =
@@ -87,7 +96,8 @@ is-there us t at apart stands =
           sym (place_in-congr found.0 t same us) ∙ place_in-own us at found.0 found.1 apart
     ]
 
-pub other-there : (us : List Text) (m : Places) (t : Text) (at : ℕ) → IsIndexOf m us → noted_place m t ≡ Some at → stands_at us at t ≡ false → place_in t us ≡ None
+pub other-there : (us : List Text) (m : Places) (t : Text) (at : ℕ) → IsIndexOf m us → noted_place m t ≡ Some at → stands_at us at t ≡ false
+    → place_in t us ≡ None
 other-there us m t at is noted stands =
     elim (cases_option (place_in t us)) [
       | inl gone ↦ gone
@@ -116,7 +126,8 @@ module _ (m : Places) (ns : BTreeMap (String Global) ℕ) (u : Text) (w : Option
   place-other t other = ap (λ o. option_or o (get nat_cmp m.hashes (second_hash t))) (name-other t other)
 
   pub place-put : (at : ℕ) → w ≡ Some at → noted_place (with_names m ns) u ≡ Some at
-  place-put at is = ap (λ o. option_or o (get nat_cmp m.hashes (second_hash u))) (put u ∙ ap (λ b. cond b w (get_by_text m.names u)) (nat_list_eq_equiv.refl u) ∙ is)
+  place-put at is = ap (λ o. option_or o (get nat_cmp m.hashes (second_hash u))) (put u
+      ∙ ap (λ b. cond b w (get_by_text m.names u)) (nat_list_eq_equiv.refl u) ∙ is)
 
   pub own-put : (at : ℕ) → w ≡ Some at → is_own m u ≡ true → (t : Text) → is_own (with_names m ns) t ≡ is_own m t
   own-put at is own t =
@@ -132,7 +143,8 @@ module _ (m : Places) (ns : BTreeMap (String Global) ℕ) (u : Text) (w : Option
 pub index-same : (us : List Text) (m n : Places) → ((t : Text) → noted_place n t ≡ noted_place m t) → IsIndexOf m us → IsIndexOf n us
 index-same us m n same is k t there = same t ∙ is k t there
 
-get-pushed : (us : List Text) (u t : Text) (k : ℕ) → slice_get (us ++ u ∷ []) k ≡ Some t → (slice_get us k ≡ Some t) ⊎ ((k ≡ length us) × (u ≡ t))
+get-pushed : (us : List Text) (u t : Text) (k : ℕ) → slice_get (us ++ u ∷ []) k ≡ Some t → (slice_get us k ≡ Some t)
+    ⊎ ((k ≡ length us) × (u ≡ t))
 get-pushed [] u t zero h = inr (refl, same_Some u t h)
 get-pushed [] u t (suc k) h = absurd (none-some t h)
 get-pushed (v ∷ us) u t zero h = inl h
@@ -142,7 +154,8 @@ get-pushed (v ∷ us) u t (suc k) h =
       | inr last ↦ inr (ap suc last.0, last.1)
     ]
 
-pub index-more : (us : List Text) (m n : Places) (u : Text) → place_in u us ≡ None → IsIndexOf m us → IsNotedAt (length us) u m n → IsIndexOf n (us ++ u ∷ [])
+pub index-more : (us : List Text) (m n : Places) (u : Text) → place_in u us ≡ None → IsIndexOf m us → IsNotedAt (length us) u m n
+    → IsIndexOf n (us ++ u ∷ [])
 index-more us m n u new is put k t there =
     elim (get-pushed us u t k there) [
       | inl before ↦ put.1 k t (new_text us k t u before new) (is k t before)
@@ -179,7 +192,8 @@ module _ (us : List Text) (apart : IsDistinct same_text us) (m n : Places) (at :
   right-more right k t below there =
       elim (cases_Bool (same_text u t)) [
         | inl same ↦
-            let is : at ≡ k = same_Some at k (sym (place_in-own us at u here apart) ∙ place_in-congr u t same us ∙ place_in-own us k t there apart) in
+            let is : at ≡ k = same_Some at k (sym (place_in-own us at u here apart) ∙ place_in-congr u t same us
+            ∙ place_in-own us k t there apart) in
             ap (noted_place n) (sym ((bytes_eq-Decides u t).0 same)) ∙ put.place ∙ ap Some is
         | inr other ↦ elim (cases_lt k at) [
           | inl less ↦ noted-still k t there other ∙ right k t less there
@@ -197,15 +211,20 @@ module _ (us : List Text) (apart : IsDistinct same_text us) (m n : Places) (gap 
     (own : (t : Text) → same_text u t ≡ false → is_own n t ≡ is_own m t)
     (others : (t : Text) → same_text u t ≡ false → AreNotedApart m t u → noted_place n t ≡ noted_place m t) where
   -- what is left had a place, which is not that of the text
-  was_at : (k : ℕ) (t : Text) → slice_get (remove us gap) k ≡ Some t → (j : ℕ) × (slice_get us j ≡ Some t) × (same_text u t ≡ false) × (k < gap → j ≡ k)
+  was_at : (k : ℕ) (t : Text) → slice_get (remove us gap) k ≡ Some t → (j : ℕ) × (slice_get us j ≡ Some t) × (same_text u t ≡ false)
+      × (k < gap → j ≡ k)
   was_at k t there =
       elim (cases_lt k gap) [
         | inl less ↦
             let at : slice_get us k ≡ Some t = sym (before-removed us gap k less) ∙ there in
             (k, at, other_text us k gap t u at here apart (λ e. omega (arith, e, less)), λ _. refl)
         | inr more ↦
-            let at : slice_get us (suc k) ≡ Some t = sym (behind-removed us gap k more) ∙ there in
-            (suc k, at, other_text us (suc k) gap t u at here apart (λ e. omega (arith, e, more)), λ less. absurd (omega (arith, less, more)))
+            let at : slice_get us (suc k) ≡ Some t = sym (behind-removed us gap k more) ∙ there in (
+              suc k,
+              at,
+              other_text us (suc k) gap t u at here apart (λ e. omega (arith, e, more)),
+              λ less. absurd (omega (arith, less, more)),
+            )
       ]
 
   noted-left : (k : ℕ) (t : Text) (there : slice_get (remove us gap) k ≡ Some t) → noted_place n t ≡ Some (was_at k t there).0
@@ -213,7 +232,8 @@ module _ (us : List Text) (apart : IsDistinct same_text us) (m n : Places) (gap 
       let w = was_at k t there in
       others t w.2 (noted-apart us m w.0 gap t u is w.1 here w.2) ∙ is w.0 t w.1
 
-  apart-left : (j k : ℕ) (t v : Text) → slice_get (remove us gap) j ≡ Some t → slice_get (remove us gap) k ≡ Some v → same_text v t ≡ false → AreNotedApart n t v
+  apart-left : (j k : ℕ) (t v : Text) → slice_get (remove us gap) j ≡ Some t → slice_get (remove us gap) k ≡ Some v → same_text v t ≡ false
+      → AreNotedApart n t v
   apart-left j k t v ht hv other same =
       let w = was_at j t ht in
       let x = was_at k v hv in
@@ -233,7 +253,8 @@ module _ (us : List Text) (apart : IsDistinct same_text us) (m n : Places) (gap 
 -- ---- what fits stays
 
 module _ {K : Type 0} (test : K → Bool) (keep : K × ℕ → Bool) where
-  lookup-kept : (v : ℕ) → ((k : K) → test k ≡ true → keep (k, v) ≡ true) → (es : List (K × ℕ)) → lookup test es ≡ Some v → lookup test (filter keep es) ≡ Some v
+  lookup-kept : (v : ℕ) → ((k : K) → test k ≡ true → keep (k, v) ≡ true) → (es : List (K × ℕ)) → lookup test es ≡ Some v
+      → lookup test (filter keep es) ≡ Some v
   lookup-kept v fits [] e = absurd (none-some v e)
   lookup-kept v fits (p ∷ es) e =
       elim (cases_Bool (test p.0)) [
@@ -279,13 +300,15 @@ module _ (us : List Text) (m n : Places) (right : IsRightBefore (length us) m us
   kept-name k t there noted =
       ap (lookup (by_name t)) names
       ∙ lookup-kept (by_name t) (fits us) k
-      (λ x found. ap (λ o. option_map_or (λ u. same_text u (string_bytes x)) o false) there ∙ sym (is_eq-slice_cmp t (string_bytes x)) ∙ found)
+      (λ x found. ap (λ o. option_map_or (λ u. same_text u (string_bytes x)) o false) there ∙ sym (is_eq-slice_cmp t (string_bytes x))
+      ∙ found)
       m.names.entries noted
 
   kept-none : (t : Text) → get_by_text m.names t ≡ None → get_by_text n.names t ≡ None
   kept-none t none = ap (lookup (by_name t)) names ∙ lookup-none-kept (by_name t) (fits us) m.names.entries none
 
-  kept-hash : (k : ℕ) (t : Text) → slice_get us k ≡ Some t → get nat_cmp m.hashes (second_hash t) ≡ Some k → get nat_cmp n.hashes (second_hash t) ≡ Some k
+  kept-hash : (k : ℕ) (t : Text) → slice_get us k ≡ Some t → get nat_cmp m.hashes (second_hash t) ≡ Some k
+      → get nat_cmp n.hashes (second_hash t) ≡ Some k
   kept-hash k t there noted =
       let test : ℕ → Bool = λ h. is_eq (nat_cmp (second_hash t) h) in
       ap (lookup test) hashes

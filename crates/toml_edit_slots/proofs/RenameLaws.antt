@@ -1,5 +1,6 @@
 -- A name in the place of another.
-use Rattle.std.proofs.Common.{◌≡◌, ℕ, zero, suc, true, false, List, [], ◌∷◌, ◌++◌, Some, None, ◌||◌, not, if◌then◌else◌, is_some, set, slice_get, refl, sym, ap, ◌∙◌, inl, inr}
+use Rattle.std.proofs.Common.{◌≡◌, ℕ, zero, suc, true, false, List, [], ◌∷◌, ◌++◌, Some, None, ◌||◌, not, if◌then◌else◌, is_some, set}
+use Rattle.std.proofs.Common.{slice_get, refl, sym, ap, ◌∙◌, inl, inr}
 use Rattle.std.proofs.lemmas.Bool.{cases_Bool, false≢true}
 use Rattle.std.proofs.lemmas.Cmp.{nat_list_eq_equiv}
 use Rattle.std.proofs.lemmas.Option.{none-some, same_Some}
@@ -69,7 +70,8 @@ place-last (v ∷ us) t u same =
     ]
 
 -- what is there once a text is in the place of another was there, or is that text
-pub among-set : (us : List Text) (i : ℕ) (t u : Text) → is_some (place_in t (set us i u)) ≡ true → is_some (place_in t (us ++ u ∷ [])) ≡ true
+pub among-set : (us : List Text) (i : ℕ) (t u : Text) → is_some (place_in t (set us i u)) ≡ true → is_some (place_in t (us ++ u ∷ []))
+    ≡ true
 among-set [] i t u is = absurd (false≢true is)
 among-set (v ∷ us) zero t u is =
     elim (cases_Bool (same_text t u)) [
@@ -84,13 +86,15 @@ among-set (v ∷ us) zero t u is =
 among-set (v ∷ us) (suc i) t u is =
     elim (cases_Bool (same_text t v)) [
       | inl here ↦ rw here refl
-      | inr other ↦ rw other (some_after (place_in t (us ++ u ∷ [])) (among-set us i t u (some_before (place_in t (set us i u)) (rw other at is))))
+      | inr other ↦ rw other (some_after (place_in t (us ++ u ∷ []))
+          (among-set us i t u (some_before (place_in t (set us i u)) (rw other at is))))
     ]
 
 -- ---- slots
 
 -- the names, with another in the place of one
-pub names-renamed : {T : Type 0} (h : Key → Key) (t : Text) → ((k : Key) → (h k).name ≡ t) → (es : List (Slot T)) (i : ℕ) → names (on_key i h es) ≡ set (names es) i t
+pub names-renamed : {T : Type 0} (h : Key → Key) (t : Text) → ((k : Key) → (h k).name ≡ t) → (es : List (Slot T)) (i : ℕ)
+    → names (on_key i h es) ≡ set (names es) i t
 names-renamed h t is [] i = refl
 names-renamed h t is (s ∷ es) zero = ap (λ n. n ∷ names es) (is s.key)
 names-renamed h t is (s ∷ es) (suc i) = ap (λ l. s.key.name ∷ l) (names-renamed h t is es i)
@@ -108,7 +112,8 @@ module _ {T : Type 0} (t : Text) where
   has-none-seen es none = has_slot-none t (seen es) (none_at t (seen es) (place-seen t es ∙ none))
 
   -- a key changed at the place of a name is one changed by the name
-  on_key-seen : (h : Key → Key) (es : List (Slot T)) (i : ℕ) → AreApart es → place t es ≡ Some i → seen (on_key i h es) ≡ model.changed t (model.on_key h) (seen es)
+  on_key-seen : (h : Key → Key) (es : List (Slot T)) (i : ℕ) → AreApart es → place t es ≡ Some i → seen (on_key i h es)
+      ≡ model.changed t (model.on_key h) (seen es)
   unfolding IsDistinct
   on_key-seen h [] i a at = absurd (none-some i at)
   on_key-seen h (s ∷ es) i a at =
@@ -116,8 +121,10 @@ module _ {T : Type 0} (t : Text) where
         | inl same ↦
             let e : 0 ≡ i = same_Some 0 i (rw same at at) in
             let none = none_at t (seen es) (place-seen t es ∙ none_named t s.key.name es same a.0) in
-            rw (same, ← e) (ap (λ l. one_seen (record { key = h s.key; item = s.item }) ∷ l) (sym (changed-none t (model.on_key h) (seen es) none)))
-        | inr other ↦ let (j, is, e) = some_next (place t es) i (rw other at at) in rw (other, e) (ap (λ l. one_seen s ∷ l) (on_key-seen h es j a.1 is))
+            rw (same, ← e) (ap (λ l. one_seen (record { key = h s.key; item = s.item })
+            ∷ l) (sym (changed-none t (model.on_key h) (seen es) none)))
+        | inr other ↦ let (j, is, e) = some_next (place t es) i (rw other at at) in
+            rw (other, e) (ap (λ l. one_seen s ∷ l) (on_key-seen h es j a.1 is))
       ]
 
 module _ {T : Type 0} (t u : Text) (es : List (Slot T)) where
@@ -147,11 +154,13 @@ module _ {T : Type 0} (t u : Text) (es : List (Slot T)) where
 
   pub told-taken : (i : ℕ) → place t es ≡ Some i → is_free t u (seen es) ≡ false → Taken ≡ renaming t u (seen es)
   told-taken i at busy =
-      sym (ap (λ b. if b then (if is_free t u (seen es) then Done else Taken) else Absent) (has-seen t es i at) ∙ ap (λ b. if b then Done else Taken) busy)
+      sym (ap (λ b. if b then (if is_free t u (seen es) then Done else Taken) else Absent) (has-seen t es i at)
+      ∙ ap (λ b. if b then Done else Taken) busy)
 
   pub told-done : (i : ℕ) → place t es ≡ Some i → is_free t u (seen es) ≡ true → Done ≡ renaming t u (seen es)
   told-done i at free =
-      sym (ap (λ b. if b then (if is_free t u (seen es) then Done else Taken) else Absent) (has-seen t es i at) ∙ ap (λ b. if b then Done else Taken) free)
+      sym (ap (λ b. if b then (if is_free t u (seen es) then Done else Taken) else Absent) (has-seen t es i at)
+      ∙ ap (λ b. if b then Done else Taken) free)
 
   abbrev done : List (model.Slot T)
   done = model.changed t (model.on_key (renamed_key u)) (seen es)
@@ -167,5 +176,6 @@ module _ {T : Type 0} (t u : Text) (es : List (Slot T)) where
   pub left-taken : is_free t u (seen es) ≡ false → seen es ≡ renamed_slot t u (seen es)
   left-taken busy = sym (ap (λ b. if b then done else seen es) busy)
 
-  pub left-done : (i : ℕ) → AreApart es → place t es ≡ Some i → is_free t u (seen es) ≡ true → seen (on_key i (renamed_key u) es) ≡ renamed_slot t u (seen es)
+  pub left-done : (i : ℕ) → AreApart es → place t es ≡ Some i → is_free t u (seen es) ≡ true → seen (on_key i (renamed_key u) es)
+      ≡ renamed_slot t u (seen es)
   left-done i apart at free = on_key-seen t (renamed_key u) es i apart at ∙ sym (ap (λ b. if b then done else seen es) free)

@@ -1,5 +1,6 @@
 -- The calls on the code's slots, as the definitions see them.
-use Rattle.std.proofs.Common.{◌≡◌, ℕ, zero, suc, List, [], ◌∷◌, ◌++◌, map, Option, None, Some, option_map, refl, sym, ap, subst, ◌∙◌, inl, inr, set, get_or, remove, length, nat_lt, cond, not, ◌+◌}
+use Rattle.std.proofs.Common.{◌≡◌, ℕ, zero, suc, List, [], ◌∷◌, ◌++◌, map, Option, None, Some, option_map, refl, sym, ap, subst, ◌∙◌, inl}
+use Rattle.std.proofs.Common.{inr, set, get_or, remove, length, nat_lt, cond, not, ◌+◌}
 use Rattle.std.proofs.lemmas.Bool.{cases_Bool}
 use Rattle.std.proofs.lemmas.List.{map-set, map-append}
 use Rattle.std.specs.List.{IsDistinct, position_or_len, prefix_len}
@@ -49,7 +50,8 @@ module _ {T : Type 0} (t : Text) where
   pub place-seen : (es : List (Slot T)) → model.place t (seen es) ≡ place t es
   place-seen es =
       sym (ap (λ n. cond (nat_lt n (length es)) (Some n) None) (front-seen es)
-      ∙ ap (λ m. cond (nat_lt (position_or_len (model.is_at t) (seen es)) m) (Some (position_or_len (model.is_at t) (seen es))) None) (sym (length-seen es)))
+      ∙ ap (λ m. cond (nat_lt (position_or_len (model.is_at t) (seen es)) m) (Some (position_or_len (model.is_at t) (seen es))) None)
+      (sym (length-seen es)))
       ∙ place-position t es
 
   pub lookup_slot-seen : (es : List (Slot T)) → model.lookup_slot t (seen es) ≡ option_map one_seen (lookup_slot t es)
@@ -70,7 +72,8 @@ module _ {T : Type 0} (t : Text) where
   -- ---- edits at a place
 
   -- a present name: its slot is another
-  pub put-seen : (f : model.Slot T → model.Slot T) (s : model.Slot T) (es : List (Slot T)) (i : ℕ) (d r : Slot T) → s.key.name ≡ t → AreApart es → place t es ≡ Some i
+  pub put-seen : (f : model.Slot T → model.Slot T) (s : model.Slot T) (es : List (Slot T)) (i : ℕ) (d r : Slot T) → s.key.name ≡ t
+      → AreApart es → place t es ≡ Some i
       → f (one_seen (get_or es i d)) ≡ one_seen r → seen (set es i r) ≡ model.put f s (seen es)
   put-seen f s es i d r named a at same =
       map-set one_seen es i r
@@ -78,12 +81,15 @@ module _ {T : Type 0} (t : Text) where
       ∙ sym (put-at f s (seen es) i (one_seen d) (apart-seen es a) (ap (λ u. model.place u (seen es)) named ∙ place-seen es ∙ at))
 
   -- a new name: a slot comes last
-  pub put-new-seen : (f : model.Slot T → model.Slot T) (r : Slot T) (es : List (Slot T)) → r.key.name ≡ t → place t es ≡ None → seen (es ++ r ∷ []) ≡ model.put f (one_seen r) (seen es)
+  pub put-new-seen : (f : model.Slot T → model.Slot T) (r : Slot T) (es : List (Slot T)) → r.key.name ≡ t → place t es ≡ None
+      → seen (es ++ r ∷ []) ≡ model.put f (one_seen r) (seen es)
   put-new-seen f r es named none =
-      map-append one_seen es (r ∷ []) ∙ sym (put-new f (one_seen r) (seen es) (ap (λ u. model.place u (seen es)) named ∙ place-seen es ∙ none))
+      map-append one_seen es (r ∷ []) ∙ sym (put-new f (one_seen r) (seen es) (ap (λ u. model.place u (seen es)) named ∙ place-seen es
+      ∙ none))
 
   -- a removal
-  pub without-at-seen : (es : List (Slot T)) (i : ℕ) (d : Slot T) → AreApart es → place t es ≡ Some i → seen (remove es i) ≡ model.without t (seen es)
+  pub without-at-seen : (es : List (Slot T)) (i : ℕ) (d : Slot T) → AreApart es → place t es ≡ Some i → seen (remove es i)
+      ≡ model.without t (seen es)
   without-at-seen es i d a at = sym (remove-seen es i) ∙ sym (without-at t (seen es) i (one_seen d) (apart-seen es a) (place-seen es ∙ at))
 
   pub without-none-seen : (es : List (Slot T)) → place t es ≡ None → model.without t (seen es) ≡ seen es
@@ -111,12 +117,14 @@ module _ {T : Type 0} (t : Text) where
 
 -- one pair more
 pub extended_last : {T : Type 0} (es : List (model.Slot T)) (ps : List (Key × T)) (p : Key × T)
-    → model.extended (map pair_seen (ps ++ p ∷ [])) es ≡ model.put (model.with_item p.1) (pair_seen p) (model.extended (map pair_seen ps) es)
+    → model.extended (map pair_seen (ps ++ p ∷ [])) es
+    ≡ model.put (model.with_item p.1) (pair_seen p) (model.extended (map pair_seen ps) es)
 extended_last es [] p = refl
 extended_last es (q ∷ ps) p = extended_last (model.put (model.with_item q.1) (pair_seen q) es) ps p
 
 -- another item in a slot
-pub with_item-seen : {T : Type 0} (i : ℕ) (x : T) (es : List (Slot T)) → seen (with_item i x es) ≡ model.changed_at i (model.with_item x) (seen es)
+pub with_item-seen : {T : Type 0} (i : ℕ) (x : T) (es : List (Slot T)) → seen (with_item i x es)
+    ≡ model.changed_at i (model.with_item x) (seen es)
 with_item-seen i x [] = refl
 with_item-seen zero x (s ∷ es) = refl
 with_item-seen (suc i) x (s ∷ es) = ap (λ l. one_seen s ∷ l) (with_item-seen i x es)

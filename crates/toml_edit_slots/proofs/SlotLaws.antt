@@ -1,5 +1,7 @@
 -- What a place says of the slots: its slot, and the slots once that one is another or gone.
-use Rattle.std.proofs.Common.{◌≡◌, Result, Ok, Err, OnOk, ℕ, zero, suc, ◌+◌, ◌<◌, true, false, cond, nat_lt, List, [], ◌∷◌, ◌++◌, Option, Some, None, IfSome, option_map, length, get_or, set, remove, refl, sym, ap, subst, ◌∙◌, inl, inr, arith, rules, position, slice_get, take, option_and_then}
+use Rattle.std.proofs.Common.{◌≡◌, Result, Ok, Err, OnOk, ℕ, zero, suc, ◌+◌, ◌<◌, true, false, cond, nat_lt, List, [], ◌∷◌, ◌++◌, Option}
+use Rattle.std.proofs.Common.{Some, None, IfSome, option_map, length, get_or, set, remove, refl, sym, ap, subst, ◌∙◌, inl, inr, arith}
+use Rattle.std.proofs.Common.{rules, position, slice_get, take, option_and_then}
 use Rattle.std.proofs.lemmas.Bool.{cases_Bool}
 use Rattle.std.proofs.lemmas.Cmp.{nat_list_eq_equiv}
 use Rattle.std.proofs.lemmas.Option.{none-some, same_Some, slice_get_cases, slice_get-get_or, slice_get_within, get_or_from_slice_get}
@@ -58,7 +60,8 @@ module _ {T : Type 0} (t : Text) where
       ]
 
   -- at a text that is there, its slot is replaced
-  pub put-present : (es : List (Slot T)) (i : ℕ) (d : Slot T) (x : T) → place t es ≡ Some i → put t x es ≡ set es i (record { key = reset_key (get_or es i d).key; item = x })
+  pub put-present : (es : List (Slot T)) (i : ℕ) (d : Slot T) (x : T) → place t es ≡ Some i → put t x es
+      ≡ set es i (record { key = reset_key (get_or es i d).key; item = x })
   put-present [] i d x h = absurd (none-some i h)
   put-present (s ∷ es) i d x h =
       elim (cases_Bool (is_at t s)) [
@@ -137,12 +140,16 @@ module _ {T : Type 0} (t : Text) where
   apart-put (s ∷ es) x h =
       elim (cases_Bool (is_at t s)) [
         | inl same ↦ rw same h
-        | inr other ↦ rw other (all_put (λ y. same_text s.key.name y ≡ false) es x (nat_list_eq_equiv.symm s.key.name t ∙ other) h.0, apart-put es x h.1)
+        | inr other ↦ rw other (
+          all_put (λ y. same_text s.key.name y ≡ false) es x (nat_list_eq_equiv.symm s.key.name t ∙ other) h.0,
+          apart-put es x h.1,
+        )
       ]
 
 module _ {T : Type 0} where
   -- another item in a slot is another slot at the place
-  pub with_item-set : (es : List (Slot T)) (i : ℕ) (d : Slot T) (x : T) → with_item i x es ≡ set es i (record { key = (get_or es i d).key; item = x })
+  pub with_item-set : (es : List (Slot T)) (i : ℕ) (d : Slot T) (x : T) → with_item i x es
+      ≡ set es i (record { key = (get_or es i d).key; item = x })
   with_item-set [] i d x = refl
   with_item-set (s ∷ es) zero d x = refl
   with_item-set (s ∷ es) (suc i) d x = ap (λ l. s ∷ l) (with_item-set es i d x)
@@ -164,7 +171,8 @@ module _ {T : Type 0} where
   items_of-get (s ∷ es) (suc i) d h = items_of-get es i d (omega arith)
 
 -- equal texts have no place among names that the one is apart from
-pub none_named : {T : Type 0} (t k : Text) (es : List (Slot T)) → same_text t k ≡ true → AllByRecursion (λ y. same_text k y ≡ false) (names es) → place t es ≡ None
+pub none_named : {T : Type 0} (t k : Text) (es : List (Slot T)) → same_text t k ≡ true
+    → AllByRecursion (λ y. same_text k y ≡ false) (names es) → place t es ≡ None
 none_named t k [] same all = refl
 none_named t k (s ∷ es) same all =
     elim (cases_Bool (is_at t s)) [
@@ -195,7 +203,8 @@ apart-push (s ∷ es) n h a =
       )
     ]
   where
-    all_push : {T : Type 0} (P : Text → Type 0) (es : List (Slot T)) (n : Slot T) → P n.key.name → AllByRecursion P (names es) → AllByRecursion P (names (es ++ n ∷ []))
+    all_push : {T : Type 0} (P : Text → Type 0) (es : List (Slot T)) (n : Slot T) → P n.key.name → AllByRecursion P (names es)
+        → AllByRecursion P (names (es ++ n ∷ []))
     all_push P [] n p q = (p, tt)
     all_push P (s ∷ es) n p q = (q.0, all_push P es n p q.1)
 
@@ -211,19 +220,22 @@ lookup-at t (s ∷ es) i h =
 -- ---- what the calls answer of a place
 
 -- what holds of all names holds of the one at a place
-pub all_at : {T : Type 0} (P : Text → Type 0) (es : List (Slot T)) (i : ℕ) (d : Slot T) → i < length es → AllByRecursion P (names es) → P (get_or es i d).key.name
+pub all_at : {T : Type 0} (P : Text → Type 0) (es : List (Slot T)) (i : ℕ) (d : Slot T) → i < length es → AllByRecursion P (names es)
+    → P (get_or es i d).key.name
 all_at P [] i d h a = absurd (omega arith)
 all_at P (s ∷ es) zero d h a = a.0
 all_at P (s ∷ es) (suc i) d h a = all_at P es i d (omega arith) a.1
 
 -- a key of slots that are apart has no slot before its own
-pub place-apart : {T : Type 0} (es : List (Slot T)) (i : ℕ) (d : Slot T) → i < length es → AreApart es → place (get_or es i d).key.name (take i es) ≡ None
+pub place-apart : {T : Type 0} (es : List (Slot T)) (i : ℕ) (d : Slot T) → i < length es → AreApart es
+    → place (get_or es i d).key.name (take i es) ≡ None
 unfolding IsDistinct
 place-apart [] i d h a = absurd (omega arith)
 place-apart (s ∷ es) zero d h a = refl
 place-apart (s ∷ es) (suc i) d h a =
     let u = (get_or es i d).key.name in
-    let other : same_text u s.key.name ≡ false = nat_list_eq_equiv.symm u s.key.name ∙ all_at (λ y. same_text s.key.name y ≡ false) es i d (omega arith) a.0 in
+    let other : same_text u s.key.name ≡ false = nat_list_eq_equiv.symm u s.key.name
+    ∙ all_at (λ y. same_text s.key.name y ≡ false) es i d (omega arith) a.0 in
     rw (other, place-apart es i d (omega arith) a.1) refl
 
 -- a place is below the number of slots
@@ -241,7 +253,8 @@ places-within t es None h = tt
 places-within t es (Some i) h = place-within t es i (sym h)
 
 -- the slot at the place, if there is one, is the one that is found
-pub slot-at : {T : Type 0} (t : Text) (es : List (Slot T)) (o : Option ℕ) → place t es ≡ o → option_and_then (slice_get es) o ≡ lookup_slot t es
+pub slot-at : {T : Type 0} (t : Text) (es : List (Slot T)) (o : Option ℕ) → place t es ≡ o → option_and_then (slice_get es) o
+    ≡ lookup_slot t es
 slot-at t es None h = sym (lookup_slot-absent t es h)
 slot-at t es (Some i) h =
     elim (slice_get_cases es i).1 [
@@ -250,9 +263,11 @@ slot-at t es (Some i) h =
     ]
 
 -- no slot has the name of one before it
-pub apart-at : {T : Type 0} (es : List (Slot T)) (i : ℕ) (s : Slot T) → AreApart es → slice_get es i ≡ Some s → place s.key.name (take i es) ≡ None
+pub apart-at : {T : Type 0} (es : List (Slot T)) (i : ℕ) (s : Slot T) → AreApart es → slice_get es i ≡ Some s → place s.key.name (take i es)
+    ≡ None
 apart-at es i s a is =
-    subst (λ (x : Slot _). place x.key.name (take i es) ≡ None) (get_or_from_slice_get es i s s is) (place-apart es i s (slice_get_within es i s is) a)
+    subst (λ (x : Slot _). place x.key.name (take i es)
+    ≡ None) (get_or_from_slice_get es i s s is) (place-apart es i s (slice_get_within es i s is) a)
 
 -- ---- another slot at a place, whose key has the name of the one there
 module _ {T : Type 0} where
@@ -298,7 +313,8 @@ named-at t (s ∷ es) i d h =
 
 -- ---- a key changed in its slot, where its name stays
 module _ {T : Type 0} (h : Key → Key) where
-  pub on_key-set : (es : List (Slot T)) (i : ℕ) (d : Slot T) → on_key i h es ≡ set es i (record { key = h (get_or es i d).key; item = (get_or es i d).item })
+  pub on_key-set : (es : List (Slot T)) (i : ℕ) (d : Slot T) → on_key i h es
+      ≡ set es i (record { key = h (get_or es i d).key; item = (get_or es i d).item })
   on_key-set [] i d = refl
   on_key-set (s ∷ es) zero d = refl
   on_key-set (s ∷ es) (suc i) d = ap (λ l. s ∷ l) (on_key-set es i d)
@@ -312,17 +328,20 @@ module _ {T : Type 0} (h : Key → Key) where
   apart-on_key e es i a = subst (IsDistinct same_text) (sym (names-on_key e es i)) a
 
 -- what is read of the slot at a place
-pub read-at : {T X : Type 0} (f : Slot T → X) (es : List (Slot T)) (i : ℕ) (d : Slot T) → i < length es → option_map f (slice_get es i) ≡ Some (f (get_or es i d))
+pub read-at : {T X : Type 0} (f : Slot T → X) (es : List (Slot T)) (i : ℕ) (d : Slot T) → i < length es → option_map f (slice_get es i)
+    ≡ Some (f (get_or es i d))
 read-at f [] i d h = absurd (omega (arith, h))
 read-at f (s ∷ es) zero d h = refl
 read-at f (s ∷ es) (suc i) d h = read-at f es i d (omega (arith, h))
 
 -- a slot of slots that are apart is that of its name
-pub place-own : {T : Type 0} (es : List (Slot T)) (i : ℕ) (d : Slot T) → i < length es → AreApart es → place (get_or es i d).key.name es ≡ Some i
+pub place-own : {T : Type 0} (es : List (Slot T)) (i : ℕ) (d : Slot T) → i < length es → AreApart es → place (get_or es i d).key.name es
+    ≡ Some i
 unfolding IsDistinct
 place-own [] i d h a = absurd (omega (arith, h))
 place-own (s ∷ es) zero d h a = rw (nat_list_eq_equiv.refl s.key.name) refl
 place-own (s ∷ es) (suc i) d h a =
     let u = (get_or es i d).key.name in
-    let other : same_text u s.key.name ≡ false = nat_list_eq_equiv.symm u s.key.name ∙ all_at (λ y. same_text s.key.name y ≡ false) es i d (omega (arith, h)) a.0 in
+    let other : same_text u s.key.name ≡ false = nat_list_eq_equiv.symm u s.key.name
+    ∙ all_at (λ y. same_text s.key.name y ≡ false) es i d (omega (arith, h)) a.0 in
     rw (other, place-own es i d (omega (arith, h)) a.1) refl

@@ -1,5 +1,6 @@
 -- Names that are stored in place.
-use Rattle.std.specs.Prelude.{ℕ, Bool, false, ◌==◌, [], ◌∷◌, ◌++◌, ◌-◌, Option, None, Some, if◌then◌else◌, length, nat_le, replicate, slice_get}
+use Rattle.std.specs.Prelude.{ℕ, Bool, false, ◌==◌, [], ◌∷◌, ◌++◌, ◌-◌, Option, None, Some, if◌then◌else◌, length, nat_le, replicate}
+use Rattle.std.specs.Prelude.{slice_get}
 use Rattle.toml_edit_model.specs.Text.{Text}
 
 -- it is a zero

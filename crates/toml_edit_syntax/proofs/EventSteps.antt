@@ -31,18 +31,21 @@ pub goes : (old new : List Event) (r : Reading (List Event)) (rest : Text) (next
 goes old new (got es more) rest next e =
     let es-is : old ++ es ≡ new = cc in
     let rest-is : more ≡ rest = cc in
-    preceded-twice old es (next more) ∙ ap (λ (x : List Event). preceded x (next more)) es-is ∙ ap (λ (x : Text). preceded new (next x)) rest-is
+    preceded-twice old es (next more) ∙ ap (λ (x : List Event). preceded x (next more)) es-is
+    ∙ ap (λ (x : Text). preceded new (next x)) rest-is
 goes old new (deep es) rest next e = absurd cc
 goes old new wrong rest next e = absurd cc
 
 -- the part ended at a bracket that is one too many
-pub sinks : (old new : List Event) (r : Reading (List Event)) (next : Text → Reading (List Event)) → preceded old r ≡ deep new → preceded old (followed r next) ≡ deep new
+pub sinks : (old new : List Event) (r : Reading (List Event)) (next : Text → Reading (List Event)) → preceded old r ≡ deep new
+    → preceded old (followed r next) ≡ deep new
 sinks old new (got es more) next e = absurd cc
 sinks old new (deep es) next e = e
 sinks old new wrong next e = absurd cc
 
 -- the part was not read
-pub fails : (old : List Event) (r : Reading (List Event)) (next : Text → Reading (List Event)) → preceded old r ≡ wrong → preceded old (followed r next) ≡ wrong
+pub fails : (old : List Event) (r : Reading (List Event)) (next : Text → Reading (List Event)) → preceded old r ≡ wrong
+    → preceded old (followed r next) ≡ wrong
 fails old (got es more) next e = absurd cc
 fails old (deep es) next e = absurd cc
 fails old wrong next e = refl
@@ -51,7 +54,8 @@ fails old wrong next e = refl
 abbrev pub between : EventKind → ℕ → ℕ → Event
 between kind start end = record { kind = kind; span = record { start = start; end = end } }
 
-pub event_is : (kind : EventKind) (at start end : ℕ) (t : Text) → at ≡ start → at + length t ≡ end → event kind at t ≡ between kind start end
+pub event_is : (kind : EventKind) (at start end : ℕ) (t : Text) → at ≡ start → at + length t ≡ end → event kind at t
+    ≡ between kind start end
 event_is kind at start end t x y = ap (λ (n : ℕ). between kind n (at + length t)) x ∙ ap (λ (n : ℕ). between kind start n) y
 
 -- trivia was read or not
@@ -79,10 +83,14 @@ seen_behind es f E F wrong same = refl
 pub added : (es new : List Event) (x a : Event) → new ≡ es ++ x ∷ [] → x ≡ a → new ≡ es ++ a ∷ []
 added es new x a e h = e ∙ ap (λ (y : Event). es ++ y ∷ []) h
 
-pub added_two : (es more new : List Event) (x y a b : Event) → more ≡ es ++ x ∷ [] → new ≡ more ++ y ∷ [] → x ≡ a → y ≡ b → new ≡ es ++ (a ∷ b ∷ [])
+pub added_two : (es more new : List Event) (x y a b : Event) → more ≡ es ++ x ∷ [] → new ≡ more ++ y ∷ [] → x ≡ a → y ≡ b → new ≡ es
+    ++ (a ∷ b ∷ [])
 added_two es more new x y a b e f h g =
-    f ∙ ap (λ (xs : List Event). xs ++ y ∷ []) (added es more x a e h) ∙ append_assoc es (a ∷ []) (y ∷ []) ∙ ap (λ (z : Event). es ++ (a ∷ z ∷ [])) g
+    f ∙ ap (λ (xs : List Event). xs ++ y ∷ []) (added es more x a e h) ∙ append_assoc es (a ∷ []) (y ∷ [])
+    ∙ ap (λ (z : Event). es ++ (a ∷ z ∷ [])) g
 
-pub added_three : (es more most new : List Event) (x y z a b c : Event) → more ≡ es ++ x ∷ [] → most ≡ more ++ y ∷ [] → new ≡ most ++ z ∷ [] → x ≡ a → y ≡ b → z ≡ c → new ≡ es ++ (a ∷ b ∷ c ∷ [])
+pub added_three : (es more most new : List Event) (x y z a b c : Event) → more ≡ es ++ x ∷ [] → most ≡ more ++ y ∷ [] → new ≡ most ++ z ∷ []
+    → x ≡ a → y ≡ b → z ≡ c → new ≡ es ++ (a ∷ b ∷ c ∷ [])
 added_three es more most new x y z a b c e f g h i j =
-    g ∙ ap (λ (xs : List Event). xs ++ z ∷ []) (added_two es more most x y a b e f h i) ∙ append_assoc es (a ∷ b ∷ []) (z ∷ []) ∙ ap (λ (u : Event). es ++ (a ∷ b ∷ u ∷ [])) j
+    g ∙ ap (λ (xs : List Event). xs ++ z ∷ []) (added_two es more most x y a b e f h i) ∙ append_assoc es (a ∷ b ∷ []) (z ∷ [])
+    ∙ ap (λ (u : Event). es ++ (a ∷ b ∷ u ∷ [])) j

@@ -4,6 +4,7 @@ pub mod ReadingSteps
 pub mod PathLaws
 pub mod ShortenedLaws
 pub mod ValueTakes
+pub mod Outcomes
 pub mod ValueAgain
 pub mod CutLaws
 pub mod DocumentLaws

@@ -1,5 +1,6 @@
 -- The events of a lone value, a part at a time.
-use Rattle.std.proofs.Common.{◌≡◌, ℕ, ◌+◌, ◌*◌, ◌-◌, Bool, cond, if◌then◌else◌, ◌==◌, List, [], length, refl, sym, ap, ◌∙◌, inl, inr, arith, append-nil}
+use Rattle.std.proofs.Common.{◌≡◌, ℕ, ◌+◌, ◌*◌, ◌-◌, Bool, cond, if◌then◌else◌, ◌==◌, List, [], length, refl, sym, ap, ◌∙◌, inl, inr, arith}
+use Rattle.std.proofs.Common.{append-nil}
 use Rattle.std.proofs.lemmas.Bool.{cases_Bool, ne_eqb, eq-eqb}
 use Rattle.toml_edit_model.specs.Text.{Text}
 use Rattle.toml_edit_model.specs.Trivia.{is_blank}
@@ -17,17 +18,21 @@ use Rattle.toml_edit_syntax.proofs.EventSteps.{followed}
 abbrev pub nothing_read : Text → Reading (List Event)
 nothing_read rest = if length (split_while is_blank rest).1 == 0 then got [] rest else wrong
 
-pub nothing_left : (rest w end : Text) → ◌≡◌ {A = Text × Text} (w, end) (split_while is_blank rest) → length end ≡ 0 → nothing_read rest ≡ got [] rest
+pub nothing_left : (rest w end : Text) → ◌≡◌ {A = Text × Text} (w, end) (split_while is_blank rest) → length end ≡ 0 → nothing_read rest
+    ≡ got [] rest
 nothing_left rest w end split e =
     let len : length (split_while is_blank rest).1 ≡ 0 = ap (λ (p : Text × Text). length p.1) (sym split) ∙ e in
     ap (λ (b : Bool). cond {A = Reading (List Event)} b (got [] rest) wrong) (eq-eqb (length (split_while is_blank rest).1) 0 len)
 
-pub something_left : (rest w end : Text) → ◌≡◌ {A = Text × Text} (w, end) (split_while is_blank rest) → (length end ≡ 0 → ⊥) → nothing_read rest ≡ wrong
+pub something_left : (rest w end : Text) → ◌≡◌ {A = Text × Text} (w, end) (split_while is_blank rest) → (length end ≡ 0 → ⊥)
+    → nothing_read rest ≡ wrong
 something_left rest w end split some =
-    ap (λ (b : Bool). cond {A = Reading (List Event)} b (got [] rest) wrong) (ne_eqb (length (split_while is_blank rest).1) 0 (λ e. some (ap (λ (p : Text × Text). length p.1) split ∙ e)))
+    ap (λ (b : Bool). cond {A = Reading (List Event)} b (got [] rest) wrong)
+    (ne_eqb (length (split_while is_blank rest).1) 0 (λ e. some (ap (λ (p : Text × Text). length p.1) split ∙ e)))
 
 by_value : (at : ℕ) (r : Reading Value)
-    → seen (λ v _. value_events at v) (follow r (λ v rest. if length (split_while is_blank rest).1 == 0 then got v rest else wrong)) ≡ followed (seen (λ v _. value_events at v) r) nothing_read
+    → seen (λ v _. value_events at v) (follow r (λ v rest. if length (split_while is_blank rest).1 == 0 then got v rest else wrong))
+    ≡ followed (seen (λ v _. value_events at v) r) nothing_read
 by_value at wrong = refl
 by_value at (deep es) = refl
 by_value at (got v rest) =

@@ -1,5 +1,6 @@
 -- Steps of a reading that gave something, and the reading of trivia.
-use Rattle.std.proofs.Common.{◌≡◌, ℕ, ◌+◌, Bool, true, false, not, ◌==◌, ◌||◌, List, [], ◌∷◌, ◌++◌, length, take, drop, Some, None, refl, sym, ap, subst, ◌∙◌, arith, take_at, drop_at, inl, inr}
+use Rattle.std.proofs.Common.{◌≡◌, ℕ, ◌+◌, Bool, true, false, not, ◌==◌, ◌||◌, List, [], ◌∷◌, ◌++◌, length, take, drop, Some, None, refl}
+use Rattle.std.proofs.Common.{sym, ap, subst, ◌∙◌, arith, take_at, drop_at, inl, inr}
 use Rattle.std.specs.List.{flat_map, AllByRecursion}
 use Rattle.std.proofs.lemmas.Bool.Decides.{nat_tests}
 use Rattle.std.proofs.lemmas.List.{take-append-drop}
@@ -27,7 +28,8 @@ follow_got (got x more) f y rest e = (x, more, refl, e)
 follow_got (deep es) f y rest e = absurd cc
 follow_got wrong f y rest e = absurd cc
 
-pub changed_got : {A B : Type 0} (f : A → B) (r : Reading A) (y : B) (rest : Text) → changed f r ≡ got y rest → (x : A) × (r ≡ got x rest) × (f x ≡ y)
+pub changed_got : {A B : Type 0} (f : A → B) (r : Reading A) (y : B) (rest : Text) → changed f r ≡ got y rest → (x : A) × (r ≡ got x rest)
+    × (f x ≡ y)
 changed_got f (got x more) y rest e =
     let same : more ≡ rest = cc in
     (x, ap (λ (t : Text). got x t) same, cc)
@@ -66,8 +68,11 @@ trivia_takes t w rest e =
           let took : Outside (scan false t).1 (take n t) = scan_took false t in
           let whole : IsWholeTrivia (take n t) = subst (λ (b : Bool). Outside b (take n t)) outside took in
           let front : take n t ≡ w = cc in
-          let after : drop n t ≡ rest = cc in
-          (subst IsWholeTrivia front whole, sym (take-append-drop n t) ∙ ap (λ (x : Text). x ++ drop n t) front ∙ ap (λ (x : Text). w ++ x) after)
+          let after : drop n t ≡ rest = cc in (
+            subst IsWholeTrivia front whole,
+            sym (take-append-drop n t) ∙ ap (λ (x : Text). x ++ drop n t) front
+                ∙ ap (λ (x : Text). w ++ x) after,
+          )
     ]
 
 -- trivia does not go on with this byte
@@ -75,20 +80,25 @@ abbrev pub stops_trivia : ℕ → Bool
 stops_trivia c = not (is_blank c || (c == 10 || (c == 13 || c == 35)))
 
 -- trivia is scanned again in front of a byte that stops it
-pub scan_again : (w rest : Text) (c : ℕ) (cs : Text) → IsWholeTrivia w → rest ≡ c ∷ cs → stops_trivia c ≡ true → scan false (w ++ rest) ≡ (length w, false)
+pub scan_again : (w rest : Text) (c : ℕ) (cs : Text) → IsWholeTrivia w → rest ≡ c ∷ cs → stops_trivia c ≡ true → scan false (w ++ rest)
+    ≡ (length w, false)
 scan_again w rest c cs (ps, each, is) starts stops =
     let stop : turn false c (first cs) ≡ None = grind (arith, nat_tests) in
     let none : scan false rest ≡ (0, false) = ap (scan false) starts ∙ scan_stop false c cs stop in
     let len : length (flat_map piece_text ps) + 0 ≡ length w = omega (arith, ap length is) in
-    ap (λ (x : Text). scan false (x ++ rest)) is ∙ scan-pieces ps rest each ∙ ap (further (length (flat_map piece_text ps))) none ∙ ap (λ (n : ℕ). (n, false)) len
+    ap (λ (x : Text). scan false (x ++ rest)) is ∙ scan-pieces ps rest each ∙ ap (further (length (flat_map piece_text ps))) none
+    ∙ ap (λ (n : ℕ). (n, false)) len
 
 -- and read again
-pub trivia_again : (w rest : Text) (c : ℕ) (cs : Text) → IsWholeTrivia w → rest ≡ c ∷ cs → stops_trivia c ≡ true → trivia_at (w ++ rest) ≡ got w rest
+pub trivia_again : (w rest : Text) (c : ℕ) (cs : Text) → IsWholeTrivia w → rest ≡ c ∷ cs → stops_trivia c ≡ true → trivia_at (w ++ rest)
+    ≡ got w rest
 unfolding trivia_at
-trivia_again w rest c cs whole starts stops = rw (scan_again w rest c cs whole starts stops, take_at w rest _ refl, drop_at w rest _ refl) refl
+trivia_again w rest c cs whole starts stops =
+    rw (scan_again w rest c cs whole starts stops, take_at w rest _ refl, drop_at w rest _ refl) refl
 
 -- what ends a scalar may have trivia before it
-ends_pieces : (ps : List Piece) (rest : Text) → AllByRecursion IsPiece ps → ends_scalar rest ≡ true → ends_scalar (flat_map piece_text ps ++ rest) ≡ true
+ends_pieces : (ps : List Piece) (rest : Text) → AllByRecursion IsPiece ps → ends_scalar rest ≡ true
+    → ends_scalar (flat_map piece_text ps ++ rest) ≡ true
 ends_pieces [] rest each h = h
 ends_pieces (blank c ∷ ps) rest (white, each) h = rw white (ends_pieces ps rest each h)
 ends_pieces (break lf ∷ ps) rest each h = refl

@@ -15,7 +15,8 @@ use Rattle.toml_edit_laws.proofs.common.OptionSteps.{map_some}
 use Rattle.toml_edit_laws.proofs.reading.TokenLaws.{scalar_takes, scalar-some}
 use Rattle.toml_edit_syntax.proofs.EventSteps.{between, event_is}
 
-module _ (whole : ℕ) (t rest : Text) (fits : length t ≤ whole) (within : length rest ≤ length t) (found : option_map (λ (p : Scalar × Text). p.1) (scalar_at t) ≡ Some rest) where
+module _ (whole : ℕ) (t rest : Text) (fits : length t ≤ whole) (within : length rest ≤ length t)
+    (found : option_map (λ (p : Scalar × Text). p.1) (scalar_at t) ≡ Some rest) where
   pub scalar_found : scalar_read whole t ≡ got (between kinds.Scalar (whole - length t) (whole - length rest) ∷ []) rest
   scalar_found =
       let (p, is, same) = map_some (scalar_at t) (λ (p : Scalar × Text). p.1) rest found in

@@ -5,18 +5,21 @@ use Rattle.std.proofs.lemmas.List.{length-append}
 use Rattle.std.proofs.lemmas.Str.{IsCharBoundary-end}
 use Rattle.toml_edit_model.specs.Text.{Text}
 use Rattle.toml_edit_model.specs.Trivia.{IsLineEnd}
-use Rattle.toml_edit_model.specs.Syntax.{Frame, Value, Header, Statement, key_line, header, path_text, value_text, opening_brackets, closing_brackets, statement_text, IsFrame, IsValue, IsHeader}
+use Rattle.toml_edit_model.specs.Syntax.{Frame, Value, Header, Statement, key_line, header, path_text, value_text, opening_brackets}
+use Rattle.toml_edit_model.specs.Syntax.{closing_brackets, statement_text, IsFrame, IsValue, IsHeader}
 use Rattle.toml_edit_syntax.specs.declared.event.EventKind.TheVariants.{Leading, BeforeKey, AfterKey, HeaderClose, LineEnd, Final}
 use Rattle.toml_edit_syntax.specs.ValueEvents.{event, path_events, frame_events, value_at_byte, value_events}
 use Rattle.toml_edit_syntax.specs.Events.{line_events, header_open, header_events, statement_events}
 use Rattle.toml_edit_laws.proofs.reading.Begins.{StartsAscii, ascii_begins, ascii_blank, ascii_newline, ascii_trivia, ascii_line_end}
 use Rattle.toml_edit_syntax.proofs.ScanningLaws.{IsEnding}
 use Rattle.toml_edit_syntax.proofs.PathLaws.{behind_trivia, path_begins}
-use Rattle.toml_edit_syntax.proofs.ValueAgain.{value_begins}
+use Rattle.toml_edit_syntax.proofs.Outcomes.{value_begins}
 use Rattle.toml_edit_syntax.proofs.StatementLaws.{EndsAt, leading_of, tail_text, statement_then}
-use Rattle.toml_edit_syntax.proofs.SpanLaws.{Cut, further, cut_as, at_cut, AreSpans, both_spans, part_span, path_spans, value_cut, frame_spans, value_spans, ascii_value}
+use Rattle.toml_edit_syntax.proofs.SpanLaws.{Cut, further, cut_as, at_cut, AreSpans, both_spans, part_span, path_spans, value_cut}
+use Rattle.toml_edit_syntax.proofs.SpanLaws.{frame_spans, value_spans, ascii_value}
 
-line_spans : (t more : Text) (at : ℕ) (f : Frame) (v : Value) → IsFrame IsLineEnd f → IsValue v → StartsAscii more → Cut t at (f.leading ++ behind_trivia f (value_text v ++ (f.trailing ++ more))) → AreSpans t (line_events at f v)
+line_spans : (t more : Text) (at : ℕ) (f : Frame) (v : Value) → IsFrame IsLineEnd f → IsValue v → StartsAscii more
+    → Cut t at (f.leading ++ behind_trivia f (value_text v ++ (f.trailing ++ more))) → AreSpans t (line_events at f v)
 line_spans t more at f v frame is ascii c =
     let r2 = f.trailing ++ more in
     let r1 = value_text v ++ r2 in
@@ -40,7 +43,8 @@ closing_ascii true rest = omega arith
 closing_ascii false rest = omega arith
 
 header_spans : (t more : Text) (at : ℕ) (h : Header) → IsHeader h → StartsAscii more
-    → Cut t at (h.leading ++ (opening_brackets h.is_array ++ (h.opening ++ (path_text h.path ++ (h.closing ++ (closing_brackets h.is_array ++ (h.trailing ++ more)))))))
+    → Cut t at (h.leading ++ (opening_brackets h.is_array
+    ++ (h.opening ++ (path_text h.path ++ (h.closing ++ (closing_brackets h.is_array ++ (h.trailing ++ more)))))))
     → AreSpans t (header_events at h)
 header_spans t more at h (spaced, path) ascii c =
     let r6 = h.trailing ++ more in
@@ -69,7 +73,13 @@ header_spans t more at h (spaced, path) ascii c =
     let a1 = opening_ascii h.is_array r2 in
     let keys = path_spans t r4 key h.path path.spelled spaced.segments a4 c3 in
     let ends = event AfterKey after h.closing ∷ event HeaderClose close (closing_brackets h.is_array) ∷ event LineEnd end h.trailing ∷ [] in
-    let last : AreSpans t ends = (part_span t h.closing r5 after AfterKey c4 a4 a5, (part_span t (closing_brackets h.is_array) r6 close HeaderClose c5 a5 a6, (part_span t h.trailing more end LineEnd c6 a6 ascii, tt))) in (
+    let last : AreSpans t ends = (
+      part_span t h.closing r5 after AfterKey c4 a4 a5,
+      (
+        part_span t (closing_brackets h.is_array) r6 close HeaderClose c5 a5 a6,
+        (part_span t h.trailing more end LineEnd c6 a6 ascii, tt),
+      ),
+    ) in (
       part_span t h.leading r1 at Leading c (ascii_trivia h.leading r1 spaced.leading a1) a1,
       (
         part_span t (opening_brackets h.is_array) r2 brackets (header_open h.is_array) c1 a1 a2,
@@ -82,11 +92,15 @@ ending_ascii : (end rest : Text) → IsEnding end rest → StartsAscii (end ++ r
 ending_ascii end rest (inl newline) = ascii_newline end rest newline
 ending_ascii end rest (inr (nothing, ended)) = rw (nothing, ended) (omega arith)
 
-pub statement_spans : (t rest : Text) (at : ℕ) (s : Statement) → EndsAt rest s → Cut t at (statement_text s ++ rest) → AreSpans t (statement_events at s)
+pub statement_spans : (t rest : Text) (at : ℕ) (s : Statement) → EndsAt rest s → Cut t at (statement_text s ++ rest)
+    → AreSpans t (statement_events at s)
 statement_spans t rest at (key_line f v end) (frame, value, ending) c =
-    line_spans t (end ++ rest) at f v frame value (ending_ascii end rest ending) (cut_as t (statement_text (key_line f v end) ++ rest) (f.leading ++ behind_trivia f (value_text v ++ (f.trailing ++ (end ++ rest)))) at at (statement_then (key_line f v end) rest) refl c)
+    line_spans t (end ++ rest) at f v frame value (ending_ascii end rest ending) (cut_as t (statement_text (key_line f v end)
+    ++ rest) (f.leading ++ behind_trivia f (value_text v ++ (f.trailing ++ (end ++ rest)))) at at
+    (statement_then (key_line f v end) rest) refl c)
 statement_spans t rest at (header h end) (is, ending) c =
-    header_spans t (end ++ rest) at h is (ending_ascii end rest ending) (cut_as t (statement_text (header h end) ++ rest) (leading_of (header h end) ++ tail_text (header h end) rest) at at (statement_then (header h end) rest) refl c)
+    header_spans t (end ++ rest) at h is (ending_ascii end rest ending) (cut_as t (statement_text (header h end)
+    ++ rest) (leading_of (header h end) ++ tail_text (header h end) rest) at at (statement_then (header h end) rest) refl c)
 
 pub final_spans : (t final : Text) (n : ℕ) → StartsAscii final → Cut t n final → AreSpans t (event Final n final ∷ [])
 final_spans t final n ascii c =

@@ -1,5 +1,6 @@
 -- What stands up to a bracket that is one too many is a text of the grammar but for closing brackets.
-use Rattle.std.proofs.Common.{◌≡◌, ℕ, zero, suc, ◌+◌, ◌-◌, ◌*◌, ◌<◌, ◌≤◌, Bool, true, false, cond, ◌==◌, ◌||◌, List, [], ◌∷◌, ◌++◌, ◌⊎◌, length, drop, take, refl, sym, ap, subst, ◌∙◌, inl, inr, arith, append_assoc, append-nil, codes}
+use Rattle.std.proofs.Common.{◌≡◌, ℕ, zero, suc, ◌+◌, ◌-◌, ◌*◌, ◌<◌, ◌≤◌, Bool, true, false, cond, ◌==◌, ◌||◌, List, [], ◌∷◌, ◌++◌, ◌⊎◌}
+use Rattle.std.proofs.Common.{length, drop, take, refl, sym, ap, subst, ◌∙◌, inl, inr, arith, append_assoc, append-nil, codes}
 use Rattle.std.proofs.lemmas.Bool.{eqb-true}
 use Rattle.std.proofs.lemmas.Bool.Decides.{nat_tests}
 use Rattle.std.proofs.lemmas.List.{length-append, take-append-drop}
@@ -7,7 +8,10 @@ use Rattle.std.proofs.lemmas.List.Folds.{list_all-append}
 use Rattle.std.specs.List.{list_any}
 use Rattle.toml_edit_model.specs.Text.{Text}
 use Rattle.toml_edit_model.specs.Trivia.{Each, IsWholeTrivia, IsNewline, IsLineEnd}
-use Rattle.toml_edit_model.specs.Syntax.{Frame, Value, array, inline_table, Elements, no_elements, element, Pairs, no_pairs, pair, Statement, key_line, Around, path_text, frame_text, value_text, elements_text, pairs_text, statement_text, mark_text, IsFrame, has_elements, has_pairs, IsValue, AreElements, ArePairs, AreStatements, depth, elements_depth, pairs_depth, nesting_limit}
+use Rattle.toml_edit_model.specs.Syntax.{Frame, Value, array, inline_table, Elements, no_elements, element, Pairs, no_pairs, pair}
+use Rattle.toml_edit_model.specs.Syntax.{Statement, key_line, Around, path_text, frame_text, value_text, elements_text, pairs_text}
+use Rattle.toml_edit_model.specs.Syntax.{statement_text, mark_text, IsFrame, has_elements, has_pairs, IsValue, AreElements, ArePairs}
+use Rattle.toml_edit_model.specs.Syntax.{AreStatements, depth, elements_depth, pairs_depth, nesting_limit}
 use Rattle.toml_edit_syntax.specs.declared.event.EventKind.{EventKind}
 use Rattle.toml_edit_syntax.specs.declared.event.EventKind.TheVariants.{ArrayOpen, InlineTableOpen, Before, After, TooDeep}
 use Rattle.toml_edit_syntax.specs.declared.event.Event.{Event}
@@ -16,14 +20,16 @@ use Rattle.toml_edit_laws.specs.reading.ScalarReading.{scalar_at}
 use Rattle.toml_edit_laws.proofs.reading.Steps.{chosen, starts}
 use Rattle.toml_edit_syntax.specs.Scanning.{scan}
 use Rattle.toml_edit_syntax.specs.ValueEvents.{event, frame_events, value_events}
-use Rattle.toml_edit_syntax.specs.ValueReading.{Reading, got, deep, wrong, follow, changed, behind, inside, trivia_at, frame_at, around, value_from, elements_at, pairs_at}
+use Rattle.toml_edit_syntax.specs.ValueReading.{Reading, got, deep, wrong, follow, changed, behind, inside, trivia_at, frame_at, around}
+use Rattle.toml_edit_syntax.specs.ValueReading.{value_from, elements_at, pairs_at}
 use Rattle.toml_edit_syntax.specs.Events.{exceeds_depth, has_deep_value, statement_events, is_closing_bracket, OpensTooMany}
 use Rattle.toml_edit_syntax.specs.Reading.{end_at, key_line_at, header_at, statement_at, statements_at, is_marked, document, cut_of}
 use Rattle.toml_edit_syntax.proofs.ScanningLaws.{IsEnding}
 use Rattle.toml_edit_syntax.proofs.ReadingSteps.{trivia_takes}
 use Rattle.toml_edit_syntax.proofs.PathLaws.{head_text, FrameTook, frame_takes}
 use Rattle.toml_edit_syntax.proofs.ValueTakes.{followed_by, pair_parts, element_then, pair_then, frame_then, value_takes}
-use Rattle.toml_edit_syntax.proofs.DeepLaws.{follow_deep, changed_deep, behind_deep, not_deep, wrong_deep, frame_deep, trivia_deep, scalar_deep, comma_deep}
+use Rattle.toml_edit_syntax.proofs.DeepLaws.{follow_deep, changed_deep, behind_deep, not_deep, wrong_deep, frame_deep, trivia_deep}
+use Rattle.toml_edit_syntax.proofs.DeepLaws.{scalar_deep, comma_deep}
 use Rattle.toml_edit_syntax.proofs.HeaderLaws.{Entry}
 use Rattle.toml_edit_syntax.proofs.StatementLaws.{statement_takes}
 use Rattle.toml_edit_syntax.proofs.StatementDeep.{value_then_deep, header_deep}
@@ -71,20 +77,24 @@ pub record PairsOpen (level : ℕ) (t : Text) : Type 0 where
   pub deep : nesting_limit < level + pairs_depth pairs
 
 abbrev OpensValue : ℕ → Type 0
-OpensValue n = (level at : ℕ) (t : Text) → level ≤ nesting_limit → (es : List Event) → value_from n level at t ≡ deep es → ValueOpens level t
+OpensValue n = (level at : ℕ) (t : Text) → level ≤ nesting_limit → (es : List Event) → value_from n level at t ≡ deep es
+    → ValueOpens level t
 
 abbrev OpensElements : ℕ → Type 0
-OpensElements n = (level at : ℕ) (comma : Bool) (t : Text) → level ≤ nesting_limit → (es : List Event) → elements_at n level at comma t ≡ deep es → ElementsOpen level t
+OpensElements n = (level at : ℕ) (comma : Bool) (t : Text) → level ≤ nesting_limit → (es : List Event) → elements_at n level at comma t
+    ≡ deep es → ElementsOpen level t
 
 abbrev OpensPairs : ℕ → Type 0
-OpensPairs n = (level at : ℕ) (comma : Bool) (t : Text) → level ≤ nesting_limit → (es : List Event) → pairs_at n level at comma t ≡ deep es → PairsOpen level t
+OpensPairs n = (level at : ℕ) (comma : Bool) (t : Text) → level ≤ nesting_limit → (es : List Event) → pairs_at n level at comma t ≡ deep es
+    → PairsOpen level t
 
 -- ---- values
 
 nothing : IsWholeTrivia []
 nothing = ([], tt, refl)
 
-closes_more : (closing : Text) (bracket : ℕ) → Each is_closing_bracket closing → is_closing_bracket bracket ≡ true → Each is_closing_bracket (closing ++ bracket ∷ [])
+closes_more : (closing : Text) (bracket : ℕ) → Each is_closing_bracket closing → is_closing_bracket bracket ≡ true
+    → Each is_closing_bracket (closing ++ bracket ∷ [])
 closes_more closing bracket closes closed = list_all-append is_closing_bracket closing (bracket ∷ []) ∙ rw (closes, closed) refl
 
 bracketed : (front closing bracket : Text) (c : ℕ) → (c ∷ front) ++ (closing ++ bracket) ≡ c ∷ ((front ++ closing) ++ bracket)
@@ -147,7 +157,8 @@ inline_table_full level t bracket full =
       deep = omega (arith, full);
     }
 
-cases_open : {A : Type 0} (kind : EventKind) (bracket : Text) (level at : ℕ) (r : Reading A) (es : List Event) → inside kind bracket level at r ≡ deep es
+cases_open : {A : Type 0} (kind : EventKind) (bracket : Text) (level at : ℕ) (r : Reading A) (es : List Event)
+    → inside kind bracket level at r ≡ deep es
     → (level ≡ nesting_limit) ⊎ (((level == nesting_limit) ≡ false) × (ms : List Event) × (r ≡ deep ms))
 cases_open kind bracket level at r es e =
     elim (chosen (level == nesting_limit) (deep (event TooDeep at bracket ∷ [])) (behind (event kind at bracket ∷ []) r) (deep es) e) [
@@ -165,7 +176,9 @@ value_step n elements pairs level at t room es e =
           let here = starts t 0x5B bracket (omega arith) in
           elim (cases_open ArrayOpen (codes "[") level at (changed made inner) es h) [
             | inl full ↦ array_full level t here full
-            | inr (below, ms, read) ↦ array_opens level t here (elements (suc level) (at + 1) false (drop 1 t) (grind (arith, nat_tests)) ms (changed_deep made inner ms read))
+            | inr (below, ms, read) ↦
+                array_opens level t here (elements (suc level) (at
+                + 1) false (drop 1 t) (grind (arith, nat_tests)) ms (changed_deep made inner ms read))
           ]
       | inr (other, h) ↦ elim (chosen (first t == 0x7B) _ _ (deep es) h) [
         | inl (bracket, g) ↦
@@ -174,7 +187,9 @@ value_step n elements pairs level at t room es e =
             let here = starts t 0x7B bracket (omega arith) in
             elim (cases_open InlineTableOpen (codes "{") level at (changed made inner) es g) [
               | inl full ↦ inline_table_full level t here full
-              | inr (below, ms, read) ↦ inline_table_opens level t here (pairs (suc level) (at + 1) false (drop 1 t) (grind (arith, nat_tests)) ms (changed_deep made inner ms read))
+              | inr (below, ms, read) ↦
+                  inline_table_opens level t here (pairs (suc level) (at
+                  + 1) false (drop 1 t) (grind (arith, nat_tests)) ms (changed_deep made inner ms read))
             ]
         | inr (neither, g) ↦ absurd (scalar_deep t (scalar_at t) es g)
       ]
@@ -186,7 +201,8 @@ value_step n elements pairs level at t room es e =
 cases_item : {A : Type 0} (head : List Event) (r : Reading Value) (next : Value → Text → Text → Reading A) (es : List Event)
     → behind head (follow r (λ v after_value. follow (trivia_at after_value) (next v))) ≡ deep es
     → ((ms : List Event) × (r ≡ deep ms))
-    ⊎ ((v : Value) × (after_value after more : Text) × (ms : List Event) × (r ≡ got v after_value) × IsWholeTrivia after × (after_value ≡ after ++ more) × (next v after more ≡ deep ms))
+    ⊎ ((v : Value) × (after_value after more : Text) × (ms : List Event) × (r ≡ got v after_value) × IsWholeTrivia after
+    × (after_value ≡ after ++ more) × (next v after more ≡ deep ms))
 cases_item head r next es e =
     let (ms, read, parts) = behind_deep head (follow r (λ v after_value. follow (trivia_at after_value) (next v))) es e in
     elim (follow_deep r (λ v after_value. follow (trivia_at after_value) (next v)) ms read) [
@@ -202,7 +218,8 @@ cases_item head r next es e =
 regroup : (a b c f rest : Text) → a ++ (b ++ (c ++ (44 ∷ (f ++ rest)))) ≡ (a ++ (b ++ (c ++ (44 ∷ f)))) ++ rest
 regroup a b c f rest = simp append_assoc
 
-element_before : (a : Around) (v : Value) (es : Elements) → has_elements es ≡ true → elements_text (element a v es) ≡ a.before ++ (value_text v ++ (a.after ++ (44 ∷ elements_text es)))
+element_before : (a : Around) (v : Value) (es : Elements) → has_elements es ≡ true → elements_text (element a v es) ≡ a.before
+    ++ (value_text v ++ (a.after ++ (44 ∷ elements_text es)))
 element_before a v no_elements some = absurd cc
 element_before a v (element b u es) some = refl
 
@@ -221,26 +238,32 @@ first_element level t before u trivia parts o =
       deep = omega (arith, o.deep);
     }
 
-later_element : (level : ℕ) (t before u : Text) (v : Value) (after_value after more : Text) → IsWholeTrivia before → IsWholeTrivia after → IsValue v
-    → t ≡ before ++ u → u ≡ value_text v ++ after_value → after_value ≡ after ++ more → more ≡ 44 ∷ drop 1 more → ElementsOpen level (drop 1 more) → ElementsOpen level t
+later_element : (level : ℕ) (t before u : Text) (v : Value) (after_value after more : Text) → IsWholeTrivia before → IsWholeTrivia after
+    → IsValue v
+    → t ≡ before ++ u → u ≡ value_text v ++ after_value → after_value ≡ after ++ more → more ≡ 44 ∷ drop 1 more
+    → ElementsOpen level (drop 1 more) → ElementsOpen level t
 later_element level t before u v after_value after more leads trails is parts value cut sign o =
     record {
       front = before ++ (value_text v ++ (after ++ (44 ∷ o.front)));
       behind_it = o.behind_it;
       closing = o.closing;
       elements = element (around before after) v o.elements;
-      parts = parts ∙ ap (λ (x : Text). before ++ x) (value ∙ ap (λ (x : Text). value_text v ++ x) (cut ∙ ap (λ (x : Text). after ++ x) (sign ∙ ap (λ (x : Text). 44 ∷ x) o.parts)))
+      parts = parts ∙ ap (λ (x : Text). before ++ x) (value
+          ∙ ap (λ (x : Text). value_text v ++ x) (cut ∙ ap (λ (x : Text). after ++ x) (sign ∙ ap (λ (x : Text). 44 ∷ x) o.parts)))
           ∙ regroup before (value_text v) after o.front o.behind_it;
       closes = o.closes;
-      text = sym (regroup before (value_text v) after o.front o.closing) ∙ ap (λ (x : Text). before ++ (value_text v ++ (after ++ (44 ∷ x)))) o.text
+      text = sym (regroup before (value_text v) after o.front o.closing)
+          ∙ ap (λ (x : Text). before ++ (value_text v ++ (after ++ (44 ∷ x)))) o.text
           ∙ sym (element_before (around before after) v o.elements o.some);
       are = (leads, trails, is, o.are);
       some = refl;
       deep = omega (arith, o.deep);
     }
 
-elements_value : (n level at : ℕ) (t before u : Text) → level ≤ nesting_limit → OpensValue n → OpensElements n → IsWholeTrivia before → t ≡ before ++ u → (es : List Event)
-    → behind (event Before at before ∷ []) (follow (value_from n level (at + length before) u) (λ v after_value. follow (trivia_at after_value) (element_then n level (at + length before) before v))) ≡ deep es
+elements_value : (n level at : ℕ) (t before u : Text) → level ≤ nesting_limit → OpensValue n → OpensElements n → IsWholeTrivia before → t
+    ≡ before ++ u → (es : List Event)
+    → behind (event Before at before ∷ []) (follow (value_from n level (at + length before) u)
+    (λ v after_value. follow (trivia_at after_value) (element_then n level (at + length before) before v))) ≡ deep es
     → ElementsOpen level t
 elements_value n level at t before u room value elements trivia parts es e =
     let start = at + length before in
@@ -249,8 +272,12 @@ elements_value n level at t before u room value elements trivia parts es e =
       | inr (v, after_value, after, more, ms, found, trails, cut, h) ↦
           let took = value_takes n level start u v after_value room found in
           let next = start + length (value_text v) + length after + 1 in
-          let (sign, ks, inner, joined) = comma_deep t 0x5D more (value_events start v ++ event After (start + length (value_text v)) after ∷ []) (elements_at n level next true (drop 1 more)) (λ (x : Elements). element (around before after) v x) (element (around before after) v no_elements) ms h in
-          later_element level t before u v after_value after more trivia trails took.is parts took.parts cut sign (elements level next true (drop 1 more) room ks inner)
+          let (sign, ks, inner, joined) =
+          comma_deep t 0x5D more (value_events start v ++ event After (start + length (value_text v)) after
+          ∷ []) (elements_at n level next true (drop 1 more)) (λ (x : Elements). element (around before after) v x)
+          (element (around before after) v no_elements) ms h in
+          later_element level t before u v after_value after more trivia trails took.is parts took.parts cut sign
+          (elements level next true (drop 1 more) room ks inner)
     ]
 
 elements_step : (n : ℕ) → OpensValue n → OpensElements n → OpensElements (suc n)
@@ -267,20 +294,33 @@ elements_step n value elements level at comma t room es e =
     ]
 
 -- a pair with this after its value
-framed : (MayFollow : Text → Type 0) (f : Frame) (after : Text) → IsFrame IsWholeTrivia f → MayFollow after → IsFrame MayFollow (followed_by f after)
-framed MayFollow f after (spaced, path) follows =
-    (record { leading = spaced.leading; segments = spaced.segments; before_equals = spaced.before_equals; after_equals = spaced.after_equals; trailing = follows }, path)
+framed : (MayFollow : Text → Type 0) (f : Frame) (after : Text) → IsFrame IsWholeTrivia f → MayFollow after
+    → IsFrame MayFollow (followed_by f after)
+framed MayFollow f after (spaced, path) follows = (
+  record {
+    leading = spaced.leading;
+    segments = spaced.segments;
+    before_equals = spaced.before_equals;
+    after_equals =
+        spaced.after_equals;
+    trailing = follows;
+  },
+  path,
+)
 
-pair_before : (f : Frame) (v : Value) (ps : Pairs) → has_pairs ps ≡ true → pairs_text (pair f v ps) ≡ frame_text f (value_text v) ++ (44 ∷ pairs_text ps)
+pair_before : (f : Frame) (v : Value) (ps : Pairs) → has_pairs ps ≡ true → pairs_text (pair f v ps) ≡ frame_text f (value_text v)
+    ++ (44 ∷ pairs_text ps)
 pair_before f v no_pairs some = absurd cc
 pair_before f v (pair g u ps) some = refl
 
 -- a value behind the front of a pair
 headed : (f : Frame) (front closing v : Text) → front ++ closing ≡ v → (head_text f ++ front) ++ closing ≡ frame_text (followed_by f []) v
 headed f front closing v e =
-    append_assoc (head_text f) front closing ∙ ap (λ (x : Text). head_text f ++ x) (e ∙ sym (append-nil v)) ∙ pair_parts f v [] [] ∙ append-nil (frame_text (followed_by f []) v)
+    append_assoc (head_text f) front closing ∙ ap (λ (x : Text). head_text f ++ x) (e ∙ sym (append-nil v)) ∙ pair_parts f v [] []
+    ∙ append-nil (frame_text (followed_by f []) v)
 
-first_pair : (level : ℕ) (t leading key u : Text) (f : Frame) → t ≡ leading ++ key → FrameTook leading key f u → ValueOpens level u → PairsOpen level t
+first_pair : (level : ℕ) (t leading key u : Text) (f : Frame) → t ≡ leading ++ key → FrameTook leading key f u → ValueOpens level u
+    → PairsOpen level t
 first_pair level t leading key u f parts frame o =
     record {
       front = head_text f ++ o.front;
@@ -295,8 +335,10 @@ first_pair level t leading key u f parts frame o =
       deep = omega (arith, o.deep);
     }
 
-later_pair : (level : ℕ) (t leading key u : Text) (f : Frame) (v : Value) (after_value after more : Text) → t ≡ leading ++ key → FrameTook leading key f u → IsWholeTrivia after → IsValue v
-    → u ≡ value_text v ++ after_value → after_value ≡ after ++ more → more ≡ 44 ∷ drop 1 more → PairsOpen level (drop 1 more) → PairsOpen level t
+later_pair : (level : ℕ) (t leading key u : Text) (f : Frame) (v : Value) (after_value after more : Text) → t ≡ leading ++ key
+    → FrameTook leading key f u → IsWholeTrivia after → IsValue v
+    → u ≡ value_text v ++ after_value → after_value ≡ after ++ more → more ≡ 44 ∷ drop 1 more → PairsOpen level (drop 1 more)
+    → PairsOpen level t
 later_pair level t leading key u f v after_value after more parts frame trails is value cut sign o =
     let whole = frame_text (followed_by f after) (value_text v) in
     record {
@@ -304,17 +346,21 @@ later_pair level t leading key u f v after_value after more parts frame trails i
       behind_it = o.behind_it;
       closing = o.closing;
       pairs = pair (followed_by f after) v o.pairs;
-      parts = parts ∙ frame.parts ∙ ap (λ (x : Text). head_text f ++ x) (value ∙ ap (λ (x : Text). value_text v ++ x) cut) ∙ pair_parts f (value_text v) after more
+      parts = parts ∙ frame.parts ∙ ap (λ (x : Text). head_text f ++ x) (value ∙ ap (λ (x : Text). value_text v ++ x) cut)
+          ∙ pair_parts f (value_text v) after more
           ∙ ap (λ (x : Text). whole ++ x) (sign ∙ ap (λ (x : Text). 44 ∷ x) o.parts) ∙ sym (append_assoc whole (44 ∷ o.front) o.behind_it);
       closes = o.closes;
-      text = append_assoc whole (44 ∷ o.front) o.closing ∙ ap (λ (x : Text). whole ++ (44 ∷ x)) o.text ∙ sym (pair_before (followed_by f after) v o.pairs o.some);
+      text = append_assoc whole (44 ∷ o.front) o.closing ∙ ap (λ (x : Text). whole ++ (44 ∷ x)) o.text
+          ∙ sym (pair_before (followed_by f after) v o.pairs o.some);
       are = (framed IsWholeTrivia f after frame.is trails, is, o.are);
       some = refl;
       deep = omega (arith, o.deep);
     }
 
-pairs_value : (n level at start : ℕ) (t leading key u : Text) (f : Frame) → level ≤ nesting_limit → OpensValue n → OpensPairs n → t ≡ leading ++ key → FrameTook leading key f u → (es : List Event)
-    → behind (frame_events at f) (follow (value_from n level start u) (λ v after_value. follow (trivia_at after_value) (pair_then n level start f v))) ≡ deep es
+pairs_value : (n level at start : ℕ) (t leading key u : Text) (f : Frame) → level ≤ nesting_limit → OpensValue n → OpensPairs n → t
+    ≡ leading ++ key → FrameTook leading key f u → (es : List Event)
+    → behind (frame_events at f) (follow (value_from n level start u)
+    (λ v after_value. follow (trivia_at after_value) (pair_then n level start f v))) ≡ deep es
     → PairsOpen level t
 pairs_value n level at start t leading key u f room value pairs parts frame es e =
     elim (cases_item (frame_events at f) (value_from n level start u) (pair_then n level start f) es e) [
@@ -322,8 +368,12 @@ pairs_value n level at start t leading key u f room value pairs parts frame es e
       | inr (v, after_value, after, more, ms, found, trails, cut, h) ↦
           let took = value_takes n level start u v after_value room found in
           let next = start + length (value_text v) + length after + 1 in
-          let (sign, ks, inner, joined) = comma_deep t 0x7D more (value_events start v ++ event After (start + length (value_text v)) after ∷ []) (pairs_at n level next true (drop 1 more)) (λ (x : Pairs). pair (followed_by f after) v x) (pair (followed_by f after) v no_pairs) ms h in
-          later_pair level t leading key u f v after_value after more parts frame trails took.is took.parts cut sign (pairs level next true (drop 1 more) room ks inner)
+          let (sign, ks, inner, joined) =
+          comma_deep t 0x7D more (value_events start v ++ event After (start + length (value_text v)) after
+          ∷ []) (pairs_at n level next true (drop 1 more)) (λ (x : Pairs). pair (followed_by f after) v x)
+          (pair (followed_by f after) v no_pairs) ms h in
+          later_pair level t leading key u f v after_value after more parts frame trails took.is took.parts cut sign
+          (pairs level next true (drop 1 more) room ks inner)
     ]
 
 pairs_step : (n : ℕ) → OpensValue n → OpensPairs n → OpensPairs (suc n)
@@ -338,7 +388,8 @@ pairs_step n value pairs level at comma t room es e =
             | inr (goes, g) ↦ elim (follow_deep (frame_at leading key) (frame_then n level at leading key) es g) [
               | inl bad ↦ absurd (frame_deep leading key es bad)
               | inr (f, u, found, rest) ↦
-                  pairs_value n level at (at + (length key + length leading) - length u) t leading key u f room value pairs parts (frame_takes leading key u f trivia found) es rest
+                  pairs_value n level at (at + (length key + length leading) - length u) t leading key u f room value pairs parts
+                  (frame_takes leading key u f trivia found) es rest
             ]
           ]
     ]
@@ -405,7 +456,8 @@ key_line_opens leading text u f frame o =
       deep = rw deep_value refl;
     }
 
-line_opens : (at : ℕ) (leading text : Text) (es : List Event) → IsWholeTrivia leading → key_line_at 0 at leading text ≡ deep es → StatementsOpen (leading ++ text)
+line_opens : (at : ℕ) (leading text : Text) (es : List Event) → IsWholeTrivia leading → key_line_at 0 at leading text ≡ deep es
+    → StatementsOpen (leading ++ text)
 unfolding key_line_at
 line_opens at leading text es trivia e =
     elim (follow_deep (frame_at leading text) _ es e) [
@@ -415,10 +467,12 @@ line_opens at leading text es trivia e =
           let n = 2 * length u + 2 in
           let (ms, read, joined) = behind_deep (frame_events at f) _ es g in
           let made = λ (v : Value) (e : Text × Text). key_line (followed_by f e.0) v e.1 in
-          key_line_opens leading text u f (frame_takes leading text u f trivia found) (value_opens n 0 start u (omega arith) ms (value_then_deep (value_from n 0 start u) made end_at ms read))
+          key_line_opens leading text u f (frame_takes leading text u f trivia found)
+          (value_opens n 0 start u (omega arith) ms (value_then_deep (value_from n 0 start u) made end_at ms read))
     ]
 
-statement_opens : (at : ℕ) (leading text : Text) (es : List Event) → IsWholeTrivia leading → statement_at 0 at leading text ≡ deep es → StatementsOpen (leading ++ text)
+statement_opens : (at : ℕ) (leading text : Text) (es : List Event) → IsWholeTrivia leading → statement_at 0 at leading text ≡ deep es
+    → StatementsOpen (leading ++ text)
 unfolding statement_at
 statement_opens at leading text es trivia e =
     elim (chosen (first text == 0x5B) (header_at leading text) (key_line_at 0 at leading text) (deep es) e) [
@@ -466,7 +520,8 @@ later_opens n at t es outside later e =
           let next = at + (length t - length rest) in
           let add = λ (ss : List Statement). s ∷ ss in
           let (ms, read, joined) = behind_deep (statement_events at s) (changed add (statements_at n 0 next rest)) es h in
-          later_statement (leading ++ tail) rest s (statement_takes at leading tail rest s trivia found) (later next rest ms (changed_deep add (statements_at n 0 next rest) ms read))
+          later_statement (leading ++ tail) rest s (statement_takes at leading tail rest s trivia found)
+          (later next rest ms (changed_deep add (statements_at n 0 next rest) ms read))
     ])
 
 statements_open : (n at : ℕ) (t : Text) (es : List Event) → statements_at n 0 at t ≡ deep es → StatementsOpen t
@@ -494,7 +549,10 @@ document_opens t rest marked o =
       document = document (is_marked t) ss [];
       parts = marked ∙ ap (λ (x : Text). mark ++ x) o.parts ∙ sym (append_assoc mark o.front o.behind_it);
       closes = o.closes;
-      cut = ((o.are, ([], [], nothing, inl refl, refl)), sym (append_assoc mark o.front o.closing ∙ ap (λ (x : Text). mark ++ x) (o.text ∙ sym (append-nil (statements_text ss)))));
+      cut = (
+        (o.are, ([], [], nothing, inl refl, refl)),
+        sym (append_assoc mark o.front o.closing ∙ ap (λ (x : Text). mark ++ x) (o.text ∙ sym (append-nil (statements_text ss)))),
+      );
       deep = o.deep;
     }
 

@@ -1,5 +1,7 @@
 -- Trivia: what is scanned is trivia, and trivia is scanned.
-use Rattle.std.proofs.Common.{◌≡◌, ℕ, suc, ◌+◌, ◌<◌, ◌≤◌, Bool, true, false, ◌&&◌, ◌||◌, ◌==◌, List, [], ◌∷◌, ◌++◌, ◌⊎◌, length, get_or, take, drop, Option, Some, None, refl, sym, ap, ◌∙◌, subst, inl, inr, arith, add-zero, one-add, get_or-drop, append_assoc, append-nil, eqb-true}
+use Rattle.std.proofs.Common.{◌≡◌, ℕ, suc, ◌+◌, ◌<◌, ◌≤◌, Bool, true, false, ◌&&◌, ◌||◌, ◌==◌, List, [], ◌∷◌, ◌++◌, ◌⊎◌, length, get_or}
+use Rattle.std.proofs.Common.{take, drop, Option, Some, None, refl, sym, ap, ◌∙◌, subst, inl, inr, arith, add-zero, one-add, get_or-drop}
+use Rattle.std.proofs.Common.{append_assoc, append-nil, eqb-true}
 use Rattle.std.proofs.lemmas.Bool.{and_parts, and_from, or_cases, cases_eq, false≢true}
 use Rattle.std.proofs.lemmas.Bool.Decides.{nat_tests}
 use Rattle.std.proofs.lemmas.List.{drop_more, drop_all, drop-drop, length-append, take-append-drop}
@@ -9,7 +11,8 @@ use Rattle.std.specs.Prelude.{if◌then◌else◌, slice_index}
 use Rattle.std.specs.Str.{IsCharBoundary}
 use Rattle.toml_edit_laws.specs.reading.Runs.{first}
 use Rattle.toml_edit_model.specs.Text.{Text}
-use Rattle.toml_edit_model.specs.Trivia.{is_blank, is_visible, Each, Newline, lf, crlf, newline_text, comment, Piece, blank, break, remark, piece_text, IsPiece, IsWholeTrivia}
+use Rattle.toml_edit_model.specs.Trivia.{is_blank, is_visible, Each, Newline, lf, crlf, newline_text, comment, Piece, blank, break, remark}
+use Rattle.toml_edit_model.specs.Trivia.{piece_text, IsPiece, IsWholeTrivia}
 use Rattle.toml_edit_syntax.specs.Scanning.{turn, scan}
 use Rattle.toml_edit_syntax.specs.ValueReading.{got, trivia_at}
 use Rattle.toml_edit_laws.proofs.reading.RunLaws.{Each-run}
@@ -21,7 +24,8 @@ use Rattle.toml_edit_laws.proofs.reading.Steps.{chosen}
 abbrev pub further : ℕ → ℕ × Bool → ℕ × Bool
 further n r = (n + r.0, r.1)
 
-pub scan_more : (inside : Bool) (c : ℕ) (cs : Text) (state : Bool) → turn inside c (first cs) ≡ Some state → scan inside (c ∷ cs) ≡ further 1 (scan state cs)
+pub scan_more : (inside : Bool) (c : ℕ) (cs : Text) (state : Bool) → turn inside c (first cs) ≡ Some state → scan inside (c ∷ cs)
+    ≡ further 1 (scan state cs)
 unfolding scan
 scan_more inside c cs state e = rw (e, one-add)
 
@@ -34,19 +38,22 @@ unfolding scan
 scan_nil inside = refl
 
 module _ (start : ℕ × Bool) (inside : Bool) where
-  at_drop : (xs : Text) (i : ℕ) (r : Option Bool) → turn inside (get_or xs i 0) (get_or xs (i + 1) 0) ≡ r → turn inside (get_or xs i 0) (first (drop (i + 1) xs)) ≡ r
+  at_drop : (xs : Text) (i : ℕ) (r : Option Bool) → turn inside (get_or xs i 0) (get_or xs (i + 1) 0) ≡ r
+      → turn inside (get_or xs i 0) (first (drop (i + 1) xs)) ≡ r
   at_drop xs i r e = rw (get_or-drop (i + 1) xs 0 0, add-zero) e
 
   pub scan_stops : (xs : Text) (i : ℕ) → i < length xs → turn inside (get_or xs i 0) (get_or xs (i + 1) 0) ≡ None
       → start ≡ further i (scan inside (drop i xs)) → start ≡ (i, inside)
-  scan_stops xs i h e loop = loop ∙ ap (λ l. further i (scan inside l)) (drop_more xs i 0 h) ∙ ap (further i) (scan_stop inside _ _ (at_drop xs i None e)) ∙ rw add-zero refl
+  scan_stops xs i h e loop = loop ∙ ap (λ l. further i (scan inside l)) (drop_more xs i 0 h)
+      ∙ ap (further i) (scan_stop inside _ _ (at_drop xs i None e)) ∙ rw add-zero refl
 
   pub scan_goes : (state : Bool) (xs : Text) (i : ℕ) → i < length xs → turn inside (get_or xs i 0) (get_or xs (i + 1) 0) ≡ Some state
       → start ≡ further i (scan inside (drop i xs)) → start ≡ further (i + 1) (scan state (drop (i + 1) xs))
   scan_goes state xs i h e loop =
       let r = scan state (drop (i + 1) xs) in
       let more : i + (1 + r.0) ≡ i + 1 + r.0 = omega arith in
-      loop ∙ ap (λ l. further i (scan inside l)) (drop_more xs i 0 h) ∙ ap (further i) (scan_more inside _ _ state (at_drop xs i (Some state) e)) ∙ rw more refl
+      loop ∙ ap (λ l. further i (scan inside l)) (drop_more xs i 0 h)
+      ∙ ap (further i) (scan_more inside _ _ state (at_drop xs i (Some state) e)) ∙ rw more refl
 
   pub scan_ends : (xs : Text) (i : ℕ) → length xs ≤ i → start ≡ further i (scan inside (drop i xs)) → start ≡ (i, inside)
   scan_ends xs i h loop = loop ∙ ap (λ l. further i (scan inside l)) (drop_all i xs h) ∙ ap (further i) (scan_nil inside) ∙ rw add-zero refl
@@ -68,7 +75,8 @@ spaced_turn : (c next : ℕ) → c ≡ 32 → turn false c next ≡ Some false
 spaced_turn c next e = rw e refl
 
 -- one space, where none begins with the byte behind it
-pub spaced_trivia : (t : Text) → first t ≡ 32 → ((next : ℕ) → turn false (slice_index t 1) next ≡ None) → trivia_at t ≡ got (take 1 t) (drop 1 t)
+pub spaced_trivia : (t : Text) → first t ≡ 32 → ((next : ℕ) → turn false (slice_index t 1) next ≡ None) → trivia_at t
+    ≡ got (take 1 t) (drop 1 t)
 unfolding trivia_at
 spaced_trivia [] e h = absurd cc
 spaced_trivia (c ∷ []) e h = rw (scan_more false c [] false (spaced_turn c 0 e), scan_nil false) refl
@@ -78,7 +86,8 @@ spaced_trivia (c ∷ d ∷ ds) e h =
 -- ---- trivia is scanned
 
 -- the body of a comment and its newline
-scan-newline : (inside : Bool) (n : Newline) (rest : Text) → scan inside (newline_text n ++ rest) ≡ further (length (newline_text n)) (scan false rest)
+scan-newline : (inside : Bool) (n : Newline) (rest : Text) → scan inside (newline_text n ++ rest)
+    ≡ further (length (newline_text n)) (scan false rest)
 scan-newline inside lf rest = scan_more inside 10 rest false refl
 scan-newline inside crlf rest =
     let r = scan false rest in
@@ -100,7 +109,8 @@ scan-run t =
     ap (λ (x : Text). scan true x) (sym (take-append-drop n t)) ∙ scan-body (take n t) (drop n t) (Each-run is_visible t)
     ∙ ap (λ k. further k (scan true (drop n t))) (length-prefix_len is_visible t)
 
-pub scan-skips : (start : ℕ × Bool) (xs : Text) (i n : ℕ) → n ≡ prefix_len is_visible (drop i xs) → start ≡ further i (scan true (drop i xs))
+pub scan-skips : (start : ℕ × Bool) (xs : Text) (i n : ℕ) → n ≡ prefix_len is_visible (drop i xs) → start
+    ≡ further i (scan true (drop i xs))
     → start ≡ further (i + n) (scan true (drop (i + n) xs))
 scan-skips start xs i n run loop =
     let rest = scan true (drop n (drop i xs)) in
@@ -112,12 +122,14 @@ scan-skips start xs i n run loop =
 abbrev pub passed : Bool → Text → ℕ
 passed inside t = if inside then prefix_len is_visible t else 0
 
-pub skipped : (inside : Bool) (start : ℕ × Bool) (xs : Text) (i n : ℕ) → n ≡ passed inside (drop i xs) → start ≡ further i (scan inside (drop i xs))
+pub skipped : (inside : Bool) (start : ℕ × Bool) (xs : Text) (i n : ℕ) → n ≡ passed inside (drop i xs) → start
+    ≡ further i (scan inside (drop i xs))
     → start ≡ further (i + n) (scan inside (drop (i + n) xs))
 skipped true start xs i n run loop = scan-skips start xs i n run loop
 skipped false start xs i n run loop = rw (run, add-zero) loop
 
-pub skipped_at : (inside : Bool) (xs : Text) (i n : ℕ) → n ≡ passed inside (drop i xs) → inside ≡ false → IsCharBoundary xs i → IsCharBoundary xs (i + n)
+pub skipped_at : (inside : Bool) (xs : Text) (i n : ℕ) → n ≡ passed inside (drop i xs) → inside ≡ false → IsCharBoundary xs i
+    → IsCharBoundary xs (i + n)
 skipped_at true xs i n run outside h = absurd cc
 skipped_at false xs i n run outside h = rw (run, add-zero) h
 
@@ -126,23 +138,29 @@ scan-piece (blank c) rest h = scan_more false c rest false (grind (arith, nat_te
 scan-piece (break n) rest h = scan-newline false n rest
 scan-piece (remark body n) rest h =
     let r = scan false rest in
-    let all : 1 + (length body + (length (newline_text n) + r.0)) ≡ suc (length (body ++ newline_text n)) + r.0 = omega (arith, length-append body (newline_text n)) in
+    let all : 1 + (length body + (length (newline_text n) + r.0)) ≡ suc (length (body ++ newline_text n)) + r.0 =
+    omega (arith, length-append body (newline_text n)) in
     ap (λ l. scan false (35 ∷ l)) (append_assoc body (newline_text n) rest)
     ∙ scan_more false 35 (body ++ (newline_text n ++ rest)) true refl
     ∙ ap (further 1) (scan-body body (newline_text n ++ rest) h ∙ ap (further (length body)) (scan-newline true n rest))
     ∙ rw all refl
 
-pub scan-pieces : (ps : List Piece) (rest : Text) → AllByRecursion IsPiece ps → scan false (flat_map piece_text ps ++ rest) ≡ further (length (flat_map piece_text ps)) (scan false rest)
+pub scan-pieces : (ps : List Piece) (rest : Text) → AllByRecursion IsPiece ps → scan false (flat_map piece_text ps ++ rest)
+    ≡ further (length (flat_map piece_text ps)) (scan false rest)
 scan-pieces [] rest h = sym (ap (λ n. (n, (scan false rest).1)) (omega arith))
 scan-pieces (p ∷ ps) rest h =
     let r = scan false rest in
-    let all : length (piece_text p) + (length (flat_map piece_text ps) + r.0) ≡ length (piece_text p ++ flat_map piece_text ps) + r.0 = omega (arith, length-append (piece_text p) (flat_map piece_text ps)) in
-    ap (scan false) (append_assoc (piece_text p) (flat_map piece_text ps) rest) ∙ scan-piece p (flat_map piece_text ps ++ rest) h.0 ∙ ap (further (length (piece_text p))) (scan-pieces ps rest h.1) ∙ rw all refl
+    let all : length (piece_text p) + (length (flat_map piece_text ps) + r.0) ≡ length (piece_text p ++ flat_map piece_text ps) + r.0 =
+    omega (arith, length-append (piece_text p) (flat_map piece_text ps)) in
+    ap (scan false) (append_assoc (piece_text p) (flat_map piece_text ps) rest) ∙ scan-piece p (flat_map piece_text ps ++ rest) h.0
+    ∙ ap (further (length (piece_text p))) (scan-pieces ps rest h.1) ∙ rw all refl
 
 pub scan-comment : (body : Text) → Each is_visible body → (scan false (comment body)).0 ≡ length (comment body)
 scan-comment body h =
-    let all : scan false (35 ∷ (body ++ [])) ≡ further 1 (further (length body) (scan true [])) = scan_more false 35 (body ++ []) true refl ∙ ap (further 1) (scan-body body [] h) in
-    let e : scan false (comment body) ≡ (1 + (length body + 0), true) = ap (λ (x : Text). scan false (35 ∷ x)) (sym (append-nil body)) ∙ all ∙ ap (λ r. further 1 (further (length body) r)) (scan_nil true) in
+    let all : scan false (35 ∷ (body ++ [])) ≡ further 1 (further (length body) (scan true [])) = scan_more false 35 (body ++ []) true refl
+    ∙ ap (further 1) (scan-body body [] h) in
+    let e : scan false (comment body) ≡ (1 + (length body + 0), true) = ap (λ (x : Text). scan false (35 ∷ x)) (sym (append-nil body)) ∙ all
+    ∙ ap (λ r. further 1 (further (length body) r)) (scan_nil true) in
     ap (λ (r : ℕ × Bool). r.0) e ∙ omega arith
 
 -- ---- what is scanned is trivia
@@ -165,12 +183,18 @@ took_nil true = inr (refl, refl)
 
 outside_piece : (e : Bool) (p : Piece) (u : Text) → IsPiece p → Outside e u → Outside e (piece_text p ++ u)
 outside_piece false p u h (ps, each, parts) = (p ∷ ps, (h, each), ap (λ (x : Text). piece_text p ++ x) parts)
-outside_piece true p u h (w, body, (ps, each, parts), text, whole) =
-    (piece_text p ++ w, body, (p ∷ ps, (h, each), ap (λ (x : Text). piece_text p ++ x) parts), text, ap (λ (x : Text). piece_text p ++ x) whole ∙ sym (append_assoc (piece_text p) w (comment body)))
+outside_piece true p u h (w, body, (ps, each, parts), text, whole) = (
+  piece_text p ++ w,
+  body,
+  (p ∷ ps, (h, each), ap (λ (x : Text). piece_text p ++ x) parts),
+  text,
+  ap (λ (x : Text). piece_text p ++ x) whole ∙ sym (append_assoc (piece_text p) w (comment body)),
+)
 
 outside_comment : (e : Bool) (t : Text) → Took true e t → Outside e (35 ∷ t)
 outside_comment e t (inl (body, n, u, text, more, parts)) =
-    let whole : comment body ++ newline_text n ++ u ≡ 35 ∷ t = ap (λ (x : Text). 35 ∷ x) (append_assoc body (newline_text n) u ∙ sym parts) in
+    let whole : comment body ++ newline_text n ++ u ≡ 35 ∷ t =
+    ap (λ (x : Text). 35 ∷ x) (append_assoc body (newline_text n) u ∙ sym parts) in
     subst (Outside e) whole (outside_piece e (remark body n) u text more)
 outside_comment false t (inr (ends, text)) = absurd (false≢true ends)
 outside_comment true t (inr (ends, text)) = ([], t, ([], tt, refl), text, refl)
@@ -180,7 +204,8 @@ took_newline false e n u h = outside_piece e (break n) u tt h
 took_newline true e n u h = inl ([], n, u, refl, h, refl)
 
 inside_text : (e : Bool) (c : ℕ) (t : Text) → is_visible c ≡ true → Took true e t → Took true e (c ∷ t)
-inside_text e c t h (inl (body, n, u, text, more, parts)) = inl (c ∷ body, n, u, and_from (is_visible c) (list_all is_visible body) h text, more, ap (λ (x : Text). c ∷ x) parts)
+inside_text e c t h (inl (body, n, u, text, more, parts)) =
+    inl (c ∷ body, n, u, and_from (is_visible c) (list_all is_visible body) h text, more, ap (λ (x : Text). c ∷ x) parts)
 inside_text e c t h (inr (ends, text)) = inr (ends, and_from (is_visible c) (list_all is_visible t) h text)
 
 -- the cases of a turn that goes on
@@ -189,11 +214,13 @@ Goes inside c next state =
     ((c ≡ 10) × (state ≡ false)) ⊎ (((c ≡ 13) × (next ≡ 10) × (state ≡ false)) ⊎ (((inside ≡ false) × (is_blank c ≡ true) × (state ≡ false))
     ⊎ (((inside ≡ true) × (is_visible c ≡ true) × (state ≡ true)) ⊎ ((inside ≡ false) × (c ≡ 35) × (state ≡ true)))))
 
-goes_newline : (inside : Bool) (c next : ℕ) (state : Bool) → (c == 10 || (c == 13 && next == 10)) ≡ true → false ≡ state → Goes inside c next state
+goes_newline : (inside : Bool) (c next : ℕ) (state : Bool) → (c == 10 || (c == 13 && next == 10)) ≡ true → false ≡ state
+    → Goes inside c next state
 goes_newline inside c next state b e =
     elim (or_cases (c == 10) (c == 13 && next == 10) b) [
       | inl is_lf ↦ inl (eqb-true c 10 is_lf, sym e)
-      | inr both ↦ let (is_cr, is_lf) = and_parts (c == 13) (next == 10) both in inr (inl (eqb-true c 13 is_cr, eqb-true next 10 is_lf, sym e))
+      | inr both ↦ let (is_cr, is_lf) = and_parts (c == 13) (next == 10) both in
+          inr (inl (eqb-true c 13 is_cr, eqb-true next 10 is_lf, sym e))
     ]
 
 turn_cases : (inside : Bool) (c next : ℕ) (state : Bool) → turn inside c next ≡ Some state → Goes inside c next state
@@ -228,7 +255,8 @@ turn_stops c next e = grind (arith, nat_tests)
 abbrev Takes : Bool → Text → ℕ × Bool → Type 0
 Takes inside text r = Took inside r.1 (take r.0 text)
 
-took_more : (inside : Bool) (c next : ℕ) (state : Bool) (e : Bool) (t : Text) → Goes inside c next state → ((c ≡ 13) × (next ≡ 10) → ⊥) → Took state e t → Took inside e (c ∷ t)
+took_more : (inside : Bool) (c next : ℕ) (state : Bool) (e : Bool) (t : Text) → Goes inside c next state → ((c ≡ 13) × (next ≡ 10) → ⊥)
+    → Took state e t → Took inside e (c ∷ t)
 took_more inside c next state e t (inl (is_lf, st)) other h = rw is_lf (took_newline inside e lf t (rw st at h))
 took_more inside c next state e t (inr (inl (is_cr, is_lf, st))) other h = absurd (other (is_cr, is_lf))
 took_more inside c next state e t (inr (inr (inl (out, white, st)))) other h = rw out (outside_piece e (blank c) t white (rw st at h))
@@ -239,14 +267,16 @@ cases_turn : (o : Option Bool) → (o ≡ None) ⊎ ((state : Bool) × (o ≡ So
 cases_turn None = inl refl
 cases_turn (Some state) = inr (state, refl)
 
-took_step : (inside : Bool) (c : ℕ) (cs : Text) → ((c ≡ 13) × (first cs ≡ 10) → ⊥) → ((state : Bool) → Takes state cs (scan state cs)) → Takes inside (c ∷ cs) (scan inside (c ∷ cs))
+took_step : (inside : Bool) (c : ℕ) (cs : Text) → ((c ≡ 13) × (first cs ≡ 10) → ⊥) → ((state : Bool) → Takes state cs (scan state cs))
+    → Takes inside (c ∷ cs) (scan inside (c ∷ cs))
 took_step inside c cs other later =
     elim (cases_turn (turn inside c (first cs))) [
       | inl e ↦ subst (Takes inside (c ∷ cs)) (sym (scan_stop inside c cs e)) (took_nil inside)
       | inr (state, e) ↦
           let r = scan state cs in
           let one : 1 + r.0 ≡ suc r.0 = omega arith in
-          subst (Takes inside (c ∷ cs)) (sym (scan_more inside c cs state e)) (rw one (took_more inside c (first cs) state r.1 (take r.0 cs) (turn_cases inside c (first cs) state e) other (later state)))
+          subst (Takes inside (c ∷ cs)) (sym (scan_more inside c cs state e))
+          (rw one (took_more inside c (first cs) state r.1 (take r.0 cs) (turn_cases inside c (first cs) state e) other (later state)))
     ]
 
 pub scan_took : (inside : Bool) (text : Text) → Takes inside text (scan inside text)
@@ -258,8 +288,10 @@ scan_took inside (c ∷ d ∷ ds) =
         | inl is_lf ↦
             let r = scan false ds in
             let two : 1 + (1 + r.0) ≡ suc (suc r.0) = omega arith in
-            let scanned : scan inside (13 ∷ 10 ∷ ds) ≡ further 1 (further 1 r) = scan_more inside 13 (10 ∷ ds) false refl ∙ ap (further 1) (scan_more false 10 ds false refl) in
-            rw (is_cr, is_lf) (subst (Takes inside (13 ∷ 10 ∷ ds)) (sym scanned) (rw two (took_newline inside r.1 crlf (take r.0 ds) (scan_took false ds))))
+            let scanned : scan inside (13 ∷ 10 ∷ ds) ≡ further 1 (further 1 r) = scan_more inside 13 (10 ∷ ds) false refl
+            ∙ ap (further 1) (scan_more false 10 ds false refl) in
+            rw (is_cr, is_lf) (subst (Takes inside (13 ∷ 10 ∷ ds)) (sym scanned)
+            (rw two (took_newline inside r.1 crlf (take r.0 ds) (scan_took false ds))))
         | inr apart ↦ took_step inside c (d ∷ ds) (λ (a, is_lf). apart is_lf) (λ state. scan_took state (d ∷ ds))
       ]
       | inr apart ↦ took_step inside c (d ∷ ds) (λ (is_cr, b). apart is_cr) (λ state. scan_took state (d ∷ ds))

@@ -26,7 +26,8 @@ use Rattle.toml_edit_syntax.proofs.TooManyLaws.{text_opens}
 
 -- ---- what is left at the start
 
-seen_follow : (marked : Bool) (r : Reading (List Statement)) (f : List Statement → Text → List Event) → ((ss : List Statement) (final : Text) → r ≡ got ss final → f ss final ≡ events_of (document marked ss final))
+seen_follow : (marked : Bool) (r : Reading (List Statement)) (f : List Statement → Text → List Event)
+    → ((ss : List Statement) (final : Text) → r ≡ got ss final → f ss final ≡ events_of (document marked ss final))
     → without_rest (seen f r) ≡ seen (λ (d : Document) (_ : Text). events_of d) (follow r (λ ss final. got (document marked ss final) []))
 seen_follow marked (got ss final) f each = ap (λ (es : List Event). got es []) (each ss final refl)
 seen_follow marked (deep es) f each = refl
@@ -41,7 +42,8 @@ reached source rest is =
     let n = suc (length source) in
     let parts = marks source rest (sym is) in
     let place : length source - length rest ≡ at = omega (arith, ap length parts, length-append (mark_text marked) rest) in
-    let each : (ss : List Statement) (final : Text) → statements_at n 0 at rest ≡ got ss final → events_with_final (length source) at ss final ≡ events_of (document marked ss final) =
+    let each : (ss : List Statement) (final : Text) → statements_at n 0 at rest ≡ got ss final
+    → events_with_final (length source) at ss final ≡ events_of (document marked ss final) =
     λ ss final read.
     let (are, last, whole) = statements_take n at rest ss final read in
     let all : document_text (document marked ss final) ≡ source = ap (λ (x : Text). mark_text marked ++ x) (sym whole) ∙ sym parts in
@@ -56,22 +58,26 @@ reached source rest is =
           (ap without_rest (preceded-nil (rest_read n (length source) rest))
           ∙ ap (λ (k : ℕ). without_rest (seen (events_with_final (length source) k) (statements_at n 0 k rest))) place
           ∙ seen_follow marked (statements_at n 0 at rest) (events_with_final (length source) at) each
-          ∙ ap (λ (x : Text). seen (λ (d : Document) (_ : Text). events_of d) (follow (statements_at n 0 at x) (λ ss final. got (document marked ss final) []))) is);
+          ∙ ap (λ (x : Text). seen (λ (d : Document) (_ : Text). events_of d)
+          (follow (statements_at n 0 at x) (λ ss final. got (document marked ss final) []))) is);
     }
 
 -- ---- what reading all of it came to
 
 module _ (t rest : Text) (r : IsReached t rest) where
-  cut_by : (r : Reading Document) (es : List Event) (left : Text) → cut_of 0 t ≡ r → seen (λ (d : Document) (_ : Text). events_of d) r ≡ got es left → (d : Document) × IsCut d t
+  cut_by : (r : Reading Document) (es : List Event) (left : Text) → cut_of 0 t ≡ r → seen (λ (d : Document) (_ : Text). events_of d) r
+      ≡ got es left → (d : Document) × IsCut d t
   cut_by (got d left) es more found e = (d, cut_takes t left d found)
   cut_by (deep ms) es more found e = absurd cc
   cut_by wrong es more found e = absurd cc
 
   -- a text that is read to its end has a cut
-  pub has_cut : (es : List Event) (left : Text) → preceded r.done (rest_read r.turns (length t) rest) ≡ got es left → (d : Document) × IsCut d t
+  pub has_cut : (es : List Event) (left : Text) → preceded r.done (rest_read r.turns (length t) rest) ≡ got es left → (d : Document)
+      × IsCut d t
   has_cut es left e = cut_by (cut_of 0 t) es [] refl (r.same ∙ ap without_rest e)
 
-  deep_by : (r : Reading Document) (es : List Event) → cut_of 0 t ≡ r → seen (λ (d : Document) (_ : Text). events_of d) r ≡ deep es → OpensTooMany t
+  deep_by : (r : Reading Document) (es : List Event) → cut_of 0 t ≡ r → seen (λ (d : Document) (_ : Text). events_of d) r ≡ deep es
+      → OpensTooMany t
   deep_by (got d left) es found e = absurd cc
   deep_by (deep ms) es found e = text_opens t ms found
   deep_by wrong es found e = absurd cc
@@ -93,8 +99,10 @@ module _ (t rest : Text) (r : IsReached t rest) where
 
 module _ (t before : Text) (r : IsReached t before) (old new : List Event) (nothing : old ≡ []) where
   -- behind what was read before
-  joined_to : (read : Reading (List Event)) → preceded old (rest_read r.turns (length t) before) ≡ read → preceded r.done (rest_read r.turns (length t) before) ≡ preceded r.done read
-  joined_to read e = ap (preceded r.done) (sym (preceded-nil (rest_read r.turns (length t) before)) ∙ ap (λ (es : List Event). preceded es (rest_read r.turns (length t) before)) (sym nothing) ∙ e)
+  joined_to : (read : Reading (List Event)) → preceded old (rest_read r.turns (length t) before) ≡ read
+      → preceded r.done (rest_read r.turns (length t) before) ≡ preceded r.done read
+  joined_to read e = ap (preceded r.done) (sym (preceded-nil (rest_read r.turns (length t) before))
+      ∙ ap (λ (es : List Event). preceded es (rest_read r.turns (length t) before)) (sym nothing) ∙ e)
 
   pub after_batch : (end : BatchEnd) (rest : Text) → EndsWith t rest → (end ≡ MoreStatements → length rest < length before)
       → ((n : ℕ) → length before < n → ReadsBatch n (length t) before old new end rest) → IsAfter t before rest end
@@ -107,7 +115,8 @@ module _ (t before : Text) (r : IsReached t before) (old new : List Event) (noth
               done = r.done ++ new;
               turns = k;
               room = room;
-              same = r.same ∙ ap without_rest (joined_to (preceded new (rest_read k (length t) rest)) e ∙ preceded-twice r.done new (rest_read k (length t) rest));
+              same = r.same ∙ ap without_rest (joined_to (preceded new (rest_read k (length t) rest)) e
+                  ∙ preceded-twice r.done new (rest_read k (length t) rest));
             };
         shorter = shorter;
         cut = λ is. absurd cc;
@@ -122,14 +131,20 @@ module _ (t before : Text) (r : IsReached t before) (old new : List Event) (noth
       }
   after_batch TooManyBrackets rest ends shorter reads = absurd (reads r.turns r.room)
 
-  pub after_deep : (why : Stop) (rest : Text) → why ≡ stops.TooDeep → ((n : ℕ) → length before < n → StopsAs new (preceded old (rest_read n (length t) before)) why) → IsAfter t before rest TooManyBrackets
+  pub after_deep : (why : Stop) (rest : Text) → why ≡ stops.TooDeep
+      → ((n : ℕ) → length before < n → StopsAs new (preceded old (rest_read n (length t) before)) why)
+      → IsAfter t before rest TooManyBrackets
   after_deep why rest is reads =
       record {
         reached = λ e. absurd cc;
         shorter = λ e. absurd cc;
         cut = λ e. absurd cc;
-        brackets = λ _. opens_too_many t before r (r.done ++ new) (joined_to (deep new) (subst (StopsAs new (preceded old (rest_read r.turns (length t) before))) is (reads r.turns r.room)));
+        brackets = λ _. opens_too_many t before r (r.done ++ new)
+            (joined_to (deep new) (subst (StopsAs new (preceded old (rest_read r.turns (length t) before))) is (reads r.turns r.room)));
       }
 
-  pub no_cut_left : (why : Stop) (mistake : Mistake) (left : ℕ) → why ≡ stops.Before mistake left → ((n : ℕ) → length before < n → StopsAs new (preceded old (rest_read n (length t) before)) why) → (d : Document) → IsCut d t → ⊥
-  no_cut_left why mistake left is reads = no_cut t before r (joined_to wrong (subst (StopsAs new (preceded old (rest_read r.turns (length t) before))) is (reads r.turns r.room)))
+  pub no_cut_left : (why : Stop) (mistake : Mistake) (left : ℕ) → why ≡ stops.Before mistake left
+      → ((n : ℕ) → length before < n → StopsAs new (preceded old (rest_read n (length t) before)) why) → (d : Document) → IsCut d t → ⊥
+  no_cut_left why mistake left is reads =
+      no_cut t before r (joined_to wrong (subst (StopsAs new (preceded old (rest_read r.turns (length t) before))) is
+      (reads r.turns r.room)))

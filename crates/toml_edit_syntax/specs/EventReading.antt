@@ -2,14 +2,16 @@
 use Rattle.std.specs.Prelude.{◌≡◌, ◌≢◌, ℕ, ◌-◌, Bool, List, [], ◌∷◌, ◌++◌, length, codes, Option, Some, None}
 use Rattle.toml_edit_model.specs.Text.{Text}
 use Rattle.toml_edit_syntax.specs.declared.event.EventKind.{EventKind}
-use Rattle.toml_edit_syntax.specs.declared.event.EventKind.TheVariants.{ArrayOpen, ArrayClose, InlineTableOpen, InlineTableClose, Before, Equals}
+use Rattle.toml_edit_syntax.specs.declared.event.EventKind.TheVariants.{ArrayOpen, ArrayClose, InlineTableOpen, InlineTableClose, Before}
+use Rattle.toml_edit_syntax.specs.declared.event.EventKind.TheVariants.{Equals}
 use Rattle.toml_edit_syntax.specs.declared.event.Event.{Event}
 use Rattle.toml_edit_syntax.specs.declared.value.Brackets.{Brackets}
 use Rattle.toml_edit_syntax.specs.declared.value.Brackets.TheVariants as brackets
 use Rattle.toml_edit_laws.specs.reading.ScalarReading.{scalar_at}
 use Rattle.toml_edit_syntax.specs.Scanning.{equals_at}
 use Rattle.toml_edit_syntax.specs.ValueEvents.{event, path_events, frame_events, close_events, value_events, elements_events, pairs_events}
-use Rattle.toml_edit_syntax.specs.ValueReading.{Reading, got, deep, wrong, reading, lone_scalar, segments_at, frame_at, value_from, elements_at, pairs_at}
+use Rattle.toml_edit_syntax.specs.ValueReading.{Reading, got, deep, wrong, reading, lone_scalar, segments_at, frame_at, value_from}
+use Rattle.toml_edit_syntax.specs.ValueReading.{elements_at, pairs_at}
 
 -- the events of a part, by that part and the text after it
 abbrev pub seen : {A : Type 0} → (A → Text → List Event) → Reading A → Reading (List Event)

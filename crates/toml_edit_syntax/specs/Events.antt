@@ -4,9 +4,12 @@ use Rattle.std.specs.List.{list_any}
 use Rattle.std.specs.Str.{IsCharBoundary}
 use Rattle.toml_edit_model.specs.Text.{Text}
 use Rattle.toml_edit_model.specs.Trivia.{Each}
-use Rattle.toml_edit_model.specs.Syntax.{Frame, Value, Header, Statement, key_line, header, Document, path_text, value_text, opening_brackets, closing_brackets, statement_text, mark_text, document_text, IsCut, depth, nesting_limit}
+use Rattle.toml_edit_model.specs.Syntax.{Frame, Value, Header, Statement, key_line, header, Document, path_text, value_text}
+use Rattle.toml_edit_model.specs.Syntax.{opening_brackets, closing_brackets, statement_text, mark_text, document_text, IsCut, depth}
+use Rattle.toml_edit_model.specs.Syntax.{nesting_limit}
 use Rattle.toml_edit_syntax.specs.declared.event.EventKind.{EventKind}
-use Rattle.toml_edit_syntax.specs.declared.event.EventKind.TheVariants.{Leading, HeaderOpen, ArrayHeaderOpen, BeforeKey, AfterKey, HeaderClose, LineEnd, Final}
+use Rattle.toml_edit_syntax.specs.declared.event.EventKind.TheVariants.{Leading, HeaderOpen, ArrayHeaderOpen, BeforeKey, AfterKey}
+use Rattle.toml_edit_syntax.specs.declared.event.EventKind.TheVariants.{HeaderClose, LineEnd, Final}
 use Rattle.toml_edit_syntax.specs.declared.event.Event.{Event}
 use Rattle.toml_edit_syntax.specs.declared.event.Span.{Span}
 use Rattle.toml_edit_syntax.specs.ValueEvents.{event, path_events, frame_events, value_at_byte, value_events}

@@ -7,7 +7,8 @@ use Rattle.toml_edit_model.specs.Syntax.{Statement, Value, IsStatement, IsValue,
 use Rattle.toml_edit_model.specs.Text.{Text}
 use Rattle.toml_edit_model.specs.Version.{Place}
 use Rattle.toml_edit_syntax.specs.declared.event.EventKind.{EventKind}
-use Rattle.toml_edit_syntax.specs.declared.event.EventKind.TheVariants.{Leading, Key, Scalar, InlineTableClose, After, Comma, Inner, LineEnd}
+use Rattle.toml_edit_syntax.specs.declared.event.EventKind.TheVariants.{Leading, Key, Scalar, InlineTableClose, After, Comma, Inner}
+use Rattle.toml_edit_syntax.specs.declared.event.EventKind.TheVariants.{LineEnd}
 use Rattle.toml_edit_syntax.specs.declared.event.Event.{Event}
 use Rattle.toml_edit_syntax.specs.declared.event.Span.{Span}
 use Rattle.toml_edit_laws.specs.Standing.{Stands}

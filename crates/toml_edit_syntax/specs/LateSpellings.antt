@@ -1,5 +1,6 @@
 -- The first late part of a text that is spelled, found from left to right.
-use Rattle.std.specs.Prelude.{ℕ, ◌+◌, Bool, false, not, ◌&&◌, ◌==◌, nat_lt, if◌then◌else◌, [], ◌∷◌, length, slice_index, Option, Some, None, is_some}
+use Rattle.std.specs.Prelude.{ℕ, ◌+◌, Bool, false, not, ◌&&◌, ◌==◌, nat_lt, if◌then◌else◌, [], ◌∷◌, length, slice_index, Option, Some, None}
+use Rattle.std.specs.Prelude.{is_some}
 use Rattle.std.specs.Option.{option_or}
 use Rattle.toml_edit_model.specs.Text.{Text, quote, backslash}
 use Rattle.toml_edit_laws.specs.reading.DatetimeReading.{datetime_of}

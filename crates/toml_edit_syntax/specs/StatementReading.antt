@@ -9,7 +9,8 @@ use Rattle.toml_edit_laws.specs.reading.Runs.{split_while}
 use Rattle.toml_edit_syntax.specs.ValueEvents.{event, value_events}
 use Rattle.toml_edit_syntax.specs.ValueReading.{Reading, reading}
 use Rattle.toml_edit_syntax.specs.Events.{statement_events}
-use Rattle.toml_edit_syntax.specs.Reading.{end_at, key_line_at, header_end_at, header_at, statement_at, statements_at, events_with_final, lone_at}
+use Rattle.toml_edit_syntax.specs.Reading.{end_at, key_line_at, header_end_at, header_at, statement_at, statements_at, events_with_final}
+use Rattle.toml_edit_syntax.specs.Reading.{lone_at}
 use Rattle.toml_edit_syntax.specs.EventReading.{seen}
 
 -- what follows the value of a line, or the brackets of a header

@@ -2,9 +2,12 @@
 use Rattle.std.specs.Prelude.{ℕ, suc, ◌+◌, ◌-◌, Bool, true, false, ◌==◌, if◌then◌else◌, List, [], ◌∷◌, ◌++◌, length, codes}
 use Rattle.std.specs.List.{list_any}
 use Rattle.toml_edit_model.specs.Text.{Text}
-use Rattle.toml_edit_model.specs.Syntax.{Segment, Frame, Value, scalar, array, inline_table, Elements, no_elements, element, Pairs, no_pairs, pair, segment_text, path_text, value_text, nesting_limit}
+use Rattle.toml_edit_model.specs.Syntax.{Segment, Frame, Value, scalar, array, inline_table, Elements, no_elements, element, Pairs}
+use Rattle.toml_edit_model.specs.Syntax.{no_pairs, pair, segment_text, path_text, value_text, nesting_limit}
 use Rattle.toml_edit_syntax.specs.declared.event.EventKind.{EventKind}
-use Rattle.toml_edit_syntax.specs.declared.event.EventKind.TheVariants.{Leading, Key, BeforeDot, AfterDot, Equals, Scalar, ArrayOpen, ArrayClose, InlineTableOpen, InlineTableClose, Before, After, Comma, Inner, TooDeep}
+use Rattle.toml_edit_syntax.specs.declared.event.EventKind.TheVariants.{Leading, Key, BeforeDot, AfterDot, Equals, Scalar, ArrayOpen}
+use Rattle.toml_edit_syntax.specs.declared.event.EventKind.TheVariants.{ArrayClose, InlineTableOpen, InlineTableClose, Before, After, Comma}
+use Rattle.toml_edit_syntax.specs.declared.event.EventKind.TheVariants.{Inner, TooDeep}
 use Rattle.toml_edit_syntax.specs.declared.event.Event.{Event}
 
 -- a part of this kind, that begins at this byte and has this text

@@ -1,9 +1,11 @@
 -- Reading a value at the front of a text, from left to right.
-use Rattle.std.specs.Prelude.{ℕ, zero, suc, ◌+◌, ◌-◌, Bool, true, false, ◌==◌, if◌then◌else◌, List, [], ◌∷◌, ◌++◌, length, take, drop, codes, Some, None, option_map, option_and_then}
+use Rattle.std.specs.Prelude.{ℕ, zero, suc, ◌+◌, ◌-◌, Bool, true, false, ◌==◌, if◌then◌else◌, List, [], ◌∷◌, ◌++◌, length, take, drop}
+use Rattle.std.specs.Prelude.{codes, Some, None, option_map, option_and_then}
 use Rattle.toml_edit_model.specs.Text.{Text}
 use Rattle.toml_edit_model.specs.Trivia.{is_blank}
 use Rattle.toml_edit_model.specs.Scalars.{Scalar}
-use Rattle.toml_edit_model.specs.Syntax.{Segment, Around, Frame, Value, scalar, array, inline_table, Elements, no_elements, element, Pairs, no_pairs, pair, value_text, nesting_limit}
+use Rattle.toml_edit_model.specs.Syntax.{Segment, Around, Frame, Value, scalar, array, inline_table, Elements, no_elements, element, Pairs}
+use Rattle.toml_edit_model.specs.Syntax.{no_pairs, pair, value_text, nesting_limit}
 use Rattle.toml_edit_syntax.specs.declared.event.EventKind.{EventKind}
 use Rattle.toml_edit_syntax.specs.declared.event.EventKind.TheVariants.{Before, After, ArrayOpen, InlineTableOpen, TooDeep}
 use Rattle.toml_edit_syntax.specs.declared.event.Event.{Event}

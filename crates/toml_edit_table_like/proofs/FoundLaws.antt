@@ -1,5 +1,6 @@
 -- What is found in slots: those that are no placeholders, and the one of a key.
-use Rattle.std.proofs.Common.{◌≡◌, ℕ, Bool, true, false, not, List, [], ◌∷◌, Option, Some, None, cond, is_some, option_and_then, option_map, slice_get, refl, sym, ap, ◌∙◌, ◌↔◌, inl, inr}
+use Rattle.std.proofs.Common.{◌≡◌, ℕ, Bool, true, false, not, List, [], ◌∷◌, Option, Some, None, cond, is_some, option_and_then, option_map}
+use Rattle.std.proofs.Common.{slice_get, refl, sym, ap, ◌∙◌, ◌↔◌, inl, inr}
 use Rattle.std.proofs.lemmas.Bool.{cases_Bool, false≢true}
 use Rattle.std.proofs.lemmas.Cmp.{nat_list_eq_equiv}
 use Rattle.std.proofs.lemmas.Option.{slice_get-map}
@@ -42,7 +43,8 @@ module _ (test : Node → Bool) (t : Text) where
   abbrev NoneAt : List (model.Slot Node) → Type 0
   NoneAt es = AllByRecursion (λ u. same_text t u ≡ false) (model.names es)
 
-  moved : (u : Text) (es : List (model.Slot Node)) → same_text t u ≡ true → AllByRecursion (λ v. same_text u v ≡ false) (model.names es) → NoneAt es
+  moved : (u : Text) (es : List (model.Slot Node)) → same_text t u ≡ true → AllByRecursion (λ v. same_text u v ≡ false) (model.names es)
+      → NoneAt es
   moved u [] e all = tt
   moved u (s ∷ es) e all = (nat_list_eq_equiv.congr t u s.key.name e ∙ all.0, moved u es e all.1)
 
@@ -59,7 +61,8 @@ module _ (test : Node → Bool) (t : Text) where
   passing s = cond (test s.item) (Some s) None
 
   -- what is found among them is what stands under the name, if it passes
-  pub found-those : (es : List (model.Slot Node)) → model.AreApart es → model.lookup_slot t (model.those test es) ≡ option_and_then passing (model.lookup_slot t es)
+  pub found-those : (es : List (model.Slot Node)) → model.AreApart es → model.lookup_slot t (model.those test es)
+      ≡ option_and_then passing (model.lookup_slot t es)
   unfolding IsDistinct
   found-those [] a = refl
   found-those (s ∷ es) a =
@@ -93,7 +96,8 @@ abbrev pub holds_value : Option (model.Slot Node) → Bool
 holds_value None = false
 holds_value (Some s) = is_value_node s.item
 
-value-item : (k : Text) (s : model.Slot Node) (n : Node) → s.item ≡ n → holds_value (passing is_item k s) ≡ is_some (passing is_value_node k s)
+value-item : (k : Text) (s : model.Slot Node) (n : Node) → s.item ≡ n → holds_value (passing is_item k s)
+    ≡ is_some (passing is_value_node k s)
 value-item k s nothing e = rw e refl
 value-item k s (leaf scalar spelling d) e = rw e refl
 value-item k s (list f xs) e = rw e refl
@@ -101,11 +105,13 @@ value-item k s (inline f ss) e = rw e refl
 value-item k s (table f ss) e = rw e refl
 value-item k s (tables d xs) e = rw e refl
 
-value-slot : (k : Text) (o : Option (model.Slot Node)) → holds_value (option_and_then (passing is_item k) o) ≡ is_some (option_and_then (passing is_value_node k) o)
+value-slot : (k : Text) (o : Option (model.Slot Node)) → holds_value (option_and_then (passing is_item k) o)
+    ≡ is_some (option_and_then (passing is_value_node k) o)
 value-slot k None = refl
 value-slot k (Some s) = value-item k s s.item refl
 
-pub value-filled : (k : Text) (es : List (model.Slot Node)) (o : Option (model.Slot Node)) → model.AreApart es → o ≡ get_slot k es → contains_value_key k es ≡ holds_value o
+pub value-filled : (k : Text) (es : List (model.Slot Node)) (o : Option (model.Slot Node)) → model.AreApart es → o ≡ get_slot k es
+    → contains_value_key k es ≡ holds_value o
 value-filled k es o apart is =
     has_slot-found k (model.those is_value_node es) ∙ ap is_some (found-those is_value_node k es apart)
     ∙ sym (ap holds_value (is ∙ found-those is_item k es apart) ∙ value-slot k (model.lookup_slot k es))
@@ -117,27 +123,32 @@ abbrev pub item_in : Option (Slot Item) → Option Node
 item_in None = None
 item_in (Some s) = only is_item (item_view s.item)
 
-in_slot : (o : Option (Slot Item)) → option_and_then (only is_item) (option_map (λ (s : model.Slot Node). s.item) (option_map slot_shown o)) ≡ item_in o
+in_slot : (o : Option (Slot Item)) → option_and_then (only is_item) (option_map (λ (s : model.Slot Node). s.item) (option_map slot_shown o))
+    ≡ item_in o
 in_slot None = refl
 in_slot (Some s) = refl
 
-pub get-found : (k : Text) (es : List (Slot Item)) (o : Option (Slot Item)) → model.AreApart (shown es) → o ≡ lookup_slot k es → get k (shown es) ≡ item_in o
+pub get-found : (k : Text) (es : List (Slot Item)) (o : Option (Slot Item)) → model.AreApart (shown es) → o ≡ lookup_slot k es
+    → get k (shown es) ≡ item_in o
 get-found k es o apart is =
     lookup-those is_item k (shown es) apart
-    ∙ ap (λ f. option_and_then (only is_item) (option_map (λ (s : model.Slot Node). s.item) f)) (lookup_slot-shown k es ∙ ap (option_map slot_shown) (sym is))
+    ∙ ap (λ f. option_and_then (only is_item) (option_map (λ (s : model.Slot Node). s.item) f)) (lookup_slot-shown k es
+    ∙ ap (option_map slot_shown) (sym is))
     ∙ in_slot o
 
 no_seen : model.Slot Node
 no_seen = record { key = new_key []; item = nothing }
 
 module _ (k : Text) (w : Item) (es : List (Slot Item)) (apart : model.AreApart (shown es)) where
-  written : (o : Option ℕ) → place k es ≡ o → shown (option_map_or (λ at. with_item at w es) o es) ≡ model.changed k (model.with_item (item_view w)) (shown es)
+  written : (o : Option ℕ) → place k es ≡ o → shown (option_map_or (λ at. with_item at w es) o es)
+      ≡ model.changed k (model.with_item (item_view w)) (shown es)
   written None e = sym (changed-none k (model.with_item (item_view w)) (shown es) (none_at k (shown es) (place-shown k es ∙ e)))
   written (Some i) e =
       set-shown es i no_seen w ∙ sym (changed-at k (model.with_item (item_view w)) (shown es) i no_seen apart (place-shown k es ∙ e))
 
   -- the slots with another item in the slot of the key
-  pub item-written : shown (option_map_or (λ at. with_item at w es) (place k es) es) ≡ model.changed k (model.with_item (item_view w)) (shown es)
+  pub item-written : shown (option_map_or (λ at. with_item at w es) (place k es) es)
+      ≡ model.changed k (model.with_item (item_view w)) (shown es)
   item-written = written (place k es) refl
 
 -- ---- a slot behind two references
@@ -146,15 +157,18 @@ read : (o : Option (Bor Key × Bor Item)) → option_map slot_read o ≡ option_
 read None = refl
 read (Some p) = refl
 
-pub slot-read : (es : List (Slot Item)) (i : ℕ) (o : Option (Bor Key × Bor Item)) → option_map pair_read o ≡ slice_get (seen es) i → option_map slot_read o ≡ slice_get (shown es) i
+pub slot-read : (es : List (Slot Item)) (i : ℕ) (o : Option (Bor Key × Bor Item)) → option_map pair_read o ≡ slice_get (seen es) i
+    → option_map slot_read o ≡ slice_get (shown es) i
 slot-read es i o is =
     read o ∙ ap (option_map (model.on_item item_view)) is
     ∙ sym (ap (λ l. slice_get l i) (shown-seen es) ∙ slice_get-map (model.on_item item_view) (seen es) i)
 
 pub key-read : (k : Text) (es : List (Slot Item)) (o : Option (Bor Key × Bor Item)) → option_map pair_read o ≡ model.lookup_slot k (seen es)
     → option_map (λ p. p.0.now) o ≡ model.lookup_key k (shown es)
-key-read k es o is = part o ∙ ap (λ f. option_map (λ (s : model.Slot Node). s.key) (option_map (model.on_item item_view) f)) is ∙ sym (ap (option_map (λ (s : model.Slot Node). s.key)) (lookup_slot-of k es))
+key-read k es o is = part o ∙ ap (λ f. option_map (λ (s : model.Slot Node). s.key) (option_map (model.on_item item_view) f)) is
+    ∙ sym (ap (option_map (λ (s : model.Slot Node). s.key)) (lookup_slot-of k es))
   where
-    part : (o : Option (Bor Key × Bor Item)) → option_map (λ p. p.0.now) o ≡ option_map (λ (s : model.Slot Node). s.key) (option_map (model.on_item item_view) (option_map pair_read o))
+    part : (o : Option (Bor Key × Bor Item)) → option_map (λ p. p.0.now) o
+        ≡ option_map (λ (s : model.Slot Node). s.key) (option_map (model.on_item item_view) (option_map pair_read o))
     part None = refl
     part (Some p) = refl

@@ -16,7 +16,8 @@ own-entries x es e = ap (λ o. unwrap_or o []) (sym e)
 abbrev Left : Type 0
 Left = (GName × (Item → TableRefMut)) ⊎ TableRefMut
 
-pub lent-same : (name : GName) (f g : Item → TableRefMut) → ((w : Item) → (f w).item ≡ (g w).item) → ◌≡◌ {A = Left} (inl (name, f)) (inl (name, g))
+pub lent-same : (name : GName) (f g : Item → TableRefMut) → ((w : Item) → (f w).item ≡ (g w).item)
+    → ◌≡◌ {A = Left} (inl (name, f)) (inl (name, g))
 lent-same name f g h = λ j. inl (name, λ w. same-ref (f w) (g w) (h w) j)
 
 pub left-same : (r q : TableRefMut) → r.item ≡ q.item → ◌≡◌ {A = Left} (inr r) (inr q)

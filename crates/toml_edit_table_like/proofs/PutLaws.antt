@@ -1,5 +1,6 @@
 -- An item that is put under a key, where none stands.
-use Rattle.std.proofs.Common.{◌≡◌, ℕ, suc, ◌<◌, false, List, [], ◌∷◌, ◌++◌, Option, Some, None, is_some, length, get_or, option_map, slice_get, refl, sym, ap, subst, ◌∙◌, arith}
+use Rattle.std.proofs.Common.{◌≡◌, ℕ, suc, ◌<◌, false, List, [], ◌∷◌, ◌++◌, Option, Some, None, is_some, length, get_or, option_map}
+use Rattle.std.proofs.Common.{slice_get, refl, sym, ap, subst, ◌∙◌, arith}
 use Rattle.std.proofs.lemmas.Option.{slice_get-get_or}
 use Rattle.std.specs.Option.{option_map_or, unwrap_or, UnwrapsOrElse}
 use Rattle.std.specs.Prelude.{IfSome}
@@ -15,11 +16,13 @@ use Rattle.toml_edit_tree.specs.View.{item_view}
 use Rattle.toml_edit_tree.specs.declared.item.Item.{Item}
 use Rattle.toml_edit_tree.specs.declared.item.Item.TheVariants as items
 
-last-shown : (es : List (Slot Item)) (k : Key) (x : Item) → shown (es ++ record { key = k; item = x } ∷ []) ≡ shown es ++ record { key = k; item = item_view x } ∷ []
+last-shown : (es : List (Slot Item)) (k : Key) (x : Item) → shown (es ++ record { key = k; item = x } ∷ []) ≡ shown es
+    ++ record { key = k; item = item_view x } ∷ []
 last-shown [] k x = refl
 last-shown (s ∷ es) k x = ap (λ l. slot_shown s ∷ l) (last-shown es k x)
 
-pub with_item-last : (es : List (Slot Item)) (s : Slot Item) (x : Item) → with_item (length es) x (es ++ s ∷ []) ≡ es ++ record { key = s.key; item = x } ∷ []
+pub with_item-last : (es : List (Slot Item)) (s : Slot Item) (x : Item) → with_item (length es) x (es ++ s ∷ []) ≡ es
+    ++ record { key = s.key; item = x } ∷ []
 with_item-last [] s x = refl
 with_item-last (r ∷ es) s x = ap (λ l. r ∷ l) (with_item-last es s x)
 
@@ -36,15 +39,18 @@ low-last es s = omega (arith, length-last es s)
 
 module _ (k : Key) (es : List (Slot Item)) where
   left : model.AreApart (shown es) → (w : Item) → (o : Option ℕ) → place k.name es ≡ o
-      → shown (option_map_or (λ at. with_item at w es) o (es ++ record { key = k; item = w } ∷ [])) ≡ model.put (model.with_item (item_view w)) (record { key = k; item = item_view w }) (shown es)
+      → shown (option_map_or (λ at. with_item at w es) o (es ++ record { key = k; item = w } ∷ []))
+      ≡ model.put (model.with_item (item_view w)) (record { key = k; item = item_view w }) (shown es)
   left apart w None e =
-      last-shown es k w ∙ sym (put-new (model.with_item (item_view w)) (record { key = k; item = item_view w }) (shown es) (place-shown k.name es ∙ e))
+      last-shown es k w ∙ sym (put-new (model.with_item (item_view w)) (record { key = k; item = item_view w }) (shown es)
+      (place-shown k.name es ∙ e))
   left apart w (Some i) e =
       let new : model.Slot Node = record { key = k; item = item_view w } in
       set-shown es i new w ∙ sym (put-at (model.with_item (item_view w)) new (shown es) i new apart (place-shown k.name es ∙ e))
 
   -- what is there with the item put in
-  pub put-leaves : model.AreApart (shown es) → (w : Item) → shown (item_put k w es) ≡ model.put (model.with_item (item_view w)) (record { key = k; item = item_view w }) (shown es)
+  pub put-leaves : model.AreApart (shown es) → (w : Item) → shown (item_put k w es)
+      ≡ model.put (model.with_item (item_view w)) (record { key = k; item = item_view w }) (shown es)
   put-leaves apart w = left apart w (place k.name es) refl
 
   pub put-there : (i : ℕ) → place k.name es ≡ Some i → (w : Item) → with_item i w es ≡ item_put k w es
@@ -53,10 +59,12 @@ module _ (k : Key) (es : List (Slot Item)) where
   pub put-gone : place k.name es ≡ None → (w : Item) → es ++ record { key = k; item = w } ∷ [] ≡ item_put k w es
   put-gone none w = ap (λ o. option_map_or (λ j. with_item j w es) o (es ++ record { key = k; item = w } ∷ [])) (sym none)
 
-  held-there : (i : ℕ) → place k.name es ≡ Some i → (s : Slot Item) → slice_get es i ≡ Some s → model.lookup_slot k.name (shown es) ≡ Some (slot_shown s)
+  held-there : (i : ℕ) → place k.name es ≡ Some i → (s : Slot Item) → slice_get es i ≡ Some s → model.lookup_slot k.name (shown es)
+      ≡ Some (slot_shown s)
   held-there i at s got = lookup_slot-at k.name (shown es) i (slot_shown s) (place-shown k.name es ∙ at) ∙ ap Some (get-shown es i s got)
 
-  pub item-there : (i : ℕ) → place k.name es ≡ Some i → i < length es → (d : Node) → option_map item_view (slice_get (items_of es) i) ≡ Some (unwrap_or (model.lookup k.name (shown es)) d)
+  pub item-there : (i : ℕ) → place k.name es ≡ Some i → i < length es → (d : Node) → option_map item_view (slice_get (items_of es) i)
+      ≡ Some (unwrap_or (model.lookup k.name (shown es)) d)
   item-there i at low d =
       let fill : Slot Item = record { key = k; item = items.None } in
       let s = get_or es i fill in
@@ -72,7 +80,8 @@ module _ (k : Key) (es : List (Slot Item)) where
       let s = get_or es i fill in
       let got : slice_get es i ≡ Some s = slice_get-get_or es i fill low in
       let item : slice_get (items_of es) i ≡ Some s.item = item-at es i s got in
-      let found : model.lookup k.name (shown es) ≡ Some (item_view s.item) = ap (option_map (λ (r : model.Slot Node). r.item)) (held-there i at s got) in
+      let found : model.lookup k.name (shown es) ≡ Some (item_view s.item) =
+      ap (option_map (λ (r : model.Slot Node). r.item)) (held-there i at s got) in
       subst (λ o. IfSome o (λ x. UnwrapsOrElse (model.lookup k.name (shown es)) P (item_view x))) (sym item)
       (subst (λ o. UnwrapsOrElse o P (item_view s.item)) (sym found) refl)
 

@@ -1,5 +1,6 @@
 -- Slots of the code, and what the tree has of them.
-use Rattle.std.proofs.Common.{◌≡◌, ℕ, zero, suc, ◌+◌, nat_lt, Bool, true, false, cond, if◌then◌else◌, List, [], ◌∷◌, Option, Some, None, is_some, length, get_or, set, take, option_map, slice_get, refl, sym, ap, subst, ◌∙◌, inl, inr, arith}
+use Rattle.std.proofs.Common.{◌≡◌, ℕ, zero, suc, ◌+◌, nat_lt, Bool, true, false, cond, if◌then◌else◌, List, [], ◌∷◌, Option, Some, None}
+use Rattle.std.proofs.Common.{is_some, length, get_or, set, take, option_map, slice_get, refl, sym, ap, subst, ◌∙◌, inl, inr, arith}
 use Rattle.std.proofs.lemmas.Bool.{cases_Bool}
 use Rattle.std.proofs.lemmas.Cmp.{nat_list_eq_equiv}
 use Rattle.std.proofs.lemmas.Option.{none-some, same_Some}
@@ -41,7 +42,8 @@ item_of (Some s) = refl
 pub lookup-shown : (t : Text) (es : List (Slot Item)) → model.lookup t (shown es) ≡ option_map item_view (lookup t es)
 lookup-shown t es = ap (option_map (λ s. s.item)) (lookup_slot-shown t es) ∙ item_of (lookup_slot t es)
 
-pub lookup_slot-of : (t : Text) (es : List (Slot Item)) → model.lookup_slot t (shown es) ≡ option_map (model.on_item item_view) (model.lookup_slot t (seen es))
+pub lookup_slot-of : (t : Text) (es : List (Slot Item)) → model.lookup_slot t (shown es)
+    ≡ option_map (model.on_item item_view) (model.lookup_slot t (seen es))
 lookup_slot-of t es = ap (model.lookup_slot t) (shown-seen es) ∙ views.lookup_slot-seen item_view t (seen es)
 
 pub length-shown : (es : List (Slot Item)) → length (shown es) ≡ length es
@@ -114,7 +116,8 @@ set-shown [] i d x = refl
 set-shown (s ∷ es) zero d x = refl
 set-shown (s ∷ es) (suc i) d x = ap (λ l. slot_shown s ∷ l) (set-shown es i d x)
 
-pub get-shown : (es : List (Slot Item)) (i : ℕ) (s : Slot Item) → slice_get es i ≡ Some s → get_or (shown es) i (slot_shown s) ≡ slot_shown s
+pub get-shown : (es : List (Slot Item)) (i : ℕ) (s : Slot Item) → slice_get es i ≡ Some s → get_or (shown es) i (slot_shown s)
+    ≡ slot_shown s
 get-shown [] i s got = refl
 get-shown (r ∷ es) zero s got = ap slot_shown (same_Some r s got)
 get-shown (r ∷ es) (suc i) s got = get-shown es i s got
@@ -125,7 +128,8 @@ item-at [] i s h = absurd cc
 item-at (x ∷ es) zero s h = ap (option_map (λ y. y.item)) h
 item-at (x ∷ es) (suc i) s h = item-at es i s h
 
-pub item-found : (es : List (Slot Item)) (i : ℕ) (x : Item) → Some x ≡ slice_get (items_of es) i → (s : Slot Item) × (slice_get es i ≡ Some s) × (s.item ≡ x)
+pub item-found : (es : List (Slot Item)) (i : ℕ) (x : Item) → Some x ≡ slice_get (items_of es) i → (s : Slot Item)
+    × (slice_get es i ≡ Some s) × (s.item ≡ x)
 item-found [] i x h = absurd cc
 item-found (s ∷ es) zero x h = (s, refl, sym (same_Some x s.item h))
 item-found (s ∷ es) (suc i) x h = item-found es i x h

@@ -19,7 +19,8 @@ use Rattle.toml_edit_tree.specs.declared.item.Item.TheViews.{roll-Item, roll-Val
 use Rattle.toml_edit_tree.specs.declared.table.Table.{Table}
 use Rattle.toml_edit_tree.specs.declared.value.Value.{Value, out-Value}
 use Rattle.toml_edit_tree.specs.declared.value.Value.TheVariants as values
-use Rattle.toml_edit_table_like.specs.Kinds.{inline_entries, inline_keeps, inline_shows, inline_stays, table_entries, table_keeps, table_shows, table_stays}
+use Rattle.toml_edit_table_like.specs.Kinds.{inline_entries, inline_keeps, inline_shows, inline_stays, table_entries, table_keeps}
+use Rattle.toml_edit_table_like.specs.Kinds.{table_shows, table_stays}
 use Rattle.toml_edit_table_like.specs.Shown.{shown}
 
 -- ---- one level

@@ -16,7 +16,8 @@ use Rattle.toml_edit_tree.specs.contracts.item.Item.{the_row as item_row}
 use Rattle.toml_edit_tree.specs.contracts.value.Value.{the_row as value_row}
 use Rattle.toml_edit_tree.specs.declared.item.Item.{Item}
 use Rattle.toml_edit_tree.specs.declared.value.Value.{Value, out-Value}
-use Rattle.toml_edit_table_like.specs.InItems.{again-in, beside_in, entries_in, keeps-in, seen-in, slots_seen, stays-in, took-in, value_with, with_entries_in}
+use Rattle.toml_edit_table_like.specs.InItems.{again-in, beside_in, entries_in, keeps-in, seen-in, slots_seen, stays-in, took-in}
+use Rattle.toml_edit_table_like.specs.InItems.{value_with, with_entries_in}
 use Rattle.toml_edit_table_like.specs.Shown.{shown}
 use Rattle.toml_edit_table_like.specs.declared.table_ref_mut.TableRefMut.{TableRefMut}
 

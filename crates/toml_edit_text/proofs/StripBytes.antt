@@ -19,7 +19,8 @@ use Rattle.toml_edit_text.specs.Strip.{strip_owns, strip_lent}
 module _ {M : Type 1} {𝓤 : Ura M} (𝓛 : Logic 𝓤) (l : Lft) where
   pub Lends-bytes : (xs : List ℕ) (b o : ℕ) → Lends 𝓛 (cells (mem u8) xs b o) (elements_shared u8 xs b o) l
   Lends-bytes [] b o = Lends-nothing 𝓛 ftrue l
-  Lends-bytes (x ∷ xs) b o = Lends-both 𝓛 (part_at u8 full_share x b o) (cells (mem u8) xs b (o + 1)) (shared_of u8 x b o) (elements_shared u8 xs b (o + 1)) l
+  Lends-bytes (x ∷ xs) b o =
+      Lends-both 𝓛 (part_at u8 full_share x b o) (cells (mem u8) xs b (o + 1)) (shared_of u8 x b o) (elements_shared u8 xs b (o + 1)) l
       (λ κ ts. (uint_Copied 𝓛 w8).shares full_share l x κ ts b o) (Lends-bytes xs b (o + 1))
 
 bytes-keyless : (xs : List ℕ) (b o : ℕ) → Keyless (cells (mem u8) xs b o)

@@ -23,6 +23,35 @@ pub use mir.Syntax.{named}
 pub use mir.Val.{Val, vint, vptr, WT}
 pub use prog.Wp.{WpFn}
 pub use types.ByLocal.{alloc_all, pass_all, free_all, look_at, get, get_in, through, sets, sets_last, is, env, lands_last}
-pub use types.Kit.{‵, raw, ◌⊛◌, some, given, later, at_ret, ◌$◌, ◌∵◌, !, qed, by, move, keep, drop, split, join, fsplit, fjoin, fpick, pick, learn, use0, use1, rewrite, feq_i, flt_i, await}
+pub use types.Kit.{
+  ‵,
+  raw,
+  ◌⊛◌,
+  some,
+  given,
+  later,
+  at_ret,
+  ◌$◌,
+  ◌∵◌,
+  !,
+  qed,
+  by,
+  move,
+  keep,
+  drop,
+  split,
+  join,
+  fsplit,
+  fjoin,
+  fpick,
+  pick,
+  learn,
+  use0,
+  use1,
+  rewrite,
+  feq_i,
+  flt_i,
+  await,
+}
 pub use types.Part.{agg, sub, whole, look_in}
 pub use types.Run.{enter, returns, first, blocks, exec, stop, fld, load, of_opd, no_more, and_then}

@@ -11,7 +11,8 @@ use contract.Monad.{Fun, fact, fact_i}
 use mir.Val.{Val, vint, vptr, vstruct, of_list, has_ty, WT}
 use prog.Memory.{Memory}
 use prog.Routine.{Routine}
-use types.Kit.{‵, raw, ◌⊛◌, some, later, ◌$◌, ◌∵◌, !, qed, move, drop, use0, use1, split, join, pick, rewrite, fsplit, fsplit3, fjoin, fjoin3, fpick, fpack, feq_l, feq_i, flt_i, check, show, await, updating, now, done}
+use types.Kit.{‵, raw, ◌⊛◌, some, later, ◌$◌, ◌∵◌, !, qed, move, drop, use0, use1, split, join, pick, rewrite, fsplit, fsplit3, fjoin}
+use types.Kit.{fjoin3, fpick, fpack, feq_l, feq_i, flt_i, check, show, await, updating, now, done}
 use types.Logic.{Logic, sem}
 use types.SemTy.{cells}
 use denote.Builtin.{u8, usize, RawPtr}
@@ -51,12 +52,15 @@ abbrev pub row_Typed : (v : Val) (b o n : ℕ) → v ≡ row_val b o n → n < 2
 row_Typed v b o n e fn = subst (λ (z : Val). T (has_ty (layout Row) z) × WT z) (sym e) (tt, (tt, (record { fits = fn }, tt)))
 
 abbrev pub parts_Typed : (v : Val) (b o n : ℕ) → v ≡ row_val b o n → n < 2 ^ 64 → T (has_ty (layout (Tuple (RawPtr ∷ usize ∷ []))) v) × WT v
-parts_Typed v b o n e fn = subst (λ (z : Val). T (has_ty (layout (Tuple (RawPtr ∷ usize ∷ []))) z) × WT z) (sym e) (tt, (tt, (record { fits = fn }, tt)))
+parts_Typed v b o n e fn =
+    subst (λ (z : Val). T (has_ty (layout (Tuple (RawPtr ∷ usize ∷ []))) z) × WT z) (sym e) (tt, (tt, (record { fits = fn }, tt)))
 
 module _ {M : Type 1} {𝓤 : Ura M} (𝓛 : Logic 𝓤) (b o : ℕ) (xs : List ℕ) where
   pub to_bytes : (fs : List Bool) → length fs ≡ length xs → ((k : ℕ) → k < length fs → get_or fs k false ≡ true) → length xs < 2 ^ 63
       → ent 𝓤 (sem 𝓛 (slots u8 (block_ptr b o) xs fs)) (sem 𝓛 (strip_owns (block_ptr b o) xs))
-  to_bytes fs long full fit = qed 𝓛 (‵ (slots u8 (block_ptr b o) xs fs) ∷ []) ∵ use1 𝓛 (‵ (cells (mem u8) xs b o)) (via 𝓤 _ (to_row Byte 𝓛 b xs fs o long full) (whole_in 𝓛 u8 xs b o)) $
+  to_bytes fs long full fit =
+      qed 𝓛 (‵ (slots u8 (block_ptr b o) xs fs) ∷ []) ∵ use1 𝓛 (‵ (cells (mem u8) xs b o))
+      (via 𝓤 _ (to_row Byte 𝓛 b xs fs o long full) (whole_in 𝓛 u8 xs b o)) $
       nothing ! $ fpack ! (Placed (block_ptr b o) xs) (λ _. ftrue) (tt, fit) $ done !
 
   pub of_bytes : ent 𝓤 (sem 𝓛 (cells (mem u8) xs b o)) (sem 𝓛 (slots u8 (block_ptr b o) xs (replicate (length xs) true)))
@@ -85,23 +89,29 @@ module _ {M : Type 1} {𝓤 : Ura M} (𝓛 : Logic 𝓤) (at_mem : Memory → SP
     from_goes fit =
         let Ok : Type 0 = (n ≡ length xs) × (n ≡ length fs) in
         qed 𝓛 (‵ (slots u8 (block_ptr b o) xs fs) ∷ []) ∵ flt_i ! (n * 1) (2 ^ 63) (omega (arith, fit)) $ fjoin ! $
-        use0 𝓛 (raw (fact 𝓤 Ok)) (fact_i 𝓤 Ok (emp 𝓤) (refl, sym (length-replicate n true))) $ join ! $ use0 𝓛 (raw (fact 𝓤 ([] ⊑ []))) (fact_i 𝓤 ([] ⊑ []) (emp 𝓤) (⊑_static [])) $ join ! $
-        nothing ! $ flt_i ! n (2 ^ 64) (omega (arith, fit)) $ feq_i ! (List Val) (vint w64 n ∷ []) (vint w64 n ∷ []) refl $ fjoin ! $ feq_i ! (List Val) (vptr b o ∷ []) (vptr b o ∷ []) refl $ fjoin3 ! $
+        use0 𝓛 (raw (fact 𝓤 Ok)) (fact_i 𝓤 Ok (emp 𝓤) (refl, sym (length-replicate n true))) $ join ! $
+        use0 𝓛 (raw (fact 𝓤 ([] ⊑ []))) (fact_i 𝓤 ([] ⊑ []) (emp 𝓤) (⊑_static [])) $ join ! $
+        nothing ! $ flt_i ! n (2 ^ 64) (omega (arith, fit)) $ feq_i ! (List Val) (vint w64 n ∷ []) (vint w64 n ∷ []) refl $ fjoin ! $
+        feq_i ! (List Val) (vptr b o ∷ []) (vptr b o ∷ []) refl $ fjoin3 ! $
         nothing ! $ use0 𝓛 (‵ (flft [] full_share)) (𝓛.lfts.lft-nil full_share) $ join ! $ join ! $ done !
 
     -- the row is at the pointer, and as long
     abbrev pub Made : Val → Row.Denot → Type 0
     Made v r = (v ≡ row_val b o n) × (slots_ptr r ≡ block_ptr b o) × (slots_len r ≡ n)
 
-    pub from_gives : (v : Val) → ent 𝓤 (From.post at_from v) (H.⇛ (ex 𝓤 (λ (r : Row.Denot). guard 𝓤 (Made v r) (sem 𝓛 (Row.own_val r (row_val b o n ∷ []))))))
+    pub from_gives : (v : Val) → ent 𝓤 (From.post at_from v)
+        (H.⇛ (ex 𝓤 (λ (r : Row.Denot). guard 𝓤 (Made v r) (sem 𝓛 (Row.own_val r (row_val b o n ∷ []))))))
     from_gives v =
         let Is = λ (r : Row.Denot). (slots_ptr r ≡ block_ptr b o) × (slots_len r ≡ n) × (slots_items r ≡ xs) × (slots_filled r ≡ fs) in
         qed 𝓛 (raw (From.post at_from v) ∷ []) ∵ updating ! $
-        use1 𝓛 (later (some (λ (r : Row.Denot). ((‵ (flft [] full_share) ⊛ ‵ ftrue) ⊛ ‵ (Row.own_val r (v ∷ []))) ⊛ some (λ (ws : Unit {0} × (Unit {0} × Unit {0})). ‵ (fsep ftrue (fsep ftrue ftrue)) ⊛ raw (fact 𝓤 (Is r)))))) (id⊢ 𝓤 _) $
-        await ! tt $ pick ! (λ r. split ! $ move ! (1 ∷ []) $ pick ! (λ ws. split ! $ drop ! $ heard ! (Is r) (λ is. split ! $ drop ! $ row_had Byte ! r (v ∷ []) (λ b' o' at e fn fit.
+        use1 𝓛 (later (some (λ (r : Row.Denot). ((‵ (flft [] full_share) ⊛ ‵ ftrue) ⊛ ‵ (Row.own_val r (v ∷ []))) ⊛ some (λ (ws : Unit {0}
+        × (Unit {0} × Unit {0})). ‵ (fsep ftrue (fsep ftrue ftrue)) ⊛ raw (fact 𝓤 (Is r)))))) (id⊢ 𝓤 _) $
+        await ! tt $ pick ! (λ r. split ! $ move ! (1 ∷ []) $
+        pick ! (λ ws. split ! $ drop ! $ heard ! (Is r) (λ is. split ! $ drop ! $ row_had Byte ! r (v ∷ []) (λ b' o' at e fn fit.
         let same : row_val b' o' (slots_len r) ≡ row_val b o n = λ i. words_val ((sym at ∙ is.0) i) (is.1 i) in
         row_made Byte ! r b' o' at fn fit $ rewrite ! 0 (λ (u : Val). ‵ (Row.own_val r (u ∷ []))) same refl $ now ! $
-        show ! (λ (d : Row.Denot). guard 𝓤 (Made v d) (sem 𝓛 (Row.own_val d (row_val b o n ∷ [])))) r $ check ! (ap only e ∙ same, is.0, is.1) $ done !))))
+        show ! (λ (d : Row.Denot). guard 𝓤 (Made v d) (sem 𝓛 (Row.own_val d (row_val b o n ∷ [])))) r $
+        check ! (ap only e ∙ same, is.0, is.1) $ done !))))
 
   module _ (r : Row.Denot) (b o : ℕ) where
     abbrev word : Val
@@ -112,16 +122,24 @@ module _ {M : Type 1} {𝓤 : Ura M} (𝓛 : Logic 𝓤) (at_mem : Memory → SP
 
     pub into_goes : ent 𝓤 (sem 𝓛 (Row.own_val r (word ∷ []))) (Into.pre at_into)
     into_goes =
-        qed 𝓛 (‵ (Row.own_val r (word ∷ [])) ∷ []) ∵ nothing ! $ use0 𝓛 (raw (fact 𝓤 ([] ⊑ []))) (fact_i 𝓤 ([] ⊑ []) (emp 𝓤) (⊑_static [])) $ join ! $
-        nothing ! $ move ! (2 ∷ 0 ∷ []) $ fjoin ! $ nothing ! $ use0 𝓛 (‵ (flft [] full_share)) (𝓛.lfts.lft-nil full_share) $ join ! $ join ! $ done !
+        qed 𝓛 (‵ (Row.own_val r (word ∷ [])) ∷ []) ∵ nothing ! $
+        use0 𝓛 (raw (fact 𝓤 ([] ⊑ []))) (fact_i 𝓤 ([] ⊑ []) (emp 𝓤) (⊑_static [])) $ join ! $
+        nothing ! $ move ! (2 ∷ 0 ∷ []) $ fjoin ! $ nothing ! $ use0 𝓛 (‵ (flft [] full_share)) (𝓛.lfts.lft-nil full_share) $ join ! $
+        join ! $ done !
 
-    pub into_gives : (v : Val) → slots_ptr r ≡ block_ptr b o → ent 𝓤 (Into.post at_into v) (H.⇛ (guard 𝓤 (v ≡ word) (sem 𝓛 (slots u8 (block_ptr b o) (slots_items r) (slots_filled r)))))
+    pub into_gives : (v : Val) → slots_ptr r ≡ block_ptr b o
+        → ent 𝓤 (Into.post at_into v) (H.⇛ (guard 𝓤 (v ≡ word) (sem 𝓛 (slots u8 (block_ptr b o) (slots_items r) (slots_filled r)))))
     into_gives v at =
         let Parts : RattleType = Tuple (RawPtr ∷ usize ∷ []) in
         qed 𝓛 (raw (Into.post at_into v) ∷ []) ∵ updating ! $
-        use1 𝓛 (later (some (λ (p : Parts.Denot). ((‵ (flft [] full_share) ⊛ ‵ ftrue) ⊛ ‵ (Parts.own_val p (v ∷ []))) ⊛ some (λ (ws : Unit {0} × Unit {0}). ‵ (fsep ftrue ftrue)
-        ⊛ raw (fact 𝓤 ((p.0 ≡ slots_ptr r) × (p.1 ≡ slots_len r))) ⊛ ‵ (owned u8 (slots_ptr r) (slots_len r) (slots_items r) (slots_filled r)))))) (id⊢ 𝓤 _) $ await ! tt $ pick ! (λ p.
-        split ! $ move ! (1 ∷ []) $ pick ! (λ ws. split ! $ drop ! $ split ! $ heard ! ((p.0 ≡ slots_ptr r) × (p.1 ≡ slots_len r)) (λ is. fsplit ! $ drop ! $
-        rewrite ! 0 (λ (z : Ptr). ‵ (in_block z (slots u8 z (slots_items r) (slots_filled r)))) at refl $ move ! (1 ∷ []) $ split ! $ drop ! $
+        use1 𝓛 (later (some (λ (p : Parts.Denot). ((‵ (flft [] full_share) ⊛ ‵ ftrue) ⊛ ‵ (Parts.own_val p (v ∷ []))) ⊛ some
+        (λ (ws : Unit {0} × Unit {0}). ‵ (fsep ftrue ftrue)
+        ⊛ raw (fact 𝓤 ((p.0 ≡ slots_ptr r) × (p.1 ≡ slots_len r))) ⊛ ‵
+        (owned u8 (slots_ptr r) (slots_len r) (slots_items r) (slots_filled r)))))) (id⊢ 𝓤 _) $ await ! tt $ pick ! (λ p.
+        split ! $ move ! (1 ∷ []) $ pick ! (λ ws. split ! $ drop ! $ split ! $
+        heard ! ((p.0 ≡ slots_ptr r) × (p.1 ≡ slots_len r)) (λ is. fsplit ! $ drop ! $
+        rewrite ! 0 (λ (z : Ptr). ‵ (in_block z (slots u8 z (slots_items r) (slots_filled r)))) at refl $ move ! (1 ∷ []) $ split ! $
+        drop ! $
         fpick ! (λ vss. fsplit ! $ feq_l ! (λ whole. fsplit3 ! $ feq_l ! (λ e₀. fsplit ! $ feq_l ! (λ e₁. drop ! $ drop ! $ now ! $
-        check ! (ap only whole ∙ (λ i. vstruct (of_list (e₀ i ++ (e₁ i ++ [])))) ∙ (λ i. words_val ((is.0 ∙ at) i) (is.1 i))) $ done !)))))))
+        check ! (ap only whole ∙ (λ i. vstruct (of_list (e₀ i ++ (e₁ i ++ [])))) ∙ (λ i. words_val ((is.0 ∙ at) i) (is.1 i))) $
+        done !)))))))

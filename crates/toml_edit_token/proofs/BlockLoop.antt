@@ -1,5 +1,6 @@
 -- Walking through a string of several lines: each piece, and where it ends.
-use Rattle.std.proofs.Common.{◌≡◌, ◌≢◌, ℕ, zero, suc, ◌+◌, ◌-◌, ◌<◌, ◌≤◌, min, Bool, true, false, cond, ◌==◌, ◌&&◌, [], ◌∷◌, ◌++◌, length, drop, take, get_or, Some, None, refl, sym, ap, subst, ◌∙◌, inl, inr, arith, eqb-true, add-one, IsUtf8, Bor}
+use Rattle.std.proofs.Common.{◌≡◌, ◌≢◌, ℕ, zero, suc, ◌+◌, ◌-◌, ◌<◌, ◌≤◌, min, Bool, true, false, cond, ◌==◌, ◌&&◌, [], ◌∷◌, ◌++◌, length}
+use Rattle.std.proofs.Common.{drop, take, get_or, Some, None, refl, sym, ap, subst, ◌∙◌, inl, inr, arith, eqb-true, add-one, IsUtf8, Bor}
 use Rattle.std.specs.Prelude.{option_and_then}
 use Rattle.std.specs.List.{prefix_len}
 use Rattle.std.specs.Str.{IsCharBoundary}
@@ -14,7 +15,8 @@ use Rattle.toml_edit_model.specs.Spelling.{is_plain}
 use Rattle.toml_edit_laws.specs.reading.Runs.{first, split_while, Read}
 use Rattle.toml_edit_token.specs.Classes.{class_test}
 use Rattle.toml_edit_laws.specs.reading.Tokens.{prepend}
-use Rattle.toml_edit_laws.specs.reading.BlockReading.{run_of, has_three, newline_len, is_gap_byte, gap_len, literal_part_at, escaped_at, basic_part_at, parts_at, inside, block_at}
+use Rattle.toml_edit_laws.specs.reading.BlockReading.{run_of, has_three, newline_len, is_gap_byte, gap_len, literal_part_at, escaped_at}
+use Rattle.toml_edit_laws.specs.reading.BlockReading.{basic_part_at, parts_at, inside, block_at}
 use Rattle.toml_edit_token.specs.declared.block_string.Form.{Form}
 use Rattle.toml_edit_token.specs.declared.block_string.Form.TheVariants.{Basic, Literal}
 use Rattle.toml_edit_token.specs.declared.block_string.Piece.{Piece}
@@ -44,7 +46,8 @@ newline_last t some =
     ]
 
 -- how far the gap goes from here
-pub gap_at : (xs : Text) (i : ℕ) → i < length xs → gap_len (drop i xs) ≡ cond (is_gap_byte (get_or xs i 0) (get_or xs (suc i) 0)) (suc (gap_len (drop (suc i) xs))) 0
+pub gap_at : (xs : Text) (i : ℕ) → i < length xs → gap_len (drop i xs)
+    ≡ cond (is_gap_byte (get_or xs i 0) (get_or xs (suc i) 0)) (suc (gap_len (drop (suc i) xs))) 0
 unfolding gap_len
 gap_at [] i h = absurd (omega arith)
 gap_at (x ∷ xs) zero h = refl
@@ -78,15 +81,19 @@ gap_ascii (x ∷ t) (suc i) h =
     ]
 
 -- one turn in a gap
-pub gap_goes : (xs : Text) (n i : ℕ) → i < length xs → n ≡ i + gap_len (drop i xs) → is_gap_byte (get_or xs i 0) (get_or xs (i + 1) 0) ≡ true → n ≡ (i + 1) + gap_len (drop (i + 1) xs)
+pub gap_goes : (xs : Text) (n i : ℕ) → i < length xs → n ≡ i + gap_len (drop i xs) → is_gap_byte (get_or xs i 0) (get_or xs (i + 1) 0)
+    ≡ true → n ≡ (i + 1) + gap_len (drop (i + 1) xs)
 gap_goes xs n i room so_far on =
-    let here : gap_len (drop i xs) ≡ suc (gap_len (drop (suc i) xs)) = gap_at xs i room ∙ ap (λ (b : Bool). cond b (suc (gap_len (drop (suc i) xs))) 0) (rw add-one at on) in
+    let here : gap_len (drop i xs) ≡ suc (gap_len (drop (suc i) xs)) = gap_at xs i room
+    ∙ ap (λ (b : Bool). cond b (suc (gap_len (drop (suc i) xs))) 0) (rw add-one at on) in
     rw add-one (omega (arith, here))
 
 -- the turn that ends it
-pub gap_stops : (xs : Text) (n i : ℕ) → i < length xs → n ≡ i + gap_len (drop i xs) → is_gap_byte (get_or xs i 0) (get_or xs (i + 1) 0) ≡ false → i ≡ n
+pub gap_stops : (xs : Text) (n i : ℕ) → i < length xs → n ≡ i + gap_len (drop i xs) → is_gap_byte (get_or xs i 0) (get_or xs (i + 1) 0)
+    ≡ false → i ≡ n
 gap_stops xs n i room so_far off =
-    let here : gap_len (drop i xs) ≡ 0 = gap_at xs i room ∙ ap (λ (b : Bool). cond b (suc (gap_len (drop (suc i) xs))) 0) (rw add-one at off) in
+    let here : gap_len (drop i xs) ≡ 0 = gap_at xs i room
+    ∙ ap (λ (b : Bool). cond b (suc (gap_len (drop (suc i) xs))) 0) (rw add-one at off) in
     omega (arith, here)
 
 -- a gap with a line feed is not empty
@@ -120,7 +127,8 @@ boundary_in_run c t (suc n) utf8 some ascii within =
 
 -- a newline ends where a character does
 pub boundary_of_newline : (t : Text) → IsUtf8 t → 0 < newline_len t → IsCharBoundary t (newline_len t)
-boundary_of_newline t utf8 some = boundary_behind t (newline_len t) utf8 some (omega (arith, newline_last t some)) (omega (arith, newline_last t some))
+boundary_of_newline t utf8 some =
+    boundary_behind t (newline_len t) utf8 some (omega (arith, newline_last t some)) (omega (arith, newline_last t some))
 
 -- ---- one piece
 
@@ -138,17 +146,20 @@ module _ (part_at : Text → Read Text) (c n : ℕ) (t : Text) where
   piece_closes many = rw (le-leb 3 (run_of c t) many) refl
 
   -- quotes of the string
-  piece_quotes : 0 < run_of c t → run_of c t < 3 → parts_at part_at c (suc n) t ≡ prepend (take (run_of c t) t) (parts_at part_at c n (drop (run_of c t) t))
+  piece_quotes : 0 < run_of c t → run_of c t < 3 → parts_at part_at c (suc n) t
+      ≡ prepend (take (run_of c t) t) (parts_at part_at c n (drop (run_of c t) t))
   unfolding parts_at
   piece_quotes some few = rw (lt-leb 3 (run_of c t) few, lt-ltb 0 (run_of c t) some) refl
 
   -- a newline
-  piece_line : run_of c t ≡ 0 → 0 < newline_len t → parts_at part_at c (suc n) t ≡ prepend (take (newline_len t) t) (parts_at part_at c n (drop (newline_len t) t))
+  piece_line : run_of c t ≡ 0 → 0 < newline_len t → parts_at part_at c (suc n) t
+      ≡ prepend (take (newline_len t) t) (parts_at part_at c n (drop (newline_len t) t))
   unfolding parts_at
   piece_line none some = rw (none, lt-ltb 0 (newline_len t) some) refl
 
   -- a part of a line
-  piece_part : run_of c t ≡ 0 → newline_len t ≡ 0 → parts_at part_at c (suc n) t ≡ option_and_then (λ p. prepend p.0 (parts_at part_at c n p.1)) (part_at t)
+  piece_part : run_of c t ≡ 0 → newline_len t ≡ 0 → parts_at part_at c (suc n) t
+      ≡ option_and_then (λ p. prepend p.0 (parts_at part_at c n p.1)) (part_at t)
   unfolding parts_at
   piece_part none no_line = rw (none, no_line) refl
 
@@ -162,7 +173,8 @@ own_byte Literal n x t itself =
     step_part literal_part_at 39 n (x ∷ t) (x ∷ []) t quote (no_newline x t feed return) (unfold literal_part_at in rw itself refl)
 
 -- bytes that stand for themselves
-pub own_piece : (f : Form) (t : Text) (n : ℕ) → length t < n → GoesOn f (form_at f n t) (split_while (class_test (class_of f)) t).0 (split_while (class_test (class_of f)) t).1
+pub own_piece : (f : Form) (t : Text) (n : ℕ) → length t < n
+    → GoesOn f (form_at f n t) (split_while (class_test (class_of f)) t).0 (split_while (class_test (class_of f)) t).1
 own_piece f t zero h = absurd (omega arith)
 own_piece f [] (suc n) h = (suc n, h, sym (prepend-nil _))
 own_piece f (x ∷ t) (suc n) h =
@@ -198,8 +210,11 @@ pub quotes_piece : (f : Form) (t : Text) (n : ℕ) → length t < n → 0 < run_
     → GoesOn f (form_at f n t) (take (run_of (delimiter_of f) t) t) (drop (run_of (delimiter_of f) t) t)
 quotes_piece f t zero room some few = absurd (omega arith)
 quotes_piece f t (suc n) room some few =
-    let k = run_of (delimiter_of f) t in
-    (n, omega (arith, length-drop k t, prefix_len-le-length (λ x. x == delimiter_of f) t), piece_quotes (part_of f) (delimiter_of f) n t some few)
+    let k = run_of (delimiter_of f) t in (
+      n,
+      omega (arith, length-drop k t, prefix_len-le-length (λ x. x == delimiter_of f) t),
+      piece_quotes (part_of f) (delimiter_of f) n t some few,
+    )
 
 -- a newline is no longer than the text
 pub newline_within : (t : Text) → 0 < newline_len t → newline_len t ≤ length t
@@ -213,15 +228,21 @@ line_piece f t (suc n) room none some =
     (n, omega (arith, length-drop (newline_len t) t, newline_within t some), piece_line (part_of f) (delimiter_of f) n t none some)
 
 -- what a backslash begins
-pub escaped_piece : (f : Form) (t : Text) (n : ℕ) (v rest : Text) → f ≡ Basic → length t < n → run_of (delimiter_of f) t ≡ 0 → newline_len t ≡ 0 → first t ≡ 92
+pub escaped_piece : (f : Form) (t : Text) (n : ℕ) (v rest : Text) → f ≡ Basic → length t < n → run_of (delimiter_of f) t ≡ 0 → newline_len t
+    ≡ 0 → first t ≡ 92
     → escaped_at (drop 1 t) ≡ Some (v, rest) → length rest < length t → GoesOn f (form_at f n t) v rest
 escaped_piece Literal t n v rest basic room none no_line slash found shorter = absurd cc
 escaped_piece Basic t zero v rest basic room none no_line slash found shorter = absurd (omega arith)
-escaped_piece Basic t (suc n) v rest basic room none no_line slash found shorter =
-    (n, omega arith, piece_part basic_part_at 34 n t none no_line ∙ ap (option_and_then (λ p. prepend p.0 (parts_at basic_part_at 34 n p.1))) (basic_slash t slash ∙ found))
+escaped_piece Basic t (suc n) v rest basic room none no_line slash found shorter = (
+  n,
+  omega arith,
+  piece_part basic_part_at 34 n t none no_line
+      ∙ ap (option_and_then (λ p. prepend p.0 (parts_at basic_part_at 34 n p.1))) (basic_slash t slash ∙ found),
+)
 
 -- what goes on by no piece
-pub no_piece : (f : Form) (t : Text) (n : ℕ) → length t < n → run_of (delimiter_of f) t ≡ 0 → newline_len t ≡ 0 → part_of f t ≡ None → form_at f n t ≡ None
+pub no_piece : (f : Form) (t : Text) (n : ℕ) → length t < n → run_of (delimiter_of f) t ≡ 0 → newline_len t ≡ 0 → part_of f t ≡ None
+    → form_at f n t ≡ None
 no_piece f t zero room none no_line nothing = absurd (omega arith)
 no_piece f t (suc n) room none no_line nothing =
     piece_part (part_of f) (delimiter_of f) n t none no_line ∙ ap (option_and_then (λ p. prepend p.0 (form_at f n p.1))) nothing
@@ -240,29 +261,36 @@ slash_none Literal t basic slash nothing = absurd cc
 -- ---- the same of what the code has
 
 -- a run of bytes and what follows, by other names
-pub own_is : (f : Form) (t : Text) (n : ℕ) (k : Class) (own rest : Text) → length t < n → k ≡ class_of f → (own, rest) ≡ split_while (class_test k) t → GoesOn f (form_at f n t) own rest
+pub own_is : (f : Form) (t : Text) (n : ℕ) (k : Class) (own rest : Text) → length t < n → k ≡ class_of f → (own, rest)
+    ≡ split_while (class_test k) t → GoesOn f (form_at f n t) own rest
 own_is f t n k own rest room same parts =
-    subst (λ (p : Text × Text). GoesOn f (form_at f n t) p.0 p.1) (sym (parts ∙ ap (λ (k : Class). split_while (class_test k) t) same)) (own_piece f t n room)
+    subst (λ (p : Text × Text). GoesOn f (form_at f n t) p.0 p.1) (sym (parts ∙ ap (λ (k : Class). split_while (class_test k) t) same))
+    (own_piece f t n room)
 
 -- the closing quotes, by other names
-pub last_is : (f : Form) (t : Text) (n run end : ℕ) (own rest : Text) → length t < n → run ≡ run_of (delimiter_of f) t → 3 ≤ run → end ≡ min run 5
+pub last_is : (f : Form) (t : Text) (n run end : ℕ) (own rest : Text) → length t < n → run ≡ run_of (delimiter_of f) t → 3 ≤ run → end
+    ≡ min run 5
     → own ≡ take (end - 3) t → rest ≡ drop end t → form_at f n t ≡ Some (own, rest)
 last_is f t n run end own rest room same many least front back =
     let e : min (run_of (delimiter_of f) t) 5 ≡ end = ap (λ (k : ℕ). min k 5) (sym same) ∙ sym least in
-    last_piece f t n room (omega arith) ∙ ap (λ (k : ℕ). Some (take (k - 3) t, drop k t)) e ∙ ap (λ (x : Text). Some (x, drop end t)) (sym front) ∙ ap (λ (x : Text). Some (own, x)) (sym back)
+    last_piece f t n room (omega arith) ∙ ap (λ (k : ℕ). Some (take (k - 3) t, drop k t)) e
+    ∙ ap (λ (x : Text). Some (x, drop end t)) (sym front) ∙ ap (λ (x : Text). Some (own, x)) (sym back)
 
 -- quotes that close nothing, by other names
-pub quotes_is : (f : Form) (t : Text) (n run : ℕ) (own rest : Text) → length t < n → run ≡ run_of (delimiter_of f) t → 0 < run → run < 3 → own ≡ take run t → rest ≡ drop run t
+pub quotes_is : (f : Form) (t : Text) (n run : ℕ) (own rest : Text) → length t < n → run ≡ run_of (delimiter_of f) t → 0 < run → run < 3
+    → own ≡ take run t → rest ≡ drop run t
     → GoesOn f (form_at f n t) own rest
 quotes_is f t n run own rest room same some few front back = rw (front, back, same) (quotes_piece f t n room (omega arith) (omega arith))
 
 -- a newline, by other names
-pub line_is : (f : Form) (t : Text) (n len : ℕ) (own rest : Text) → length t < n → run_of (delimiter_of f) t ≡ 0 → len ≡ newline_len t → 0 < len → own ≡ take len t → rest ≡ drop len t
+pub line_is : (f : Form) (t : Text) (n len : ℕ) (own rest : Text) → length t < n → run_of (delimiter_of f) t ≡ 0 → len ≡ newline_len t
+    → 0 < len → own ≡ take len t → rest ≡ drop len t
     → GoesOn f (form_at f n t) own rest
 line_is f t n len own rest room none same some front back = rw (front, back, same) (line_piece f t n room none (omega arith))
 
 -- no byte that stands for itself, by other names
-pub own_none_is : (f : Form) (t : Text) (k : Class) (own rest : Text) → k ≡ class_of f → (own, rest) ≡ split_while (class_test k) t → length own ≡ 0 → class_test (class_of f) (first t) ≡ false
+pub own_none_is : (f : Form) (t : Text) (k : Class) (own rest : Text) → k ≡ class_of f → (own, rest) ≡ split_while (class_test k) t
+    → length own ≡ 0 → class_test (class_of f) (first t) ≡ false
 own_none_is f t k own rest same parts none =
     own_none f t (sym (ap (λ (p : Text × Text). length p.0) (parts ∙ ap (λ (k : Class). split_while (class_test k) t) same)) ∙ none)
 
@@ -308,7 +336,8 @@ unopened t e =
     ]
 
 -- one piece more
-goes_more : (f : Form) (r : Read Text) (out bytes rest next : Text) (m : ℕ) → r ≡ prepend out (form_at f m rest) → GoesOn f (form_at f m rest) bytes next → GoesOn f r (out ++ bytes) next
+goes_more : (f : Form) (r : Read Text) (out bytes rest next : Text) (m : ℕ) → r ≡ prepend out (form_at f m rest)
+    → GoesOn f (form_at f m rest) bytes next → GoesOn f r (out ++ bytes) next
 goes_more f r out bytes rest next m e (k, room, more) = (k, room, e ∙ ap (prepend out) more ∙ prepend-prepend out bytes _)
 
 -- what stands next, at any depth that suffices
@@ -321,7 +350,8 @@ module _ (f : Form) (r : Read Text) (out rest next : Text) (h : GoesOn f r out r
   own_goes own reads = let (m, room, e) = h in goes_more f r out own rest next m e (reads m room)
 
   -- the reading goes on behind a piece that is not the last
-  pub piece_goes : (piece : Piece) → Next f rest piece next → ((own : Bor Text) → piece ≡ Last own → ⊥) → (more : Text) × GoesOn f r more next
+  pub piece_goes : (piece : Piece) → Next f rest piece next → ((own : Bor Text) → piece ≡ Last own → ⊥) → (more : Text)
+      × GoesOn f r more next
   piece_goes (Own own) reads other = (out ++ own.now, own_goes own.now reads)
   piece_goes (Escaped c) reads other = (out ++ escaped_text c, own_goes (escaped_text c) reads)
   piece_goes (Last own) reads other = absurd (other own refl)
@@ -354,7 +384,8 @@ module _ (f : Form) (s own rest : Text) (k : Class) (same : k ≡ class_of f) (p
       → ((m : ℕ) → length rest < m → GoesOn f (form_at f m rest) (take i rest) (drop i rest)) → GoesOn f (form_at f n s) x y
   bytes_behind n i x y room front back reads =
       let both = own_goes f (form_at f n s) own rest (drop i rest) (own_is f s n k own rest room same parts) (take i rest) reads in
-      subst (λ (p : Text × Text). GoesOn f (form_at f n s) p.0 p.1) (λ j. (sym (front ∙ front_behind i) j, sym (back ∙ back_behind i) j)) both
+      subst (λ (p : Text × Text). GoesOn f (form_at f n s) p.0 p.1) (λ j. (sym (front ∙ front_behind i) j, sym (back ∙ back_behind i) j))
+      both
 
   -- quotes behind it that close nothing
   pub quotes_behind : (n run : ℕ) (x y : Text) → length s < n → run ≡ run_of (delimiter_of f) rest → 0 < run → run < 3

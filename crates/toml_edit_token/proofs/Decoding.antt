@@ -1,5 +1,6 @@
 -- Whole texts: what is decoded is spelled, and what is spelled is decoded.
-use Rattle.std.proofs.Common.{◌≡◌, ℤ, Bool, true, false, cond, List, [], ◌∷◌, Option, Some, None, Result, Ok, Err, refl, sym, ap, subst, ◌∙◌, inl, inr, append-nil}
+use Rattle.std.proofs.Common.{◌≡◌, ℤ, Bool, true, false, cond, List, [], ◌∷◌, Option, Some, None, Result, Ok, Err, refl, sym, ap, subst}
+use Rattle.std.proofs.Common.{◌∙◌, inl, inr, append-nil}
 use Rattle.std.specs.Prelude.{option_map, IfOk, IfSome, IsSomeAnd, MatchOption}
 use Rattle.std.specs.Result.{result_ok}
 use Rattle.std.proofs.lemmas.Bool.{cases_Bool}
@@ -96,11 +97,13 @@ module _ (t : Text) where
       ]
 
   -- a date or a time that was read is what the text reads as
-  pub datetime_read : {D E : Type 0} (view : D → scalars.Datetime) (r : Result D E) → IfOk r (λ d. SpellsInRange (scalars.datetime (view d)) t)
+  pub datetime_read : {D E : Type 0} (view : D → scalars.Datetime) (r : Result D E)
+      → IfOk r (λ d. SpellsInRange (scalars.datetime (view d)) t)
       → ((d : scalars.Datetime) → SpellsDatetime d t → is_in_range (scalars.datetime d) t ≡ true → option_map view (result_ok r) ≡ Some d)
       → option_map (λ d. scalars.datetime (view d)) (result_ok r) ≡ ranged t (option_map (λ d. scalars.datetime d) (datetime_of t))
   datetime_read view (Ok d) (spells, fits) only =
-      sym (ap (λ (o : Option scalars.Datetime). ranged t (option_map (λ d. scalars.datetime d) o)) (datetime_again t (view d) spells) ∙ read_range (scalars.datetime (view d)) true fits)
+      sym (ap (λ (o : Option scalars.Datetime). ranged t (option_map (λ d. scalars.datetime d) o)) (datetime_again t (view d) spells)
+      ∙ read_range (scalars.datetime (view d)) true fits)
   datetime_read {D} view (Err e) found only =
       out_of_range (datetime_of t) refl (λ d is. absurd (cc (only d is.0 is.1)))
 

@@ -21,7 +21,8 @@ module _ {R : Type 0} (f : R → Text) (t : Text) where
   pub key_only : (o : Option R) → option_map f o ≡ option_map (λ p. p.1) (key_at t)
       → (k spelled rest : Text) → SpellsKey k spelled → ends_key rest ≡ true → t ≡ spelled ++ rest → option_map f o ≡ Some rest
   key_only o e k spelled rest spells stop parts =
-      e ∙ ap (λ x. option_map (λ (p : Text × Text). p.1) (key_at x)) parts ∙ ap (option_map (λ (p : Text × Text). p.1)) (key_again k spelled rest spells stop)
+      e ∙ ap (λ x. option_map (λ (p : Text × Text). p.1) (key_at x)) parts
+      ∙ ap (option_map (λ (p : Text × Text). p.1)) (key_again k spelled rest spells stop)
 
   pub scalar_found : (o : Option R) → option_map f o ≡ option_map (λ p. p.1) (scalar_at t)
       → IfSome o (λ r. (x : Scalar) × (spelled : Text) × Spells x spelled × (t ≡ spelled ++ f r))
@@ -34,4 +35,5 @@ module _ {R : Type 0} (f : R → Text) (t : Text) where
   pub scalar_only : (o : Option R) → option_map f o ≡ option_map (λ p. p.1) (scalar_at t)
       → (x : Scalar) (spelled rest : Text) → Spells x spelled → ends_scalar rest ≡ true → t ≡ spelled ++ rest → option_map f o ≡ Some rest
   scalar_only o e x spelled rest spells stop parts =
-      e ∙ ap (λ y. option_map (λ (p : Scalar × Text). p.1) (scalar_at y)) parts ∙ ap (option_map (λ (p : Scalar × Text). p.1)) (scalar_again x spelled rest spells stop)
+      e ∙ ap (λ y. option_map (λ (p : Scalar × Text). p.1) (scalar_at y)) parts
+      ∙ ap (option_map (λ (p : Scalar × Text). p.1)) (scalar_again x spelled rest spells stop)

@@ -1,5 +1,6 @@
 -- The loop over the digits of a number, a turn at a time.
-use Rattle.std.proofs.Common.{◌≡◌, ℕ, ◌+◌, ◌*◌, ◌<◌, ◌≤◌, Bool, true, false, cond, ◌==◌, ◌&&◌, List, length, get_or, drop, Option, Some, None, is_some, refl, ap, inl, inr, arith, mul-le-mul_left, le_trans, nat_lt, ◌∙◌, eqb-true}
+use Rattle.std.proofs.Common.{◌≡◌, ℕ, ◌+◌, ◌*◌, ◌<◌, ◌≤◌, Bool, true, false, cond, ◌==◌, ◌&&◌, List, length, get_or, drop, Option, Some}
+use Rattle.std.proofs.Common.{None, is_some, refl, ap, inl, inr, arith, mul-le-mul_left, le_trans, nat_lt, ◌∙◌, eqb-true}
 use Rattle.std.specs.Char.{is_digit, digit_value}
 use Rattle.std.proofs.lemmas.Bool.{eq-eqb, le-ltb}
 use Rattle.std.proofs.lemmas.List.{drop_more, drop_all}
@@ -16,22 +17,28 @@ none_of o false b h = refl
 
 module _ (base : ℕ) (after_digit : Bool) (n : ℕ) (ds : List ℕ) (i : ℕ) (within : i < length ds) where
   -- a digit
-  pub turn_digit : is_digit (get_or ds i 0) base ≡ true → digits_at base after_digit n (drop i ds) ≡ digits_at base true (n * base + digit_value (get_or ds i 0)) (drop (i + 1) ds)
+  pub turn_digit : is_digit (get_or ds i 0) base ≡ true → digits_at base after_digit n (drop i ds)
+      ≡ digits_at base true (n * base + digit_value (get_or ds i 0)) (drop (i + 1) ds)
   unfolding digits_at
   turn_digit h = ap (digits_at base after_digit n) (drop_more ds i 0 within) ∙ rw h refl
 
   -- an underscore behind a digit
-  pub turn_under : is_digit (get_or ds i 0) base ≡ false → after_digit ≡ true → get_or ds i 0 ≡ 0x5F → digits_at base after_digit n (drop i ds) ≡ digits_at base false n (drop (i + 1) ds)
+  pub turn_under : is_digit (get_or ds i 0) base ≡ false → after_digit ≡ true → get_or ds i 0 ≡ 0x5F
+      → digits_at base after_digit n (drop i ds) ≡ digits_at base false n (drop (i + 1) ds)
   unfolding digits_at
-  turn_under h after under = ap (digits_at base after_digit n) (drop_more ds i 0 within) ∙ rw (h, after, eq-eqb (get_or ds i 0) 0x5F under) refl
+  turn_under h after under = ap (digits_at base after_digit n) (drop_more ds i 0 within)
+      ∙ rw (h, after, eq-eqb (get_or ds i 0) 0x5F under) refl
 
   -- any other byte
-  pub turn_bad : is_digit (get_or ds i 0) base ≡ false → (after_digit ≡ true → get_or ds i 0 ≡ 0x5F → ⊥) → digits_at base after_digit n (drop i ds) ≡ None
+  pub turn_bad : is_digit (get_or ds i 0) base ≡ false → (after_digit ≡ true → get_or ds i 0 ≡ 0x5F → ⊥)
+      → digits_at base after_digit n (drop i ds) ≡ None
   unfolding digits_at
-  turn_bad h other = ap (digits_at base after_digit n) (drop_more ds i 0 within) ∙ rw h (none_of _ after_digit (get_or ds i 0 == 0x5F) (λ a b. other a (eqb-true (get_or ds i 0) 0x5F b)))
+  turn_bad h other = ap (digits_at base after_digit n) (drop_more ds i 0 within)
+      ∙ rw h (none_of _ after_digit (get_or ds i 0 == 0x5F) (λ a b. other a (eqb-true (get_or ds i 0) 0x5F b)))
 
 -- where the digits end there is a number behind a digit
-pub turn_end : (base : ℕ) (after_digit : Bool) (n : ℕ) (ds : List ℕ) (i : ℕ) → length ds ≤ i → digits_at base after_digit n (drop i ds) ≡ cond after_digit (Some n) None
+pub turn_end : (base : ℕ) (after_digit : Bool) (n : ℕ) (ds : List ℕ) (i : ℕ) → length ds ≤ i → digits_at base after_digit n (drop i ds)
+    ≡ cond after_digit (Some n) None
 unfolding digits_at
 turn_end base after_digit n ds i past = ap (digits_at base after_digit n) (drop_all i ds past) ∙ refl
 
@@ -73,7 +80,8 @@ pub below_none : (base limit : ℕ) (whole : List ℕ) → digits_at base false 
 below_none base limit whole e = rw e refl
 
 -- where the digits end there is a number below the limit, if a digit stands last and the number is
-pub below_end : (base limit : ℕ) (after_digit : Bool) (n : ℕ) (whole : List ℕ) → cond after_digit (Some n) None ≡ digits_at base false 0 whole
+pub below_end : (base limit : ℕ) (after_digit : Bool) (n : ℕ) (whole : List ℕ) → cond after_digit (Some n) None
+    ≡ digits_at base false 0 whole
     → if_below limit (natural_of base whole) ≡ cond (after_digit && nat_lt n limit) (Some n) None
 below_end base limit true n whole e = rw (← e) refl
 below_end base limit false n whole e = rw (← e) refl

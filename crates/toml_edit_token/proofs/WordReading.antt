@@ -1,5 +1,6 @@
 -- A word is read by one try after the other: as an integer in range, as a float, as a date or a time.
-use Rattle.std.proofs.Common.{◌≡◌, true, [], Option, Some, None, if◌then◌else◌, refl, sym, ap, ◌∙◌, ◌++◌, ◌⊎◌, inl, inr, append-nil, drop, take, take-append-drop}
+use Rattle.std.proofs.Common.{◌≡◌, true, [], Option, Some, None, if◌then◌else◌, refl, sym, ap, ◌∙◌, ◌++◌, ◌⊎◌, inl, inr, append-nil, drop}
+use Rattle.std.proofs.Common.{take, take-append-drop}
 use Rattle.std.specs.Prelude.{option_map}
 use Rattle.toml_edit_model.specs.Text.{Text}
 use Rattle.toml_edit_model.specs.Scalars.{Scalar, float, datetime, Datetime}
@@ -29,7 +30,8 @@ word_whole t begins =
       | inr none ↦ elim (either_option (whole (scalar_at t))) [
         | inl (s, found) ↦
             let n = word_len t in
-            let read : option_map (λ (w : Scalar). (w, drop n t)) (word_scalar (take n t)) ≡ Some (s, []) = rw begins at (whole_some (scalar_at t) s found) in
+            let read : option_map (λ (w : Scalar). (w, drop n t)) (word_scalar (take n t)) ≡ Some (s, []) =
+            rw begins at (whole_some (scalar_at t) s found) in
             let (w, is, same) = map_some (word_scalar (take n t)) (λ (w : Scalar). (w, drop n t)) (s, []) read in
             let rest : drop n t ≡ [] = ap (λ (p : Scalar × Text). p.1) same in
             let all : take n t ≡ t = sym (append-nil (take n t)) ∙ ap (λ (x : Text). take n t ++ x) (sym rest) ∙ take-append-drop n t in
@@ -39,13 +41,15 @@ word_whole t begins =
     ]
 
 -- a float
-pub word_float : (t f : Text) (o : Option Text) → o ≡ (if is_float_text t then Some t else None) → o ≡ Some f → Some (float f) ≡ ranged t (word_scalar t)
+pub word_float : (t f : Text) (o : Option Text) → o ≡ (if is_float_text t then Some t else None) → o ≡ Some f → Some (float f)
+    ≡ ranged t (word_scalar t)
 word_float t f o same is =
     let (float_is, text) = guard_some (is_float_text t) t f (sym same ∙ is) in
     ap (λ (x : Text). Some (float x)) (sym text) ∙ sym (ap (ranged t) (float_word t (float_takes t float_is)))
 
 -- a date or a time
-pub word_date : (t : Text) (d : Datetime) → Some (datetime d) ≡ ranged t (option_map (λ d. datetime d) (datetime_of t)) → Some (datetime d) ≡ ranged t (word_scalar t)
+pub word_date : (t : Text) (d : Datetime) → Some (datetime d) ≡ ranged t (option_map (λ d. datetime d) (datetime_of t)) → Some (datetime d)
+    ≡ ranged t (word_scalar t)
 word_date t d h =
     let read = λ (o : Option Datetime). ranged t (option_map (λ d. datetime d) o) in
     elim (either_option (datetime_of t)) [

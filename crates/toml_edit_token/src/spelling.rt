@@ -1,5 +1,5 @@
 //! Putting the default spellings of strings and keys into sinks.
-#![tactic(auto, using(toml_edit_stream::proofs::Puts::put_steps))]
+#![tactic(auto, using(toml_edit_io::proofs::Puts::put_steps))]
 
 ghost use Rattle.std.specs.Prelude.{◌≡◌, ◌+◌, ◌<◌, false, length, drop, slice_index};
 ghost use Rattle.std.specs.Fmt.{WritesInCalls};
@@ -10,7 +10,7 @@ ghost use Rattle.toml_edit_model.specs.Spelling.{is_plain};
 ghost use Rattle.toml_edit_token.specs.Classes.{class_test};
 
 use crate::run::{Class, first, has_line_feed, split_run};
-use toml_edit_stream::Sink;
+use toml_edit_io::Sink;
 
 /// Puts the default spelling of a string.
 ///
@@ -118,7 +118,7 @@ fn put_escape<S: Sink>(out: &mut S, byte: u8, many_lines: bool)
 }
 
 /// Puts the byte as `\u00` and two hexadecimal digits.
-#[tactic(auto, using(toml_edit_stream::proofs::Puts::put_steps, std::proofs::lemmas::Grind::common_steps))]
+#[tactic(auto, using(toml_edit_io::proofs::Puts::put_steps, std::proofs::lemmas::Grind::common_steps))]
 fn put_numbered<S: Sink>(out: &mut S, byte: u8)
     requires { byte < 128 }
     ensures { WritesInCalls S.puts out.old (spec.numbered_escape byte) out.new }

@@ -1,5 +1,7 @@
 -- The values of an array that a line is added to or removed from.
-use Rattle.std.proofs.Common.{append-nil, append_assoc, ◌≡◌, ℕ, zero, suc, ◌+◌, ◌-◌, ◌<◌, ◌≤◌, ◌==◌, Bor, Bool, true, false, drop, get_or, subst, MatchOption, List, [], ◌∷◌, Option, Some, None, ap, sym, refl, ◌∙◌, inl, inr, arith, length, leb, IsSome, if◌then◌else◌}
+use Rattle.std.proofs.Common.{append-nil, append_assoc, ◌≡◌, ℕ, zero, suc, ◌+◌, ◌-◌, ◌<◌, ◌≤◌, ◌==◌, Bor, Bool, true, false, drop, get_or}
+use Rattle.std.proofs.Common.{subst, MatchOption, List, [], ◌∷◌, Option, Some, None, ap, sym, refl, ◌∙◌, inl, inr, arith, length, leb}
+use Rattle.std.proofs.Common.{IsSome, if◌then◌else◌}
 use Rattle.std.specs.Prelude.{filter, flat_map, nat_lt, not, option_and_then, option_map, ◌++◌, ◌||◌}
 use Rattle.std.proofs.lemmas.Bool.{cases_Bool, eqb-true}
 use Rattle.std.proofs.lemmas.Bool.Decides.{nat_tests}
@@ -15,8 +17,11 @@ use Rattle.toml_edit_model.specs.ArrayCalls.{inserted_at, removed_at, value_at, 
 use Rattle.toml_edit_model.specs.Conversions.{with_decor}
 use Rattle.toml_edit_model.specs.Slots.{changed_at}
 use Rattle.toml_edit_model.specs.Text.{Text, one}
-use Rattle.toml_edit_model.specs.Tree.{ArrayFields, Decor, Node, Raw, owned, nothing, leaf, list, inline, table, tables, is_value_node, node_decor}
-use Rattle.toml_edit_tree.specs.ArrayLines.{after_newline, broken_gap, first_newline, followed, gap, gaps_around, gaps_on_line, indent_at, is_broken, is_last, line_begun, newline_at, newline_in, placed, prefix_at, prefixes, suffix_at, takes_lines, text_above, text_after, with_suffix}
+use Rattle.toml_edit_model.specs.Tree.{ArrayFields, Decor, Node, Raw, owned, nothing, leaf, list, inline, table, tables, is_value_node}
+use Rattle.toml_edit_model.specs.Tree.{node_decor}
+use Rattle.toml_edit_tree.specs.ArrayLines.{after_newline, broken_gap, first_newline, followed, gap, gaps_around, gaps_on_line, indent_at}
+use Rattle.toml_edit_tree.specs.ArrayLines.{is_broken, is_last, line_begun, newline_at, newline_in, placed, prefix_at, prefixes, suffix_at}
+use Rattle.toml_edit_tree.specs.ArrayLines.{takes_lines, text_above, text_after, with_suffix}
 
 abbrev without_suffix : Node → Node
 without_suffix = with_suffix (owned [])
@@ -36,7 +41,8 @@ redone h n = with_decor (h (node_decor n)) n
 
 module _ (h : Decor → Decor) where
   -- a write of the value with another decor
-  pub decor-written : (xs : List Node) (i : ℕ) (n : Node) → value_at i xs ≡ Some n → written_at i (redone h n) xs ≡ changed_at i (redone h) xs
+  pub decor-written : (xs : List Node) (i : ℕ) (n : Node) → value_at i xs ≡ Some n → written_at i (redone h n) xs
+      ≡ changed_at i (redone h) xs
   decor-written [] i n e = refl
   decor-written (x ∷ xs) zero n e = ap (λ y. redone h y ∷ xs) (sym (value-is x n e))
   decor-written (x ∷ xs) (suc i) n e = ap (λ l. x ∷ l) (decor-written xs i n e)
@@ -67,7 +73,8 @@ changed-past h (x ∷ xs) zero l = absurd (omega arith)
 changed-past h (x ∷ xs) (suc i) l = ap (λ l. x ∷ l) (changed-past h xs i (omega arith))
 
 -- a change of what was inserted
-pub changed-inserted : (h : Node → Node) (xs : List Node) (i : ℕ) (v : Node) → i ≤ length xs → changed_at i h (inserted_at i v xs) ≡ inserted_at i (h v) xs
+pub changed-inserted : (h : Node → Node) (xs : List Node) (i : ℕ) (v : Node) → i ≤ length xs → changed_at i h (inserted_at i v xs)
+    ≡ inserted_at i (h v) xs
 changed-inserted h [] zero v l = refl
 changed-inserted h [] (suc i) v l = absurd (omega arith)
 changed-inserted h (x ∷ xs) zero v l = refl
@@ -84,7 +91,8 @@ placed-bare r nothing = refl
 
 -- the value that was the last loses its suffix
 followed-at : (r : Raw) (v : Node) (xs : List Node) (j : ℕ) → suc j ≡ length xs
-    → changed_at (suc j) (placed r) (changed_at j without_suffix (inserted_at (suc j) v xs)) ≡ inserted_at (suc j) (placed r v) (changed_at j without_suffix xs)
+    → changed_at (suc j) (placed r) (changed_at j without_suffix (inserted_at (suc j) v xs))
+    ≡ inserted_at (suc j) (placed r v) (changed_at j without_suffix xs)
 followed-at r v [] j e = absurd (omega (arith, e))
 followed-at r v (x ∷ []) zero e = refl
 followed-at r v (x ∷ []) (suc j) e = absurd (omega (arith, e))
@@ -92,7 +100,8 @@ followed-at r v (x ∷ y ∷ xs) zero e = absurd (omega (arith, e))
 followed-at r v (x ∷ y ∷ xs) (suc j) e = ap (λ l. x ∷ l) (followed-at r v (y ∷ xs) j (omega (arith, e)))
 
 pub followed-placed : (r : Raw) (v : Node) (xs : List Node) (i : ℕ) → i ≡ length xs
-    → changed_at i (placed r) (changed_at (i - 1) without_suffix (inserted_at i v xs)) ≡ inserted_at i (placed r v) (changed_at (length xs - 1) without_suffix xs)
+    → changed_at i (placed r) (changed_at (i - 1) without_suffix (inserted_at i v xs))
+    ≡ inserted_at i (placed r v) (changed_at (length xs - 1) without_suffix xs)
 followed-placed r v [] zero e = ap one (placed-bare r v)
 followed-placed r v [] (suc i) e = absurd (omega (arith, e))
 followed-placed r v (x ∷ xs) zero e = absurd (omega (arith, e))
@@ -108,24 +117,28 @@ length-changed h (x ∷ xs) zero = refl
 length-changed h (x ∷ xs) (suc i) = ap suc (length-changed h xs i)
 
 -- behind the last place there is nothing to change
-pub behind-last : (h g : Node → Node) (xs : List Node) (i : ℕ) → is_last i xs ≡ true → changed_at (suc i) h (changed_at i g xs) ≡ changed_at i g xs
+pub behind-last : (h g : Node → Node) (xs : List Node) (i : ℕ) → is_last i xs ≡ true → changed_at (suc i) h (changed_at i g xs)
+    ≡ changed_at i g xs
 behind-last h g xs i e =
     changed-past h (changed_at i g xs) (suc i) (subst (λ n. n ≤ suc i) (sym (length-changed g xs i)) (grind (arith, nat_tests, e)))
 
 last-by-length : (xs ys : List Node) (i : ℕ) → length xs ≡ length ys → is_last i xs ≡ is_last i ys
 last-by-length xs ys i e = ap (λ n. not (nat_lt (suc i) n)) e
 
-pub put-behind : (h g : Node → Node) (xs ys : List Node) (i next : ℕ) (last : Bool) → length xs ≡ length ys → last ≡ is_last i ys → next ≡ suc i
+pub put-behind : (h g : Node → Node) (xs ys : List Node) (i next : ℕ) (last : Bool) → length xs ≡ length ys → last ≡ is_last i ys → next
+    ≡ suc i
     → (if last then changed_at i g xs else changed_at next h (changed_at i g xs)) ≡ changed_at (suc i) h (changed_at i g xs)
 put-behind h g xs ys i next true same is n = sym (behind-last h g xs i (last-by-length xs ys i same ∙ sym is))
 put-behind h g xs ys i next false same is n = ap (λ k. changed_at k h (changed_at i g xs)) n
 
-pub length-followed : (h : Node → Node) (comma : Bool) (xs : List Node) (i : ℕ) → length (if comma then xs else changed_at i h xs) ≡ length xs
+pub length-followed : (h : Node → Node) (comma : Bool) (xs : List Node) (i : ℕ) → length (if comma then xs else changed_at i h xs)
+    ≡ length xs
 length-followed h true xs i = refl
 length-followed h false xs i = length-changed h xs i
 
 -- nor in the place of the last value, once that is removed
-last-removed : (h : Node → Node) (xs : List Node) (i : ℕ) → i < length xs → is_last i xs ≡ true → changed_at i h (removed_at i xs) ≡ removed_at i xs
+last-removed : (h : Node → Node) (xs : List Node) (i : ℕ) → i < length xs → is_last i xs ≡ true → changed_at i h (removed_at i xs)
+    ≡ removed_at i xs
 last-removed h xs i l e =
     let past : length xs ≤ suc i = grind (arith, nat_tests, e) in
     changed-past h (removed_at i xs) i (omega (arith, length-remove xs i l))
@@ -156,7 +169,8 @@ pub inserted-between : (comma : Bool) (before : Raw) (v : Node) (xs : List Node)
     (if comma || not (is_last i (inserted_at i v xs)) then inserted_at i v xs else changed_at (i - 1) without_suffix (inserted_at i v xs))
     ≡ inserted_at i (placed before v) (if comma || nat_lt i (length xs) then xs else changed_at (length xs - 1) without_suffix xs)
 inserted-between comma before v xs i l =
-    ap (λ b. changed_at i (placed before) (if comma || not b then inserted_at i v xs else changed_at (i - 1) without_suffix (inserted_at i v xs))) (last-inserted xs i v l)
+    ap (λ b. changed_at i (placed before) (if comma || not b then inserted_at i v xs
+    else changed_at (i - 1) without_suffix (inserted_at i v xs))) (last-inserted xs i v l)
     ∙ elim (cases_Bool comma) [
       | inl on ↦ rw on (changed-inserted (placed before) xs i v l)
       | inr off ↦
@@ -178,7 +192,8 @@ placed-within before v f xs i l =
 -- ---- the gaps of a value with lines of its own
 
 pub around-lines : (i : ℕ) (d : Decor) (f : ArrayFields) (xs : List Node)
-    → takes_lines (gap i f xs) (text_above (newline_at (gap i f xs) f xs) (indent_at i xs) d) (text_after (newline_at (gap i f xs) f xs) (indent_at i xs) d) ≡ true
+    → takes_lines (gap i f xs) (text_above (newline_at (gap i f xs) f xs) (indent_at i xs) d)
+    (text_after (newline_at (gap i f xs) f xs) (indent_at i xs) d) ≡ true
     → gaps_around i d f xs
     ≡ (
       first_line (broken_gap (gap i f xs) (newline_at (gap i f xs) f xs) (indent_at i xs) (not (nat_lt i (length xs))))
@@ -193,7 +208,8 @@ around-lines i d f xs is =
     let above = text_above end indent d in
     let after = text_after end indent d in
     let h = broken_gap g end indent (not (nat_lt i (length xs))) in
-    ap (λ (b : Bool). if b then (first_line h ++ (above ++ (end ++ indent)), after ++ after_first_line h) else gaps_on_line i g (end ++ indent) xs) is
+    ap (λ (b : Bool). if b then (first_line h ++ (above ++ (end ++ indent)), after ++ after_first_line h)
+    else gaps_on_line i g (end ++ indent) xs) is
 
 -- ---- the last newline
 
@@ -205,7 +221,8 @@ none-after (b ∷ t) h =
       | inr other ↦ rw other refl
     ])
 
-some-after : (t : Text) (i : ℕ) → i < length t → get_or t i 0 ≡ 10 → ((k : ℕ) → k < length (drop (suc i) t) → get_or (drop (suc i) t) k 0 ≡ 10 → ⊥)
+some-after : (t : Text) (i : ℕ) → i < length t → get_or t i 0 ≡ 10
+    → ((k : ℕ) → k < length (drop (suc i) t) → get_or (drop (suc i) t) k 0 ≡ 10 → ⊥)
     → after_newline t ≡ Some (drop (suc i) t)
 some-after [] i l e h = absurd (omega arith)
 some-after (b ∷ t) zero l e h = rw (none-after t h, e) refl
@@ -218,7 +235,8 @@ after-is t None h = rw (none-after t (λ k l e. NoCharPasses-char 10 t k h (omeg
 after-is t (Some x) (i, j, found, front, back, le, at, long) =
     let next : j ≡ suc i = omega (arith, found.1.ends, len_utf8_ascii 10 (omega arith)) in
     let after = some-after t i (omega arith) (found.1.byte (omega arith))
-    (λ k l e. NoCharPasses-char 10 (drop (suc i) t) k (subst (λ n. NoCharPasses (λ d. d == 10) (drop n t)) next found.0) (omega arith) l e) in
+    (λ k l e. NoCharPasses-char 10 (drop (suc i) t) k (subst (λ n. NoCharPasses (λ d. d == 10) (drop n t)) next found.0) (omega arith) l
+    e) in
     rw after (ap Some (back ∙ ap (λ n. drop n t) next))
 
 -- ---- the value before the last one, once that is removed
@@ -258,7 +276,8 @@ suffix-removed xs (suc i) l e =
 
 -- ---- the first newline
 
-prefix-is : (n : Node) → side_text (option_and_then (λ n. (node_decor n).prefix) (if is_value_node n then Some n else None)) ≡ side_text (node_decor n).prefix
+prefix-is : (n : Node) → side_text (option_and_then (λ n. (node_decor n).prefix) (if is_value_node n then Some n else None))
+    ≡ side_text (node_decor n).prefix
 prefix-is (leaf s spelling d) = refl
 prefix-is (list f xs) = refl
 prefix-is (inline f ss) = refl
@@ -268,14 +287,16 @@ prefix-is nothing = refl
 
 pub newline-next : (xs : List Node) (ts : List Text) (i : ℕ) → i < length xs
     → newline_in (drop i (prefixes xs) ++ ts)
-    ≡ (if is_broken (side_text (prefix_at i xs)) then first_newline (side_text (prefix_at i xs)) else newline_in (drop (i + 1) (prefixes xs) ++ ts))
+    ≡ (if is_broken (side_text (prefix_at i xs)) then first_newline (side_text (prefix_at i xs))
+    else newline_in (drop (i + 1) (prefixes xs) ++ ts))
 newline-next [] ts i l = absurd (omega (arith, l))
 newline-next (x ∷ xs) ts zero l =
     ap (λ t. if is_broken t then first_newline t else newline_in (prefixes xs ++ ts)) (sym (prefix-is x))
 newline-next (x ∷ xs) ts (suc i) l =
     let next : suc (i + 1) ≡ suc i + 1 = omega arith in
     newline-next xs ts i (omega (arith, l))
-    ∙ ap (λ k. if is_broken (side_text (prefix_at i xs)) then first_newline (side_text (prefix_at i xs)) else newline_in (drop k (prefixes (x ∷ xs)) ++ ts)) next
+    ∙ ap (λ k. if is_broken (side_text (prefix_at i xs)) then first_newline (side_text (prefix_at i xs))
+    else newline_in (drop k (prefixes (x ∷ xs)) ++ ts)) next
 
 pub newline-end : (xs : List Node) (ts : List Text) (i : ℕ) → length xs ≤ i → newline_in (drop i (prefixes xs) ++ ts) ≡ newline_in ts
 newline-end [] ts zero l = refl
@@ -295,7 +316,8 @@ added-line t p h l ls =
 
 -- ---- the line of a value
 
-pub line-before : (xs : List Node) (i : ℕ) → 0 < i → after_newline (side_text (prefix_at i xs)) ≡ None → after_newline (side_text (suffix_at (i - 1) xs)) ≡ None
+pub line-before : (xs : List Node) (i : ℕ) → 0 < i → after_newline (side_text (prefix_at i xs)) ≡ None
+    → after_newline (side_text (suffix_at (i - 1) xs)) ≡ None
     → line_begun i xs ≡ line_begun (i - 1) xs
 line-before xs zero l h g = absurd (omega (arith, l))
 line-before xs (suc i) l h g =

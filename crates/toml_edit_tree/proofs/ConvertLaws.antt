@@ -1,18 +1,22 @@
 -- Items that are made values or tables, and slots whose decors are unset, place by place.
-use Rattle.std.proofs.Common.{◌≡◌, ℕ, zero, suc, ◌<◌, Bool, true, false, not, ◌&&◌, List, [], ◌∷◌, None, Some, cond, filter, length, map, get_or, set, refl, sym, ap, ◌∙◌, arith}
+use Rattle.std.proofs.Common.{◌≡◌, ℕ, zero, suc, ◌<◌, Bool, true, false, not, ◌&&◌, List, [], ◌∷◌, None, Some, cond, filter, length, map}
+use Rattle.std.proofs.Common.{get_or, set, refl, sym, ap, ◌∙◌, arith}
 use Rattle.std.specs.List.{list_all}
-use Rattle.toml_edit_model.specs.Conversions.{formatted, formatted_array, formatted_items, into_tables, made_items, made_slots, made_table, made_value, may_be_tables, new_array, new_inline, with_decor}
+use Rattle.toml_edit_model.specs.Conversions.{formatted, formatted_array, formatted_items, into_tables, made_items, made_slots, made_table}
+use Rattle.toml_edit_model.specs.Conversions.{made_value, may_be_tables, new_array, new_inline, with_decor}
 use Rattle.toml_edit_model.specs.Keys.{cleared_key}
 use Rattle.toml_edit_model.specs.Lists as lists
 use Rattle.toml_edit_model.specs.Slots as model
 use Rattle.toml_edit_model.specs.Lists.{is_inline_node, is_tables_node, items_from}
 use Rattle.toml_edit_model.specs.Text.{is_empty}
-use Rattle.toml_edit_model.specs.Tree.{ArrayFields, Key, Node, nothing, leaf, list, inline, table, tables, Items, no_items, item, Slots, no_slots, slot, is_value_node, unset}
+use Rattle.toml_edit_model.specs.Tree.{ArrayFields, Key, Node, nothing, leaf, list, inline, table, tables, Items, no_items, item, Slots}
+use Rattle.toml_edit_model.specs.Tree.{no_slots, slot, is_value_node, unset}
 use Rattle.toml_edit_slots.specs.declared.slots.Slot.{Slot}
 use Rattle.toml_edit_slots.specs.Slots.{on_item, on_key, with_item}
 use Rattle.toml_edit_laws.proofs.slots.Lists.{items_from-list}
 use Rattle.toml_edit_tree.specs.Containers.{ArrayView, array_node, tree_slots}
-use Rattle.toml_edit_tree.specs.Converting.{each_made, each_slot_made, formatted_elements, formatted_slots, in_new_form, inside_made, suits_tables, tables_made}
+use Rattle.toml_edit_tree.specs.Converting.{each_made, each_slot_made, formatted_elements, formatted_slots, in_new_form, inside_made}
+use Rattle.toml_edit_tree.specs.Converting.{suits_tables, tables_made}
 use Rattle.toml_edit_tree.specs.declared.array.Array.{Array}
 use Rattle.toml_edit_tree.specs.declared.item.Item.{Item}
 use Rattle.toml_edit_tree.specs.Elements.{array_fields, items_of}
@@ -56,12 +60,14 @@ made-inside (table f ss) = ap (inline new_inline) (value-slots ss)
 made-inside (tables e xs) = ap (list new_array) (value-items xs)
 
 -- a new array of items once `fmt` was called
-pub array-formed : (a n : Array) (xs : Items) → array_view a ≡ record { fields = new_array; items = xs } → items_of n ≡ formatted_items (items_of a)
+pub array-formed : (a n : Array) (xs : Items) → array_view a ≡ record { fields = new_array; items = xs } → items_of n
+    ≡ formatted_items (items_of a)
     → array_fields n ≡ formatted_array (array_fields a) → array_node (array_view n) ≡ list new_array (formatted_elements xs)
 array-formed a n xs is items fields =
     let same_fields : (array_view n).fields ≡ new_array = fields ∙ ap (λ (v : ArrayView). formatted_array v.fields) is in
     let same_items : (array_view n).items ≡ formatted_elements xs =
-    sym (items_from-list (array_view n).items) ∙ ap lists.items_from (items ∙ ap (λ (v : ArrayView). formatted_items (lists.item_list v.items)) is) in
+    sym (items_from-list (array_view n).items) ∙ ap lists.items_from (items
+    ∙ ap (λ (v : ArrayView). formatted_items (lists.item_list v.items)) is) in
     λ i. list (same_fields i) (same_items i)
 
 -- ---- slots without decors
@@ -71,7 +77,11 @@ formatted_slot s = record { key = cond (is_value_node s.item) (cleared_key s.key
 
 one-formatted : (k : Key) (n : Node) (ss us : Slots) → ss ≡ us
     → slot (cond (is_value_node n) (cleared_key k) k) (with_decor unset n) ss
-    ≡ (let s : model.Slot Node = cond (is_value_node n) (record { key = cleared_key k; item = with_decor unset n }) (record { key = k; item = n }) in slot s.key s.item us)
+    ≡ (let s : model.Slot Node = cond (is_value_node n) (record { key = cleared_key k; item = with_decor unset n }) (record {
+      key =
+          k;
+      item = n;
+    }) in slot s.key s.item us)
 one-formatted k nothing ss us e = ap (slot k nothing) e
 one-formatted k (leaf s spelling d) ss us e = ap (slot (cleared_key k) (leaf s spelling unset)) e
 one-formatted k (list f xs) ss us e = ap (slot (cleared_key k) (list (record f { decor = unset }) xs)) e
@@ -81,7 +91,8 @@ one-formatted k (tables f xs) ss us e = ap (slot k (tables f xs)) e
 
 pub formatted-slots : (es : List (Slot Node)) → tree_slots (map formatted_slot es) ≡ formatted_slots (tree_slots es)
 formatted-slots [] = refl
-formatted-slots (s ∷ es) = one-formatted s.key s.item (tree_slots (map formatted_slot es)) (formatted_slots (tree_slots es)) (formatted-slots es)
+formatted-slots (s ∷ es) =
+    one-formatted s.key s.item (tree_slots (map formatted_slot es)) (formatted_slots (tree_slots es)) (formatted-slots es)
 
 -- another key and another item at a place
 pub keyed : (es : List (Slot Item)) (i : ℕ) (d : Slot Item) (h : Key → Key) (y : Item)
@@ -90,7 +101,8 @@ keyed [] i d h y = refl
 keyed (s ∷ es) zero d h y = refl
 keyed (s ∷ es) (suc i) d h y = ap (λ l. s ∷ l) (keyed es i d h y)
 
-pub slot-formatted : (s : Slot Item) (y : Item) (b : Bool) → is_value_node (item_view s.item) ≡ b → item_view y ≡ with_decor unset (item_view s.item)
+pub slot-formatted : (s : Slot Item) (y : Item) (b : Bool) → is_value_node (item_view s.item) ≡ b → item_view y
+    ≡ with_decor unset (item_view s.item)
     → on_item item_view (record { key = cond b (cleared_key s.key) s.key; item = y }) ≡ formatted_slot (on_item item_view s)
 slot-formatted s y b is e = λ i. record { key = cond (sym is i) (cleared_key s.key) s.key; item = e i }
 
@@ -111,13 +123,15 @@ tables-listed no_items = refl
 tables-listed (item n xs) = ap (item (made_table n)) (tables-listed xs)
 
 -- an array that may be tables, and one that may not
-pub may-become : (f : ArrayFields) (xs : Items) → may_be_tables (lists.item_list xs) ≡ true → into_tables (list f xs) ≡ Some (tables None (tables_made xs))
+pub may-become : (f : ArrayFields) (xs : Items) → may_be_tables (lists.item_list xs) ≡ true → into_tables (list f xs)
+    ≡ Some (tables None (tables_made xs))
 may-become f xs h =
     ap (λ b. lists.only is_tables_node (cond b (tables None (lists.items_from (map made_table (lists.item_list xs)))) (list f xs))) h
     ∙ ap (λ l. Some (tables None l)) (tables-listed xs)
 
 pub may-not : (f : ArrayFields) (xs : Items) → may_be_tables (lists.item_list xs) ≡ false → into_tables (list f xs) ≡ None
-may-not f xs h = ap (λ b. lists.only is_tables_node (cond b (tables None (lists.items_from (map made_table (lists.item_list xs)))) (list f xs))) h
+may-not f xs h = ap (λ b. lists.only is_tables_node
+    (cond b (tables None (lists.items_from (map made_table (lists.item_list xs)))) (list f xs))) h
 
 -- ---- arrays that may not be arrays of tables
 
@@ -140,7 +154,8 @@ one-more (inline f ss) ns e = e
 one-more (table f ss) ns e = e
 one-more (tables x xs) ns e = e
 
-some-out : (xs : List Item) (i : ℕ) (x : Item) → i < length xs → x ≡ get_or xs i x → suits_tables (item_view x) ≡ false → may_all (map item_view xs) ≡ false
+some-out : (xs : List Item) (i : ℕ) (x : Item) → i < length xs → x ≡ get_or xs i x → suits_tables (item_view x) ≡ false
+    → may_all (map item_view xs) ≡ false
 some-out [] i x h is e = absurd (omega (arith, h))
 some-out (y ∷ xs) zero x h is e = one-out (item_view y) (map item_view xs) (ap (λ z. suits_tables (item_view z)) (sym is) ∙ e)
 some-out (y ∷ xs) (suc i) x h is e = one-more (item_view y) (map item_view xs) (some-out xs i x (omega (arith, h)) is e)

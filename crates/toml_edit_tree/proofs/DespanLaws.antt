@@ -1,20 +1,23 @@
 -- Items and slots that are put in owned form place by place.
 use mathlib.Core.Logic.{∥∥₁_map}
 use denote.Param.Weighed.{most, at_most}
-use Rattle.std.proofs.Common.{◌≡◌, ℕ, zero, suc, ◌<◌, ◌≤◌, max, List, [], ◌∷◌, length, map, Some, get_or, set, slice_get, option_map, refl, sym, ap, arith}
+use Rattle.std.proofs.Common.{◌≡◌, ℕ, zero, suc, ◌<◌, ◌≤◌, max, List, [], ◌∷◌, length, map, Some, get_or, set, slice_get, option_map, refl}
+use Rattle.std.proofs.Common.{sym, ap, arith}
 use Rattle.std.specs.Prelude.{Result, Ok, Err, OnOk}
 use Rattle.std.proofs.lemmas.Option.{same_Some}
 use Rattle.toml_edit_model.specs.Keys.{new_key}
 use Rattle.toml_edit_model.specs.Spelling.{SpellsKey}
 use Rattle.toml_edit_model.specs.Text.{Text}
-use Rattle.toml_edit_model.specs.Tree.{Key, Node, Slots, TableFields, HasTrueSpelling, IsWellMade, ItemsAreWellMade, SlotsAreWellMade, item, slot, table}
+use Rattle.toml_edit_model.specs.Tree.{Key, Node, Slots, TableFields, HasTrueSpelling, IsWellMade, ItemsAreWellMade, SlotsAreWellMade, item}
+use Rattle.toml_edit_model.specs.Tree.{slot, table}
 use Rattle.toml_edit_slots.specs.declared.slots.Slot.{Slot}
 use Rattle.toml_edit_slots.specs.Slots.{items_of, on_key, with_item}
 use Rattle.toml_edit_tree.specs.Containers.{tree_slots}
 use Rattle.toml_edit_model.specs.Lists.{items_from}
 use Rattle.toml_edit_tree.specs.declared.item.Item.{Item, size-Item, None as placeholder}
 use Rattle.toml_edit_tree.specs.View.{item_view, items_view, slots_view}
-use Rattle.toml_edit_model.specs.OwnedForm.{ItemsFit, KeyFits, NodeFits, SlotsFit, owned_items, owned_key, owned_node, owned_raw, owned_slots}
+use Rattle.toml_edit_model.specs.OwnedForm.{ItemsFit, KeyFits, NodeFits, SlotsFit, owned_items, owned_key, owned_node, owned_raw}
+use Rattle.toml_edit_model.specs.OwnedForm.{owned_slots}
 
 -- ---- items
 
@@ -24,7 +27,8 @@ owned-items t [] = refl
 owned-items t (n ∷ ns) = ap (item (owned_node t n)) (owned-items t ns)
 
 -- each fits, and each is well made in owned form
-pub item-fits : (t : Text) (xs : List Item) (i : ℕ) (d : Item) → i < length xs → ItemsFit t (items_view xs) → NodeFits t (item_view (get_or xs i d))
+pub item-fits : (t : Text) (xs : List Item) (i : ℕ) (d : Item) → i < length xs → ItemsFit t (items_view xs)
+    → NodeFits t (item_view (get_or xs i d))
 item-fits t [] i d h f = absurd (omega (arith, h))
 item-fits t (x ∷ xs) zero d h f = f.0
 item-fits t (x ∷ xs) (suc i) d h f = item-fits t xs i d (omega (arith, h)) f.1
@@ -69,7 +73,8 @@ slot-true t [] i d h f = absurd (omega (arith, h))
 slot-true t (s ∷ es) zero d h f = (f.1, f.2)
 slot-true t (s ∷ es) (suc i) d h f = slot-true t es i d (omega (arith, h)) f.3
 
-module _ (t : Text) (es : List (Slot Item)) (i : ℕ) (d : Slot Item) (h : i < length es) (f : ∥ SlotsAreWellMade (owned_slots t (slots_view es)) ∥₁) where
+module _ (t : Text) (es : List (Slot Item)) (i : ℕ) (d : Slot Item) (h : i < length es)
+    (f : ∥ SlotsAreWellMade (owned_slots t (slots_view es)) ∥₁) where
   pub key-spelled : ∥ HasTrueSpelling (SpellsKey (get_or es i d).key.name) (option_map (owned_raw t) (get_or es i d).key.spelling) ∥₁
   key-spelled = ∥∥₁_map f (λ made. (slot-true t es i d h made).0)
 

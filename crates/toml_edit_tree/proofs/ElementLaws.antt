@@ -1,5 +1,7 @@
 -- The elements of arrays and arrays of tables, by the code's lists of items.
-use Rattle.std.proofs.Common.{◌≡◌, ℕ, zero, suc, ◌<◌, ◌≤◌, Bool, true, false, cond, List, [], ◌∷◌, ◌++◌, length, map, insert, remove, set, get_or, slice_get, Option, Some, None, IsSome, option_map, option_and_then, unwrap_or, refl, sym, ap, subst, ◌∙◌, arith}
+use Rattle.std.proofs.Common.{◌≡◌, ℕ, zero, suc, ◌<◌, ◌≤◌, Bool, true, false, cond, List, [], ◌∷◌, ◌++◌, length, map, insert, remove, set}
+use Rattle.std.proofs.Common.{get_or, slice_get, Option, Some, None, IsSome, option_map, option_and_then, unwrap_or, refl, sym, ap, subst}
+use Rattle.std.proofs.Common.{◌∙◌, arith}
 use Rattle.std.proofs.lemmas.List.{map-set, map-append}
 use Rattle.std.proofs.lemmas.Option.{slice_get-get_or, slice_get_past}
 use Rattle.std.specs.Borrow.{Bor}
@@ -74,7 +76,8 @@ written-listed xs i x h =
 -- ---- what stands at a place
 
 -- it stands inside the list
-inside-map : (test : Node → Bool) (xs : List Item) (i : ℕ) → IsSome (option_and_then (only test) (slice_get (map item_view xs) i)) → i < length xs
+inside-map : (test : Node → Bool) (xs : List Item) (i : ℕ) → IsSome (option_and_then (only test) (slice_get (map item_view xs) i))
+    → i < length xs
 inside-map test [] i s = absurd cc
 inside-map test (x ∷ xs) zero s = omega arith
 inside-map test (x ∷ xs) (suc i) s = omega (arith, inside-map test xs i s)
@@ -96,7 +99,8 @@ only-at false n s = absurd cc
 only-some : (test : Node → Bool) (n : Node) → IsSome (only test n) → (test n ≡ true) × (only test n ≡ Some n)
 only-some test n s = only-at (test n) n s
 
-pub held : (test : Node → Bool) (xs : List Item) (i : ℕ) (x : Item) → IsSome (option_and_then (only test) (slice_get (listed xs) i)) → x ≡ get_or xs i x
+pub held : (test : Node → Bool) (xs : List Item) (i : ℕ) (x : Item) → IsSome (option_and_then (only test) (slice_get (listed xs) i)) → x
+    ≡ get_or xs i x
     → (test (item_view x) ≡ true) × (Some (item_view x) ≡ option_and_then (only test) (slice_get (listed xs) i))
 held test xs i x s e =
     let there = found test xs i x (inside test xs i s) e in
@@ -116,7 +120,8 @@ there test xs i d h =
 
 -- ---- tables in items
 
-pub table_seen : (o : Option (Bor Table)) → option_map (λ t. table_node (table_view t.now)) o ≡ option_map table_node (option_map (λ t. table_view t.now) o)
+pub table_seen : (o : Option (Bor Table)) → option_map (λ t. table_node (table_view t.now)) o
+    ≡ option_map table_node (option_map (λ t. table_view t.now) o)
 table_seen None = refl
 table_seen (Some t) = refl
 
@@ -147,6 +152,8 @@ pub value_last : (xs : List Node) (vs : List Value) (v : Value)
 value_last xs vs v = more xs (map value_view vs) (value_view v) ∙ ap (λ l. xs ++ l) (sym (map-append value_view vs (v ∷ [])))
 
 pub table_last : (xs : List Node) (ts : List Table) (t : Table)
-    → (xs ++ map (λ s. table_node (table_view s)) ts) ++ one (table_node (table_view t)) ≡ xs ++ map (λ s. table_node (table_view s)) (ts ++ t ∷ [])
+    → (xs ++ map (λ s. table_node (table_view s)) ts) ++ one (table_node (table_view t)) ≡ xs
+    ++ map (λ s. table_node (table_view s)) (ts ++ t ∷ [])
 table_last xs ts t =
-    more xs (map (λ s. table_node (table_view s)) ts) (table_node (table_view t)) ∙ ap (λ l. xs ++ l) (sym (map-append (λ s. table_node (table_view s)) ts (t ∷ [])))
+    more xs (map (λ s. table_node (table_view s)) ts) (table_node (table_view t))
+    ∙ ap (λ l. xs ++ l) (sym (map-append (λ s. table_node (table_view s)) ts (t ∷ [])))

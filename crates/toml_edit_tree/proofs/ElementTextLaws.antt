@@ -4,7 +4,8 @@ use Rattle.std.specs.Prelude.{codes, if◌then◌else◌}
 use Rattle.toml_edit_model.specs.Text.{Text}
 use Rattle.toml_edit_model.specs.Syntax.{Around, Value, Elements, no_elements, element, comma_text, elements_text, value_text}
 use Rattle.toml_edit_model.specs.Mode.{Mode}
-use Rattle.toml_edit_model.specs.Tree.{ArrayFields, Node, list, Items, no_items, item, is_value_node, node_decor, shown_prefix, shown_raw, shown_suffix}
+use Rattle.toml_edit_model.specs.Tree.{ArrayFields, Node, list, Items, no_items, item, is_value_node, node_decor, shown_prefix, shown_raw}
+use Rattle.toml_edit_model.specs.Tree.{shown_suffix}
 use Rattle.toml_edit_model.specs.Print.{add_after, around_of, close_array, element_default, elements_of, value_of}
 use Rattle.toml_edit_laws.proofs.common.Tests.{append-nil}
 use Rattle.toml_edit_tree.specs.Printing.{comma_before, element_text, items_text, last_comma, node_text}
@@ -55,7 +56,8 @@ module _ (mode : Mode) where
       → value_text (close_array comma t es) ≡ codes "[" ++ ((elements_text es ++ closing_comma comma true es) ++ (t ++ codes "]"))
   array-text true t no_elements = refl
   array-text false t no_elements = refl
-  array-text true t (element a v es) = ap (λ x. codes "[" ++ x) (sym (append_assoc (elements_text (element a v es)) (codes ",") (t ++ codes "]")))
+  array-text true t (element a v es) =
+      ap (λ x. codes "[" ++ x) (sym (append_assoc (elements_text (element a v es)) (codes ",") (t ++ codes "]")))
   array-text false t (element a v es) =
       ap (λ x. codes "[" ++ (x ++ codes "]")) (add-after t a v es)
       ∙ ap (λ x. codes "[" ++ x) (before-bracket (elements_text (element a v es)) t (codes "]"))
@@ -84,23 +86,37 @@ module _ (mode : Mode) where
   -- the items have the text of these elements
   abbrev AreShown : Bool → Items → Bool → Type 0
   AreShown comma xs is_first =
-      items_text mode comma is_first xs ≡ shown_elements is_first (elements_of mode xs is_first) ++ closing_comma comma is_first (elements_of mode xs is_first)
+      items_text mode comma is_first xs ≡ shown_elements is_first (elements_of mode xs is_first)
+      ++ closing_comma comma is_first (elements_of mode xs is_first)
 
-  item-by_test : (comma : Bool) (n : Node) (xs : Items) (is_first : Bool) → AreShown comma xs is_first → AreShown comma xs false → (b : Bool)
+  item-by_test : (comma : Bool) (n : Node) (xs : Items) (is_first : Bool) → AreShown comma xs is_first → AreShown comma xs false
+      → (b : Bool)
       → (if b then element_text mode is_first n ++ items_text mode comma false xs else items_text mode comma is_first xs)
-      ≡ shown_elements is_first (elim b [ true ↦ element (around_of mode is_first (node_decor n)) (value_of mode n) (elements_of mode xs false) | false ↦ elements_of mode xs is_first ])
-      ++ closing_comma comma is_first (elim b [ true ↦ element (around_of mode is_first (node_decor n)) (value_of mode n) (elements_of mode xs false) | false ↦ elements_of mode xs is_first ])
+      ≡ shown_elements is_first (elim b [
+        | true ↦ element (around_of mode is_first (node_decor n)) (value_of mode n)
+            (elements_of mode xs false)
+        | false ↦ elements_of mode xs is_first
+      ])
+      ++ closing_comma comma is_first (elim b [
+        | true ↦ element (around_of mode is_first (node_decor n)) (value_of mode n)
+            (elements_of mode xs false)
+        | false ↦ elements_of mode xs is_first
+      ])
   item-by_test comma n xs is_first same more false = same
   item-by_test comma n xs is_first same more true =
       ap (λ x. element_text mode is_first n ++ x) more
-      ∙ ap (λ x. element_text mode is_first n ++ (more_elements (elements_of mode xs false) ++ x)) (closing-more comma (elements_of mode xs false))
-      ∙ in_order (comma_before is_first) (shown_prefix mode (element_default is_first) (node_decor n)) (node_text mode n) (shown_suffix mode [] (node_decor n))
+      ∙ ap (λ x. element_text mode is_first n ++ (more_elements (elements_of mode xs false) ++ x))
+      (closing-more comma (elements_of mode xs false))
+      ∙ in_order (comma_before is_first) (shown_prefix mode (element_default is_first) (node_decor n)) (node_text mode n)
+      (shown_suffix mode [] (node_decor n))
       (more_elements (elements_of mode xs false)) (comma_text comma)
-      ∙ ap (λ x. x ++ comma_text comma) (sym (first-shown is_first (around_of mode is_first (node_decor n)) (value_of mode n) (elements_of mode xs false)))
+      ∙ ap (λ x. x ++ comma_text comma) (sym (first-shown is_first (around_of mode is_first (node_decor n)) (value_of mode n)
+      (elements_of mode xs false)))
 
   items-are : (comma : Bool) (xs : Items) (is_first : Bool) → AreShown comma xs is_first
   items-are comma no_items is_first = no-items comma is_first
-  items-are comma (item n xs) is_first = item-by_test comma n xs is_first (items-are comma xs is_first) (items-are comma xs false) (is_value_node n)
+  items-are comma (item n xs) is_first =
+      item-by_test comma n xs is_first (items-are comma xs is_first) (items-are comma xs false) (is_value_node n)
 
   -- the array in the parts that are written
   pub list-text : (f : ArrayFields) (xs : Items)

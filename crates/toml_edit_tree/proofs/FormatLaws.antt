@@ -1,5 +1,6 @@
 -- The slots of an array, formatted one after another in place.
-use Rattle.std.proofs.Common.{◌≡◌, ℕ, zero, suc, ◌+◌, ◌<◌, ◌≤◌, Bool, true, List, [], ◌∷◌, ◌++◌, length, map, get_or, set, refl, sym, ap, subst, ◌∙◌, arith}
+use Rattle.std.proofs.Common.{◌≡◌, ℕ, zero, suc, ◌+◌, ◌<◌, ◌≤◌, Bool, true, List, [], ◌∷◌, ◌++◌, length, map, get_or, set, refl, sym, ap}
+use Rattle.std.proofs.Common.{subst, ◌∙◌, arith}
 use Rattle.toml_edit_model.specs.Tree.{Node}
 use Rattle.toml_edit_model.specs.Conversions.{formatted_from}
 use Rattle.toml_edit_tree.specs.declared.item.Item.{Item}
@@ -44,7 +45,8 @@ one_more : (done : List Item) (y : Item) (ns : List Node) → map item_view done
 one_more [] y ns = refl
 one_more (w ∷ done) y ns = ap (λ l. item_view w ∷ l) (one_more done y ns)
 
-step_at : (done rest first : List Item) (at : ℕ) (b c : Bool) (d y : Item) → length done ≡ at → at < length (done ++ rest) → length (done ++ rest) ≡ length first
+step_at : (done rest first : List Item) (at : ℕ) (b c : Bool) (d y : Item) → length done ≡ at → at < length (done ++ rest)
+    → length (done ++ rest) ≡ length first
     → formatted_from true (map item_view first) ≡ map item_view done ++ formatted_from b (map item_view rest)
     → ((ns : List Node) → formatted_from b (item_view (get_or (done ++ rest) at d) ∷ ns) ≡ item_view y ∷ formatted_from c ns)
     → Formats (set (done ++ rest) at y) first (at + 1) c
@@ -58,7 +60,8 @@ step_at done (x ∷ rest) first at b c d y n l a s e =
       as_long = set-long (done ++ x ∷ rest) at y ∙ a;
       says = s
           ∙ ap (λ l. map item_view done ++ l)
-          (ap (λ w. formatted_from b (item_view w ∷ map item_view rest)) (sym (subst (λ i. get_or (done ++ x ∷ rest) i d ≡ x) n (get-middle done rest x d)))
+          (ap (λ w. formatted_from b (item_view w ∷ map item_view rest))
+          (sym (subst (λ i. get_or (done ++ x ∷ rest) i d ≡ x) n (get-middle done rest x d)))
           ∙ e (map item_view rest))
           ∙ one_more done y (formatted_from c (map item_view rest));
     }

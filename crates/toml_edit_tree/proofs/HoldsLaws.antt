@@ -1,5 +1,6 @@
 -- What items hold, as it is seen in their trees.
-use Rattle.std.proofs.Common.{◌≡◌, ℕ, zero, suc, Bool, true, false, cond, List, [], ◌∷◌, filter, map, Option, Some, None, IsSome, MatchBool, option_map, option_and_then, slice_get, unwrap_or, refl, sym, ap, subst, ◌∙◌, rules}
+use Rattle.std.proofs.Common.{◌≡◌, ℕ, zero, suc, Bool, true, false, cond, List, [], ◌∷◌, filter, map, Option, Some, None, IsSome, MatchBool}
+use Rattle.std.proofs.Common.{option_map, option_and_then, slice_get, unwrap_or, refl, sym, ap, subst, ◌∙◌, rules}
 use Rattle.std.specs.Borrow.{Bor}
 use Rattle.std.specs.Option.{option_copied}
 use Rattle.toml_edit_lists.specs.Elements.{SaysOfHeld, element_at}
@@ -43,7 +44,8 @@ no_table (inline f ss) e = refl
 no_table (table f ss) e = absurd cc
 no_table (tables t xs) e = refl
 
-value-open : (o : Item-F Item Value Array ArrayOfTables InlineTable Table) → option_map value_view (value_open o) ≡ only is_value_node (item_view (roll-Item o))
+value-open : (o : Item-F Item Value Array ArrayOfTables InlineTable Table) → option_map value_view (value_open o)
+    ≡ only is_value_node (item_view (roll-Item o))
 value-open (Item-F.Value v) =
     let x = roll-Item (Item-F.Value v) in
     let is : x ≡ items.Value v = search (rules, the_lemmas) in
@@ -70,8 +72,10 @@ table-seen x = table-open (out-Item x) ∙ ap (λ y. only is_table_node (item_vi
 
 -- ---- of a list
 
-module _ {E : Type 0} (held : Item → Option E) (view : E → Node) (test : Node → Bool) (same : (x : Item) → option_map view (held x) ≡ only test (item_view x)) where
-  seen-map : (xs : List Item) (i : ℕ) → option_map view (element_at held i xs) ≡ option_and_then (only test) (slice_get (map item_view xs) i)
+module _ {E : Type 0} (held : Item → Option E) (view : E → Node) (test : Node → Bool) (same : (x : Item) → option_map view (held x)
+    ≡ only test (item_view x)) where
+  seen-map : (xs : List Item) (i : ℕ) → option_map view (element_at held i xs)
+      ≡ option_and_then (only test) (slice_get (map item_view xs) i)
   seen-map [] i = refl
   seen-map (x ∷ xs) zero = same x
   seen-map (x ∷ xs) (suc i) = seen-map xs i
@@ -87,7 +91,8 @@ module _ {E : Type 0} (held : Item → Option E) (view : E → Node) (test : Nod
   pub stands-at : (xs : List Item) (i : ℕ) → IsSome (option_and_then (only test) (slice_get (listed xs) i)) → IsSome (element_at held i xs)
   stands-at xs i s = is-there (element_at held i xs) (subst IsSome (sym (seen-at xs i)) s)
 
-  pub found-at : (xs : List Item) (i : ℕ) (e : E) → Some e ≡ element_at held i xs → Some (view e) ≡ option_and_then (only test) (slice_get (listed xs) i)
+  pub found-at : (xs : List Item) (i : ℕ) (e : E) → Some e ≡ element_at held i xs → Some (view e)
+      ≡ option_and_then (only test) (slice_get (listed xs) i)
   found-at xs i e is = ap (option_map view) is ∙ seen-at xs i
 
   read : (o : Option (Bor E)) → option_map (λ e. view e.now) o ≡ option_map view (option_copied o)
@@ -103,13 +108,15 @@ module _ {E : Type 0} (held : Item → Option E) (view : E → Node) (test : Nod
     abbrev SaysOfSeen : Node → Bool → Type 0
     SaysOfSeen n b = (e : E) × (view e ≡ n) × says e b
 
-    keeps-seen : (o : Option E) (n : Node) (t b : Bool) → option_map view o ≡ cond t (Some n) None → SaysOfHeld says o b → MatchBool t (SaysOfSeen n b) (b ≡ false)
+    keeps-seen : (o : Option E) (n : Node) (t b : Bool) → option_map view o ≡ cond t (Some n) None → SaysOfHeld says o b
+        → MatchBool t (SaysOfSeen n b) (b ≡ false)
     keeps-seen None n true b is s = absurd cc
     keeps-seen None n false b is s = s
     keeps-seen (Some e) n true b is s = (e, ap (λ p. unwrap_or p n) is, s)
     keeps-seen (Some e) n false b is s = absurd cc
 
-    weaker : (xs ys : List Item) → RetainsBy (λ x. SaysOfHeld says (held x)) xs ys → RetainsBy (λ x. KeepsOnly test SaysOfSeen (item_view x)) xs ys
+    weaker : (xs ys : List Item) → RetainsBy (λ x. SaysOfHeld says (held x)) xs ys
+        → RetainsBy (λ x. KeepsOnly test SaysOfSeen (item_view x)) xs ys
     weaker [] ys r = r
     weaker (x ∷ xs) ys r = (r.0, r.1, keeps-seen (held x) (item_view x) (test (item_view x)) r.0 (same x) r.2, weaker xs r.1 r.3, r.4)
 

@@ -52,7 +52,8 @@ module _ {X Y : Type 0} (f : X → Y) (g : Y → Y) where
   long [] rest = omega arith
   long (x ∷ done) rest = omega (arith, long done rest)
 
-  step_at : (done was rest : List X) (at : ℕ) → length done ≡ at → length was ≡ at → map f done ≡ map g (map f was) → at < length (done ++ rest)
+  step_at : (done was rest : List X) (at : ℕ) → length done ≡ at → length was ≡ at → map f done ≡ map g (map f was)
+      → at < length (done ++ rest)
       → (d y : X) → f y ≡ g (f (get_or (done ++ rest) at d)) → Done f g (set (done ++ rest) at y) (was ++ rest) (at + 1)
   step_at done was [] at n m v h d y e = absurd (omega (arith, n, short done))
   step_at done was (x ∷ rest) at n m v h d y e =

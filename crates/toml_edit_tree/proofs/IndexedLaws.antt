@@ -1,5 +1,6 @@
 -- What an index finds, and what `index_or_insert` makes and leaves.
-use Rattle.std.proofs.Common.{◌≡◌, ℕ, suc, ◌<◌, true, false, List, [], ◌∷◌, ◌++◌, Option, Some, None, is_some, length, get_or, option_and_then, option_map, slice_get, refl, sym, ap, ◌∙◌, inl, inr, arith, rules}
+use Rattle.std.proofs.Common.{◌≡◌, ℕ, suc, ◌<◌, true, false, List, [], ◌∷◌, ◌++◌, Option, Some, None, is_some, length, get_or}
+use Rattle.std.proofs.Common.{option_and_then, option_map, slice_get, refl, sym, ap, ◌∙◌, inl, inr, arith, rules}
 use Rattle.std.proofs.lemmas.Bool.{cases_Bool, false≢true}
 use Rattle.std.proofs.lemmas.Cmp.{nat_list_eq_equiv}
 use Rattle.std.proofs.lemmas.List.Quantifiers.{position-Some}
@@ -30,7 +31,8 @@ use Rattle.toml_edit_tree.specs.declared.table.Table.{Table, out-Table}
 use Rattle.toml_edit_tree.specs.declared.value.Value.TheVariants as values
 use Rattle.toml_edit_tree.proofs.HeldLaws.{item-at}
 use Rattle.toml_edit_tree.proofs.InlineLaws.{made_inline_fields}
-use Rattle.toml_edit_tree.proofs.SlotsLaws.{apart-shown, has-lookup, inline-shown, length-shown, made_inline-shown, has_slot-shown, lookup_slot-of, lookup_slot-shown, made-shown, made_fields, shown, slot_shown, table-shown}
+use Rattle.toml_edit_tree.proofs.SlotsLaws.{apart-shown, has-lookup, inline-shown, length-shown, made_inline-shown, has_slot-shown}
+use Rattle.toml_edit_tree.proofs.SlotsLaws.{lookup_slot-of, lookup_slot-shown, made-shown, made_fields, shown, slot_shown, table-shown}
 use Rattle.toml_edit_tree.proofs.TableEntryLaws.{get-shown, item-last, last-shown, place-shown, set-shown, with_item-last}
 use Rattle.toml_edit_tree.proofs.ViewLaws.{view-InlineTable, view-None, view-Value}
 
@@ -45,7 +47,8 @@ module _ (k : Text) where
         | inr other ↦ rw other (ap (λ l. s ∷ l) (changed-same es))
       ]
 
-  changed-last : (f : model.Slot Node → model.Slot Node) (s : model.Slot Node) (es : List (model.Slot Node)) → model.has_slot k es ≡ false → model.is_at k s ≡ true
+  changed-last : (f : model.Slot Node → model.Slot Node) (s : model.Slot Node) (es : List (model.Slot Node)) → model.has_slot k es ≡ false
+      → model.is_at k s ≡ true
       → model.changed k f (es ++ one s) ≡ es ++ one (f s)
   changed-last f s [] n is = rw is refl
   changed-last f s (r ∷ es) n is =
@@ -54,7 +57,8 @@ module _ (k : Text) where
         | inr other ↦ rw other (ap (λ l. r ∷ l) (changed-last f s es (rw other at n) is))
       ]
 
-  found-last : (s : model.Slot Node) (es : List (model.Slot Node)) → model.has_slot k es ≡ false → model.is_at k s ≡ true → model.lookup_slot k (es ++ one s) ≡ Some s
+  found-last : (s : model.Slot Node) (es : List (model.Slot Node)) → model.has_slot k es ≡ false → model.is_at k s ≡ true
+      → model.lookup_slot k (es ++ one s) ≡ Some s
   found-last s [] n is = rw is refl
   found-last s (r ∷ es) n is =
       elim (cases_Bool (model.is_at k r)) [
@@ -71,14 +75,17 @@ module _ (k : Text) where
   pub place-new : (es : List (model.Slot Node)) → model.has_slot k es ≡ false → with_place k es ≡ es ++ one (new_slot nothing)
   place-new es h = rw h refl
 
-  put-there : (n : Node) (es : List (model.Slot Node)) → model.has_slot k es ≡ true → model.changed k (model.with_item n) es ≡ model.put (model.with_item n) (new_slot n) es
+  put-there : (n : Node) (es : List (model.Slot Node)) → model.has_slot k es ≡ true → model.changed k (model.with_item n) es
+      ≡ model.put (model.with_item n) (new_slot n) es
   put-there n es h = rw h refl
 
-  put-last : (n : Node) (es : List (model.Slot Node)) → model.has_slot k es ≡ false → es ++ one (new_slot n) ≡ model.put (model.with_item n) (new_slot n) es
+  put-last : (n : Node) (es : List (model.Slot Node)) → model.has_slot k es ≡ false → es ++ one (new_slot n)
+      ≡ model.put (model.with_item n) (new_slot n) es
   put-last n es h = rw h refl
 
   -- another item in its slot is one that is put under the key
-  pub place-put : (n : Node) (es : List (model.Slot Node)) → model.changed k (model.with_item n) (with_place k es) ≡ model.put (model.with_item n) (new_slot n) es
+  pub place-put : (n : Node) (es : List (model.Slot Node)) → model.changed k (model.with_item n) (with_place k es)
+      ≡ model.put (model.with_item n) (new_slot n) es
   place-put n es =
       elim (cases_Bool (model.has_slot k es)) [
         | inl there ↦ ap (model.changed k (model.with_item n)) (place-there es there) ∙ put-there n es there
@@ -107,31 +114,37 @@ module _ (k : Text) (es : List (Slot Item)) where
       last-shown es (new_key k) items.None ∙ ap (λ n. shown es ++ record { key = new_key k; item = n } ∷ []) view-None
       ∙ sym (place-new k (shown es) (has-none none))
 
-  pub item-there : (i : ℕ) → place k es ≡ Some i → i < length es → option_map item_view (slice_get (items_of es) i) ≡ model.lookup k (with_place k (shown es))
+  pub item-there : (i : ℕ) → place k es ≡ Some i → i < length es → option_map item_view (slice_get (items_of es) i)
+      ≡ model.lookup k (with_place k (shown es))
   item-there i at low =
       let fill : Slot Item = record { key = new_key k; item = items.None } in
       let s = get_or es i fill in
       let got : slice_get es i ≡ Some s = slice_get-get_or es i fill low in
-      let found : model.lookup_slot k (shown es) ≡ Some (slot_shown s) = lookup_slot-at k (shown es) i (slot_shown s) (place-shown k es ∙ at) ∙ ap Some (get-shown es i s got) in
+      let found : model.lookup_slot k (shown es) ≡ Some (slot_shown s) =
+      lookup_slot-at k (shown es) i (slot_shown s) (place-shown k es ∙ at) ∙ ap Some (get-shown es i s got) in
       ap (option_map item_view) (item-at es i s got)
       ∙ sym (ap (option_map (λ (r : model.Slot Node). r.item)) found) ∙ ap (model.lookup k) (made-there i at)
 
-  pub item-new : place k es ≡ None → option_map item_view (slice_get (items_of added) (length es)) ≡ model.lookup k (with_place k (shown es))
+  pub item-new : place k es ≡ None → option_map item_view (slice_get (items_of added) (length es))
+      ≡ model.lookup k (with_place k (shown es))
   item-new none =
       ap (option_map item_view) (item-last es (record { key = new_key k; item = items.None })) ∙ ap Some view-None
       ∙ sym (ap (option_map (λ (r : model.Slot Node). r.item))
-      (ap (model.lookup_slot k) (place-new k (shown es) (has-none none)) ∙ found-last k (record { key = new_key k; item = nothing }) (shown es) (has-none none) (nat_list_eq_equiv.refl k)))
+      (ap (model.lookup_slot k) (place-new k (shown es) (has-none none))
+      ∙ found-last k (record { key = new_key k; item = nothing }) (shown es) (has-none none) (nat_list_eq_equiv.refl k)))
 
   left : model.AreApart (shown es) → (w : Item) (o : Option ℕ) → place k es ≡ o
       → shown (option_map_or (λ at. with_item at w es) o (es ++ record { key = new_key k; item = w } ∷ []))
       ≡ model.put (model.with_item (item_view w)) (record { key = new_key k; item = item_view w }) (shown es)
   left apart w None e =
-      last-shown es (new_key k) w ∙ sym (put-new (model.with_item (item_view w)) (record { key = new_key k; item = item_view w }) (shown es) (place-shown k es ∙ e))
+      last-shown es (new_key k) w ∙ sym (put-new (model.with_item (item_view w)) (record { key = new_key k; item = item_view w }) (shown es)
+      (place-shown k es ∙ e))
   left apart w (Some i) e =
       let new : model.Slot Node = record { key = new_key k; item = item_view w } in
       set-shown es i new w ∙ sym (put-at (model.with_item (item_view w)) new (shown es) i new apart (place-shown k es ∙ e))
 
-  pub leaves : model.AreApart (shown es) → (w : Item) → shown (slots_put k w es) ≡ model.changed k (model.with_item (item_view w)) (with_place k (shown es))
+  pub leaves : model.AreApart (shown es) → (w : Item) → shown (slots_put k w es)
+      ≡ model.changed k (model.with_item (item_view w)) (with_place k (shown es))
   leaves apart w = left apart w (place k es) refl ∙ sym (place-put k (item_view w) (shown es))
 
   pub put-here : (i : ℕ) → place k es ≡ Some i → (w : Item) → with_item i w es ≡ slots_put k w es
@@ -146,7 +159,8 @@ next_none : (o : Option ℕ) → option_map suc o ≡ None → o ≡ None
 next_none None e = refl
 next_none (Some j) e = absurd (none-some (suc j) (sym e))
 
-pub place-last : (k : Text) (s : Slot Item) (es : List (Slot Item)) → same_text k s.key.name ≡ true → place k es ≡ None → place k (es ++ s ∷ []) ≡ Some (length es)
+pub place-last : (k : Text) (s : Slot Item) (es : List (Slot Item)) → same_text k s.key.name ≡ true → place k es ≡ None
+    → place k (es ++ s ∷ []) ≡ Some (length es)
 place-last k s [] is e = rw is refl
 place-last k s (r ∷ es) is e =
     elim (cases_Bool (same_text k r.key.name)) [
@@ -166,7 +180,8 @@ no_node = record { key = new_key []; item = nothing }
 pub low-at : (k : Text) (es : List (Slot Item)) (i : ℕ) → model.place k (shown es) ≡ Some i → i < length es
 low-at k es i at = let b = (position-Some (model.is_at k) (shown es) i no_node at).0 in let same = length-shown es in omega (arith, b, same)
 
-pub found-at : (k : Text) (es : List (Slot Item)) (i : ℕ) (x : Item) → model.place k (shown es) ≡ Some i → Some x ≡ slice_get (items_of es) i
+pub found-at : (k : Text) (es : List (Slot Item)) (i : ℕ) (x : Item) → model.place k (shown es) ≡ Some i → Some x
+    ≡ slice_get (items_of es) i
     → model.lookup k (shown es) ≡ Some (item_view x)
 found-at k es i x at is =
     let fill : Slot Item = record { key = new_key k; item = items.None } in
@@ -189,7 +204,8 @@ module _ (k : Text) (t : Table) where
       ap (model.lookup k) (slot_list-from (with_place k (slots_of t)))
       ∙ ap (λ l. model.lookup k (with_place k l)) (table-shown t)
 
-  pub table-written : (w : Item) → shown (slots_put k w slots) ≡ model.changed k (model.with_item (item_view w)) (with_place k (shown slots))
+  pub table-written : (w : Item) → shown (slots_put k w slots)
+      ≡ model.changed k (model.with_item (item_view w)) (with_place k (shown slots))
       → written_under k (item_view w) (table_node (table_view t)) ≡ Some (table_node (table_view (item_put k w t)))
   table-written w leaves =
       let f = fields_view t in
@@ -213,7 +229,8 @@ module _ (k : Text) (t : InlineTable) (es : List (Slot Item)) where
   abbrev held_inline : Item
   held_inline = items.Value (values.InlineTable (record t { items = es }))
 
-  pub made-inline : inline_view t ≡ record { fields = new_inline; slots = no_slots } → shown es ≡ with_place k (shown (out-InlineTable t).items)
+  pub made-inline : inline_view t ≡ record { fields = new_inline; slots = no_slots } → shown es
+      ≡ with_place k (shown (out-InlineTable t).items)
       → index_or_inserted k nothing ≡ Some (item_view held_inline)
   made-inline new made =
       let u : InlineTable = record t { items = es } in
@@ -230,8 +247,10 @@ module _ (k : Text) (t : InlineTable) (es : List (Slot Item)) where
 
 module _ (k : Text) (l m : List (model.Slot Node)) where
   pub inserted-in : (n : Node) → Some l ≡ slots_in n → m ≡ with_place k l → index_or_inserted k n ≡ Some (on_slots (λ _. m) n)
-  inserted-in (table f ss) is made = ap (λ q. Some (table f (slots_from (with_place k q)))) (sym (same_Some _ _ is)) ∙ ap (λ q. Some (table f (slots_from q))) (sym made)
-  inserted-in (inline f ss) is made = ap (λ q. Some (inline f (slots_from (with_place k q)))) (sym (same_Some _ _ is)) ∙ ap (λ q. Some (inline f (slots_from q))) (sym made)
+  inserted-in (table f ss) is made = ap (λ q. Some (table f (slots_from (with_place k q)))) (sym (same_Some _ _ is))
+      ∙ ap (λ q. Some (table f (slots_from q))) (sym made)
+  inserted-in (inline f ss) is made = ap (λ q. Some (inline f (slots_from (with_place k q)))) (sym (same_Some _ _ is))
+      ∙ ap (λ q. Some (inline f (slots_from q))) (sym made)
   inserted-in nothing is made = absurd cc
   inserted-in (leaf s spelling d) is made = absurd cc
   inserted-in (list f xs) is made = absurd cc
@@ -256,25 +275,31 @@ abbrev pub held_in : Option (Slot Item) → Option Node
 held_in None = None
 held_in (Some s) = only is_item (item_view s.item)
 
-read : (o : Option (Bor Key × Bor Item)) → option_and_then (only is_item) (option_map (λ (s : model.Slot Node). s.item) (option_map (model.on_item item_view) (option_map pair_read o))) ≡ held_read o
+read : (o : Option (Bor Key × Bor Item)) → option_and_then (only is_item)
+    (option_map (λ (s : model.Slot Node). s.item) (option_map (model.on_item item_view) (option_map pair_read o))) ≡ held_read o
 read None = refl
 read (Some p) = refl
 
-pub get-read : (k : Text) (es : List (Slot Item)) (o : Option (Bor Key × Bor Item)) → model.AreApart (seen es) → option_map pair_read o ≡ model.lookup_slot k (seen es)
+pub get-read : (k : Text) (es : List (Slot Item)) (o : Option (Bor Key × Bor Item)) → model.AreApart (seen es) → option_map pair_read o
+    ≡ model.lookup_slot k (seen es)
     → get k (shown es) ≡ held_read o
 get-read k es o apart is =
     lookup-those is_item k (shown es) (apart-shown es apart)
-    ∙ ap (λ f. option_and_then (only is_item) (option_map (λ (s : model.Slot Node). s.item) f)) (lookup_slot-of k es ∙ ap (option_map (model.on_item item_view)) (sym is))
+    ∙ ap (λ f. option_and_then (only is_item) (option_map (λ (s : model.Slot Node). s.item) f)) (lookup_slot-of k es
+    ∙ ap (option_map (model.on_item item_view)) (sym is))
     ∙ read o
 
-in_slot : (o : Option (Slot Item)) → option_and_then (only is_item) (option_map (λ (s : model.Slot Node). s.item) (option_map slot_shown o)) ≡ held_in o
+in_slot : (o : Option (Slot Item)) → option_and_then (only is_item) (option_map (λ (s : model.Slot Node). s.item) (option_map slot_shown o))
+    ≡ held_in o
 in_slot None = refl
 in_slot (Some s) = refl
 
-pub get-found : (k : Text) (es : List (Slot Item)) (o : Option (Slot Item)) → model.AreApart (shown es) → o ≡ lookup_slot k es → get k (shown es) ≡ held_in o
+pub get-found : (k : Text) (es : List (Slot Item)) (o : Option (Slot Item)) → model.AreApart (shown es) → o ≡ lookup_slot k es
+    → get k (shown es) ≡ held_in o
 get-found k es o apart is =
     lookup-those is_item k (shown es) apart
-    ∙ ap (λ f. option_and_then (only is_item) (option_map (λ (s : model.Slot Node). s.item) f)) (lookup_slot-shown k es ∙ ap (option_map slot_shown) (sym is))
+    ∙ ap (λ f. option_and_then (only is_item) (option_map (λ (s : model.Slot Node). s.item) f)) (lookup_slot-shown k es
+    ∙ ap (option_map slot_shown) (sym is))
     ∙ in_slot o
 
 pub held_in-full : (s : Slot Item) → is_item (item_view s.item) ≡ true → held_in (Some s) ≡ Some (item_view s.item)

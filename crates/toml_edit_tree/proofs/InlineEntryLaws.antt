@@ -1,5 +1,6 @@
 -- What stands in an inline table under a key, by its values.
-use Rattle.std.proofs.Common.{◌≡◌, ℕ, zero, suc, ◌<◌, Bool, true, false, cond, List, [], ◌∷◌, Option, None, Some, is_some, length, option_and_then, option_map, refl, sym, ap, ◌∙◌, arith}
+use Rattle.std.proofs.Common.{◌≡◌, ℕ, zero, suc, ◌<◌, Bool, true, false, cond, List, [], ◌∷◌, Option, None, Some, is_some, length}
+use Rattle.std.proofs.Common.{option_and_then, option_map, refl, sym, ap, ◌∙◌, arith}
 use Rattle.std.specs.Borrow.{Bor}
 use Rattle.toml_edit_laws.proofs.slots.Places.{lookup-those}
 use Rattle.toml_edit_model.specs.InlineCalls.{get_value}
@@ -43,7 +44,8 @@ seen-if false n o e is = absurd (let f = ap is_some e in cc)
 
 -- the value of an item that holds one is what it is seen as
 pub held-view : (x : Item) → is_some (value_held x) ≡ true → option_map value_view (value_held x) ≡ Some (item_view x)
-held-view x is = seen-if (is_value_node (item_view x)) (item_view x) (option_map value_view (value_held x)) (value-seen x) (is_some-map value_view (value_held x) ∙ is)
+held-view x is = seen-if (is_value_node (item_view x)) (item_view x) (option_map value_view (value_held x)) (value-seen x)
+    (is_some-map value_view (value_held x) ∙ is)
 
 -- ---- a place that has a value
 
@@ -60,26 +62,32 @@ abbrev pub value_behind : Option (Bor Key × Bor Item) → Option Node
 value_behind None = None
 value_behind (Some p) = only is_value_node (item_view p.1.now)
 
-behind : (o : Option (Bor Key × Bor Item)) → option_and_then (only is_value_node) (option_map (λ (s : model.Slot Node). s.item) (option_map (model.on_item item_view) (option_map pair_read o))) ≡ value_behind o
+behind : (o : Option (Bor Key × Bor Item)) → option_and_then (only is_value_node)
+    (option_map (λ (s : model.Slot Node). s.item) (option_map (model.on_item item_view) (option_map pair_read o))) ≡ value_behind o
 behind None = refl
 behind (Some p) = refl
 
-pub value-read : (k : Text) (t : InlineTable) (o : Option (Bor Key × Bor Item)) → model.AreApart (seen (out-InlineTable t).items) → option_map pair_read o ≡ model.lookup_slot k (seen (out-InlineTable t).items)
+pub value-read : (k : Text) (t : InlineTable) (o : Option (Bor Key × Bor Item)) → model.AreApart (seen (out-InlineTable t).items)
+    → option_map pair_read o ≡ model.lookup_slot k (seen (out-InlineTable t).items)
     → get_value k (inline_slots_of t) ≡ value_behind o
 value-read k t o apart is =
     ap (get_value k) (inline-shown t)
     ∙ lookup-those is_value_node k (shown (out-InlineTable t).items) (apart-shown (out-InlineTable t).items apart)
-    ∙ ap (λ f. option_and_then (only is_value_node) (option_map (λ (s : model.Slot Node). s.item) f)) (lookup_slot-of k (out-InlineTable t).items ∙ ap (option_map (model.on_item item_view)) (sym is))
+    ∙ ap (λ f. option_and_then (only is_value_node) (option_map (λ (s : model.Slot Node). s.item) f))
+    (lookup_slot-of k (out-InlineTable t).items ∙ ap (option_map (model.on_item item_view)) (sym is))
     ∙ behind o
 
-value-in : (o : Option (Slot Item)) → option_and_then (only is_value_node) (option_map item_view (option_map (λ s. s.item) o)) ≡ option_and_then (λ s. option_map value_view (value_held s.item)) o
+value-in : (o : Option (Slot Item)) → option_and_then (only is_value_node) (option_map item_view (option_map (λ s. s.item) o))
+    ≡ option_and_then (λ s. option_map value_view (value_held s.item)) o
 value-in None = refl
 value-in (Some s) = sym (value-seen s.item)
 
-pub value-found : (k : Text) (t : InlineTable) (o : Option (Slot Item)) → model.AreApart (shown (out-InlineTable t).items) → o ≡ lookup_slot k (out-InlineTable t).items
+pub value-found : (k : Text) (t : InlineTable) (o : Option (Slot Item)) → model.AreApart (shown (out-InlineTable t).items) → o
+    ≡ lookup_slot k (out-InlineTable t).items
     → get_value k (inline_slots_of t) ≡ option_and_then (λ s. option_map value_view (value_held s.item)) o
 value-found k t o apart is =
     ap (get_value k) (inline-shown t)
     ∙ lookup-those is_value_node k (shown (out-InlineTable t).items) apart
-    ∙ ap (option_and_then (only is_value_node)) (lookup-shown k (out-InlineTable t).items ∙ ap (λ p. option_map item_view (option_map (λ (s : Slot Item). s.item) p)) (sym is))
+    ∙ ap (option_and_then (only is_value_node)) (lookup-shown k (out-InlineTable t).items
+    ∙ ap (λ p. option_map item_view (option_map (λ (s : Slot Item). s.item) p)) (sym is))
     ∙ value-in o

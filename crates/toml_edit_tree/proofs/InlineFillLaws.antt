@@ -1,5 +1,6 @@
 -- What an inline table has once a value was put under a key.
-use Rattle.std.proofs.Common.{◌≡◌, ℕ, true, false, List, [], ◌∷◌, ◌++◌, Option, None, Some, is_some, length, option_and_then, option_map, refl, sym, ap, subst, ◌∙◌, inl, inr}
+use Rattle.std.proofs.Common.{◌≡◌, ℕ, true, false, List, [], ◌∷◌, ◌++◌, Option, None, Some, is_some, length, option_and_then, option_map}
+use Rattle.std.proofs.Common.{refl, sym, ap, subst, ◌∙◌, inl, inr}
 use Rattle.std.proofs.lemmas.Bool.{cases_Bool, false≢true}
 use Rattle.std.proofs.lemmas.Cmp.{nat_list_eq_equiv}
 use Rattle.toml_edit_model.specs.Conversions.{made_value_or}
@@ -37,7 +38,8 @@ module _ (k : Text) (t : InlineTable) where
   -- ---- the slots that a value leaves
 
   left-by : model.AreApart (inline_slots_of t) → (w : Value) (o : Option ℕ) → place k held ≡ o
-      → inline_slots_of (put_by w o) ≡ model.put (model.with_item (value_view w)) (record { key = new_key k; item = value_view w }) (inline_slots_of t)
+      → inline_slots_of (put_by w o) ≡ model.put (model.with_item (value_view w)) (record { key = new_key k; item = value_view w })
+      (inline_slots_of t)
   left-by apart w None e = leaves-new (new_key k) t e w
   left-by apart w (Some i) e =
       made_inline-shown _ ∙ leaves-at (new_key k) held i e (subst model.AreApart (inline-shown t) apart) (items.Value w)
@@ -49,7 +51,8 @@ module _ (k : Text) (t : InlineTable) where
   is-by w (Some i) e = rw e refl
 
   pub put-leaves : model.AreApart (inline_slots_of t) → (w : Value)
-      → inline_slots_of (value_put k w t) ≡ model.put (model.with_item (value_view w)) (record { key = new_key k; item = value_view w }) (inline_slots_of t)
+      → inline_slots_of (value_put k w t) ≡ model.put (model.with_item (value_view w)) (record { key = new_key k; item = value_view w })
+      (inline_slots_of t)
   put-leaves apart w = ap inline_slots_of (is-by w (place k held) refl) ∙ left-by apart w (place k held) refl
 
   keeps-by : (w : Value) (o : Option ℕ) → inline_fields (put_by w o) ≡ inline_fields t
@@ -62,7 +65,8 @@ module _ (k : Text) (t : InlineTable) where
   pub put-there : (i : ℕ) → place k held ≡ Some i → (w : Value) → record t { items = with_item i (items.Value w) held } ≡ value_put k w t
   put-there i e w = sym (is-by w (Some i) e)
 
-  pub put-gone : place k held ≡ None → (w : Value) → record t { items = held ++ record { key = new_key k; item = items.Value w } ∷ [] } ≡ value_put k w t
+  pub put-gone : place k held ≡ None → (w : Value) → record t { items = held ++ record { key = new_key k; item = items.Value w } ∷ [] }
+      ≡ value_put k w t
   put-gone e w = sym (is-by w None e)
 
   -- what stands last then, and what another value leaves there
@@ -74,7 +78,8 @@ module _ (k : Text) (t : InlineTable) where
   pub put-again : place k held ≡ None → (v w : Value) → with_value_at (length held) w (value_put k v t) ≡ value_put k w t
   put-again e v w =
       ap (with_value_at (length held) w) (is-by v None e)
-      ∙ ap (λ l. record t { items = l }) (with_item-last held (record { key = new_key k; item = items.Value v }) (items.Value w)) ∙ put-gone e w
+      ∙ ap (λ l. record t { items = l }) (with_item-last held (record { key = new_key k; item = items.Value v }) (items.Value w))
+      ∙ put-gone e w
 
   -- ---- where a slot of the name is there, and where none is
 
@@ -96,7 +101,8 @@ module _ (k : Text) (t : InlineTable) where
 is_self : (k : Text) → same_text k k ≡ true
 is_self k = nat_list_eq_equiv.refl k
 
-found-last : (k : Text) (s : model.Slot Node) (es : List (model.Slot Node)) → model.has_slot k es ≡ false → model.is_at k s ≡ true → model.lookup_slot k (es ++ one s) ≡ Some s
+found-last : (k : Text) (s : model.Slot Node) (es : List (model.Slot Node)) → model.has_slot k es ≡ false → model.is_at k s ≡ true
+    → model.lookup_slot k (es ++ one s) ≡ Some s
 found-last k s [] n is = rw is refl
 found-last k s (r ∷ es) n is =
     elim (cases_Bool (model.is_at k r)) [
@@ -104,7 +110,8 @@ found-last k s (r ∷ es) n is =
       | inr other ↦ rw other (found-last k s es (rw other at n) is)
     ]
 
-pub lookup-put : (k : Text) (d : Node) (t : InlineTable) → place k (out-InlineTable t).items ≡ None → model.lookup k (or_inserted_value k d (inline_slots_of t)) ≡ Some d
+pub lookup-put : (k : Text) (d : Node) (t : InlineTable) → place k (out-InlineTable t).items ≡ None
+    → model.lookup k (or_inserted_value k d (inline_slots_of t)) ≡ Some d
 lookup-put k d t none =
     let h = has-none k t none in
     let s : model.Slot Node = record { key = new_key k; item = d } in

@@ -18,7 +18,8 @@ use Rattle.toml_edit_tree.specs.View.{slots_view, value_view}
 use Rattle.toml_edit_tree.proofs.SlotsLaws.{shown}
 
 -- other slots, and the fields that it had
-pub made_inline_fields : (t : InlineTable) (es : List (Slot Item)) → inline_fields (roll-InlineTable (record (out-InlineTable t) { items = es })) ≡ inline_fields t
+pub made_inline_fields : (t : InlineTable) (es : List (Slot Item))
+    → inline_fields (roll-InlineTable (record (out-InlineTable t) { items = es })) ≡ inline_fields t
 made_inline_fields t es = search (rules, the_lemmas)
 
 pub formatted-shown : (es fs : List (Slot Item)) → slots_view fs ≡ formatted_slots (slots_view es) → shown fs ≡ formatted (shown es)
@@ -27,15 +28,18 @@ formatted-shown es fs e = ap slot_list e ∙ slot_list-from (formatted (shown es
 -- ---- extend
 
 pub extended_last : (es : List (model.Slot Node)) (ps : List (Key × Value)) (p : Key × Value)
-    → model.extended (map value_taken (ps ++ p ∷ [])) es ≡ model.put (model.with_item (value_view p.1)) (value_taken p) (model.extended (map value_taken ps) es)
+    → model.extended (map value_taken (ps ++ p ∷ [])) es
+    ≡ model.put (model.with_item (value_view p.1)) (value_taken p) (model.extended (map value_taken ps) es)
 extended_last es [] p = refl
 extended_last es (q ∷ ps) p = extended_last (model.put (model.with_item (value_view q.1)) (value_taken q) es) ps p
 
 -- ---- retain
 
 -- where a slot without a value is never kept, the closure decides of the others
-retains-one : (says : model.Slot Node → Bool → Type 0) (b : Bool) (s : model.Slot Node) (keeps : Bool) (rest passed after : List (model.Slot Node))
-    → MatchBool b (says s keeps) (keeps ≡ false) → RetainsBy says passed rest → after ≡ cond keeps (s ∷ rest) rest → RetainsBy says (cond b (s ∷ passed) passed) after
+retains-one : (says : model.Slot Node → Bool → Type 0) (b : Bool) (s : model.Slot Node) (keeps : Bool)
+    (rest passed after : List (model.Slot Node))
+    → MatchBool b (says s keeps) (keeps ≡ false) → RetainsBy says passed rest → after ≡ cond keeps (s ∷ rest) rest
+    → RetainsBy says (cond b (s ∷ passed) passed) after
 retains-one says true s keeps rest passed after m r e = (keeps, rest, m, r, e)
 retains-one says false s keeps rest passed after m r e = subst (RetainsBy says passed) (sym (e ∙ ap (λ b. cond b (s ∷ rest) rest) m)) r
 

@@ -16,7 +16,8 @@ use Rattle.toml_edit_tree.specs.declared.value.Value.{Value}
 one_proof : (b : Bool) → IsProp (b ≡ true)
 one_proof b = hlevel props
 
-pub value-with_item : (es : List (Slot Item)) (i : ℕ) (v : Value) → has_value_at i es ≡ true → value_at i (with_item i (items.Value v) es) ≡ Some v
+pub value-with_item : (es : List (Slot Item)) (i : ℕ) (v : Value) → has_value_at i es ≡ true → value_at i (with_item i (items.Value v) es)
+    ≡ Some v
 value-with_item [] zero v h = absurd cc
 value-with_item [] (suc i) v h = absurd cc
 value-with_item (s ∷ es) zero v h = held-Value v

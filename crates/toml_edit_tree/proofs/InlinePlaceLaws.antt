@@ -1,5 +1,6 @@
 -- What an entry of an inline table is of, and what it leaves.
-use Rattle.std.proofs.Common.{◌≡◌, ℕ, zero, suc, ◌<◌, true, List, [], ◌∷◌, ◌++◌, None, Some, IfSome, is_some, length, get_or, set, option_and_then, option_map, slice_get, refl, sym, ap, subst, ◌∙◌}
+use Rattle.std.proofs.Common.{◌≡◌, ℕ, zero, suc, ◌<◌, true, List, [], ◌∷◌, ◌++◌, None, Some, IfSome, is_some, length, get_or, set}
+use Rattle.std.proofs.Common.{option_and_then, option_map, slice_get, refl, sym, ap, subst, ◌∙◌}
 use Rattle.std.proofs.lemmas.Option.{slice_get-get_or}
 use Rattle.std.specs.Option.{unwrap_or}
 use Rattle.toml_edit_laws.proofs.slots.Places.{changed-at, changed-none, lookup_slot-at, lookup_slot-none, none_at, put-at, put-new}
@@ -38,7 +39,8 @@ names-with_item (s ∷ es) (suc i) w = ap (λ l. s.key.name ∷ l) (names-with_i
 pub place-with_item : (t : Text) (es : List (Slot Item)) (i : ℕ) (w : Item) → place t (with_item i w es) ≡ place t es
 place-with_item t es i w = ap (place_in t) (names-with_item es i w)
 
-key-with_item : (es : List (Slot Item)) (i : ℕ) (w : Item) → option_map (λ (s : Slot Item). s.key) (slice_get (with_item i w es) i) ≡ option_map (λ (s : Slot Item). s.key) (slice_get es i)
+key-with_item : (es : List (Slot Item)) (i : ℕ) (w : Item) → option_map (λ (s : Slot Item). s.key) (slice_get (with_item i w es) i)
+    ≡ option_map (λ (s : Slot Item). s.key) (slice_get es i)
 key-with_item [] i w = refl
 key-with_item (s ∷ es) zero w = refl
 key-with_item (s ∷ es) (suc i) w = key-with_item es i w
@@ -52,12 +54,14 @@ module _ (k : Key) (es : List (Slot Item)) (i : ℕ) (at : place k.name es ≡ S
   found : (s : Slot Item) → slice_get es i ≡ Some s → model.lookup_slot k.name (shown es) ≡ Some (slot_shown s)
   found s got = lookup_slot-at k.name (shown es) i (slot_shown s) here ∙ ap Some (get-shown es i s got)
 
-  pub leaves-at : model.AreApart (shown es) → (y : Item) → shown (with_item i y es) ≡ model.put (model.with_item (item_view y)) (record { key = k; item = item_view y }) (shown es)
+  pub leaves-at : model.AreApart (shown es) → (y : Item) → shown (with_item i y es)
+      ≡ model.put (model.with_item (item_view y)) (record { key = k; item = item_view y }) (shown es)
   leaves-at apart y =
       let new : model.Slot Node = record { key = k; item = item_view y } in
       set-shown es i new y ∙ sym (put-at (model.with_item (item_view y)) new (shown es) i new apart here)
 
-  pub changed-here : model.AreApart (shown es) → i < length es → (f : Node → Node) (w : Item) → IfSome (slice_get (items_of es) i) (λ x. item_view w ≡ f (item_view x))
+  pub changed-here : model.AreApart (shown es) → i < length es → (f : Node → Node) (w : Item)
+      → IfSome (slice_get (items_of es) i) (λ x. item_view w ≡ f (item_view x))
       → shown (with_item i w es) ≡ model.changed k.name (model.on_item f) (shown es)
   changed-here apart inside f w made =
       let s = get_or es i no_slot in
@@ -73,11 +77,13 @@ module _ (k : Key) (es : List (Slot Item)) (i : ℕ) (at : place k.name es ≡ S
   value-here inside has =
       let s = get_or es i no_slot in
       let got : slice_get es i ≡ Some s = slice_get-get_or es i no_slot inside in
-      let is : value_at i es ≡ value_held s.item = ap (option_and_then value_held) (items-get es i ∙ ap (option_map (λ (r : Slot Item). r.item)) got) in
+      let is : value_at i es ≡ value_held s.item =
+      ap (option_and_then value_held) (items-get es i ∙ ap (option_map (λ (r : Slot Item). r.item)) got) in
       ap (option_map value_view) is ∙ held-view s.item (sym (ap is_some is) ∙ has)
       ∙ sym (ap (option_map (λ (r : model.Slot Node). r.item)) (found s got))
 
-  pub key-here : i < length es → option_map (λ (s : Slot Item). s.key) (slice_get es i) ≡ Some (unwrap_or (model.lookup_key k.name (shown es)) k)
+  pub key-here : i < length es → option_map (λ (s : Slot Item). s.key) (slice_get es i)
+      ≡ Some (unwrap_or (model.lookup_key k.name (shown es)) k)
   key-here inside =
       let s = get_or es i no_slot in
       let got : slice_get es i ≡ Some s = slice_get-get_or es i no_slot inside in
@@ -86,7 +92,8 @@ module _ (k : Key) (es : List (Slot Item)) (i : ℕ) (at : place k.name es ≡ S
 
 -- ---- a key that is there, once its slot is made a value
 
-module _ (k : Key) (t u : InlineTable) (i : ℕ) (d : Node) (at : place k.name (out-InlineTable t).items ≡ Some i) (inside : i < length (out-InlineTable t).items)
+module _ (k : Key) (t u : InlineTable) (i : ℕ) (d : Node) (at : place k.name (out-InlineTable t).items
+    ≡ Some i) (inside : i < length (out-InlineTable t).items)
     (apart : model.AreApart (inline_slots_of t)) (made : MakesValueAt d i (out-InlineTable t).items (out-InlineTable u).items) where
   abbrev before : List (Slot Item)
   before = (out-InlineTable t).items
@@ -111,7 +118,8 @@ module _ (k : Key) (t u : InlineTable) (i : ℕ) (d : Node) (at : place k.name (
   pub value-made : option_map value_view (value_at i after) ≡ model.lookup k.name (inline_slots_of u)
   value-made = value-here k after i at-after (low after i has-made) has-made ∙ ap (model.lookup k.name) (sym (inline-shown u))
 
-  pub key-made : option_map (λ (s : Slot Item). s.key) (slice_get after i) ≡ Some (unwrap_or (model.lookup_key k.name (inline_slots_of t)) k)
+  pub key-made : option_map (λ (s : Slot Item). s.key) (slice_get after i)
+      ≡ Some (unwrap_or (model.lookup_key k.name (inline_slots_of t)) k)
   key-made =
       ap (λ l. option_map (λ (s : Slot Item). s.key) (slice_get l i)) made.1 ∙ key-with_item before i made.0 ∙ key-here k before i at inside
       ∙ ap (λ l. Some (unwrap_or (model.lookup_key k.name l) k)) (sym (inline-shown t))
@@ -137,7 +145,8 @@ module _ (k : Key) (t : InlineTable) (none : place k.name (out-InlineTable t).it
 
   pub slots-new : (f : model.Slot Node → model.Slot Node) → inline_slots_of t ≡ model.changed k.name f (inline_slots_of t)
   slots-new f =
-      inline-shown t ∙ sym (changed-none k.name f (shown held) (none_at k.name (shown held) gone)) ∙ ap (model.changed k.name f) (sym (inline-shown t))
+      inline-shown t ∙ sym (changed-none k.name f (shown held) (none_at k.name (shown held) gone))
+      ∙ ap (model.changed k.name f) (sym (inline-shown t))
 
   pub leaves-new : (x : Value) → inline_slots_of (record t { items = held ++ record { key = k; item = items.Value x } ∷ [] })
       ≡ model.put (model.with_item (value_view x)) (record { key = k; item = value_view x }) (inline_slots_of t)

@@ -37,7 +37,8 @@ made-slots : (t : InlineTable) (fs : List (Slot Item)) → (inline_view (with_sl
 made-slots t fs = search (rules, the_lemmas)
 
 -- a relation of slots, of an inline table and of it with others
-pub of_inline : (R : List (model.Slot Node) → List (model.Slot Node) → Type 0) (t : InlineTable) (fs : List (Slot Item)) → R (items_seen (out-InlineTable t).items) (items_seen fs)
+pub of_inline : (R : List (model.Slot Node) → List (model.Slot Node) → Type 0) (t : InlineTable) (fs : List (Slot Item))
+    → R (items_seen (out-InlineTable t).items) (items_seen fs)
     → R (inline_slots_of t) (inline_slots_of (with_slots t fs))
 of_inline R t fs r =
     subst (λ l. R l (inline_slots_of (with_slots t fs))) (sym (inline-list-of t))
@@ -54,7 +55,8 @@ tables-passed x a is = ap (λ y. is_dotted_inline (item_view y)) is ∙ ap is_do
 
 -- what is lent of an item is its value, and of a value its inline table
 pub item-entered : (R : List (model.Slot Node) → List (model.Slot Node) → Type 0) (lent v w : Value) → lent ≡ v
-    → ReordersItem is_dotted_inline R (value_view lent) (value_view w) → ReordersItem is_dotted_inline R (item_view (items.Value v)) (item_view (items.Value w))
+    → ReordersItem is_dotted_inline R (value_view lent) (value_view w)
+    → ReordersItem is_dotted_inline R (item_view (items.Value v)) (item_view (items.Value w))
 item-entered R lent v w same r =
     subst (λ n. ReordersItem is_dotted_inline R n (item_view (items.Value w))) (sym (view-Value v ∙ ap value_view (sym same)))
     (subst (λ n. ReordersItem is_dotted_inline R (value_view lent) n) (sym (view-Value w)) r)
@@ -63,7 +65,8 @@ pub value-entered : (R : List (model.Slot Node) → List (model.Slot Node) → T
     → ReordersItem is_dotted_inline R (inline_node (inline_view lent)) (inline_node (inline_view u))
     → ReordersItem is_dotted_inline R (value_view (values.InlineTable t)) (value_view (values.InlineTable u))
 value-entered R lent t u same r =
-    subst (λ n. ReordersItem is_dotted_inline R n (value_view (values.InlineTable u))) (sym (view-InlineTable t ∙ ap (λ y. inline_node (inline_view y)) (sym same)))
+    subst (λ n. ReordersItem is_dotted_inline R n (value_view (values.InlineTable u))) (sym (view-InlineTable t
+    ∙ ap (λ y. inline_node (inline_view y)) (sym same)))
     (subst (λ n. ReordersItem is_dotted_inline R (inline_node (inline_view lent)) n) (sym (view-InlineTable u)) r)
 
 -- a dotted inline table whose slots went from these to those
@@ -74,20 +77,25 @@ entered R f es fs dotted r =
     rw (view-seen es, view-seen fs, dotted)
     (slots_from (items_seen es), r.0, refl, subst (λ l. R l r.0) (sym (slot_list-from (items_seen es))) r.1, r.2)
 
-pub inline-entered : (R : List (model.Slot Node) → List (model.Slot Node) → Type 0) (t : InlineTable) (fs : List (Slot Item)) → (inline_fields t).is_dotted ≡ true
-    → (mid : List (model.Slot Node)) × R (items_seen (out-InlineTable t).items) mid × ReordersItems is_dotted_inline R mid (slots_from (items_seen fs))
+pub inline-entered : (R : List (model.Slot Node) → List (model.Slot Node) → Type 0) (t : InlineTable) (fs : List (Slot Item))
+    → (inline_fields t).is_dotted ≡ true
+    → (mid : List (model.Slot Node)) × R (items_seen (out-InlineTable t).items) mid
+    × ReordersItems is_dotted_inline R mid (slots_from (items_seen fs))
     → ReordersItem is_dotted_inline R (inline_node (inline_view t)) (inline_node (inline_view (with_slots t fs)))
 inline-entered R t fs dotted r =
     let after : InlineTable = with_slots t fs in
-    let old : inline_node (inline_view t) ≡ inline (inline_fields t) (slots_view (out-InlineTable t).items) = ap (inline (inline_fields t)) (inline_slots t) in
+    let old : inline_node (inline_view t) ≡ inline (inline_fields t) (slots_view (out-InlineTable t).items) =
+    ap (inline (inline_fields t)) (inline_slots t) in
     let new : inline_node (inline_view after) ≡ inline (inline_fields t) (slots_view fs) =
     ap (λ f. inline f (inline_view after).slots) (made_inline_fields t fs) ∙ ap (inline (inline_fields t)) (made-slots t fs) in
     subst (λ n. ReordersItem is_dotted_inline R n (inline_node (inline_view after))) (sym old)
-    (subst (λ n. ReordersItem is_dotted_inline R (inline (inline_fields t) (slots_view (out-InlineTable t).items)) n) (sym new) (entered R (inline_fields t) (out-InlineTable t).items fs dotted r))
+    (subst (λ n. ReordersItem is_dotted_inline R (inline (inline_fields t) (slots_view (out-InlineTable t).items)) n) (sym new)
+    (entered R (inline_fields t) (out-InlineTable t).items fs dotted r))
 
 -- ---- two slots with values
 
-pub both-first : (lt : model.Slot Node → model.Slot Node → Bool) (k l : Key) (m n x y : Node) (b : Bool) → is_value_node m ≡ true → x ≡ m → is_value_node n ≡ true → y ≡ n
+pub both-first : (lt : model.Slot Node → model.Slot Node → Bool) (k l : Key) (m n x y : Node) (b : Bool) → is_value_node m ≡ true → x ≡ m
+    → is_value_node n ≡ true → y ≡ n
     → b ≡ lt (record { key = k; item = x }) (record { key = l; item = y })
     → b ≡ others_first (λ t. is_value_node t.item) lt (record { key = k; item = m }) (record { key = l; item = n })
 both-first lt k l m n x y b one same other alike e = rw (one, other, ← same, ← alike) e

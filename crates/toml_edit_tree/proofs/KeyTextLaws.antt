@@ -21,19 +21,23 @@ module _ (mode : Mode) where
   five a b c d e f = simp append_assoc
 
   dotted_keys-after : (ks : List Key) (k : Key)
-      → dotted_keys mode false (ks ++ (k ∷ [])) ≡ dotted_keys mode false ks ++ (dot_prefix mode k ++ (key_text k ++ (dot_suffix mode k ++ codes ".")))
+      → dotted_keys mode false (ks ++ (k ∷ [])) ≡ dotted_keys mode false ks
+      ++ (dot_prefix mode k ++ (key_text k ++ (dot_suffix mode k ++ codes ".")))
   dotted_keys-after [] k = refl
   dotted_keys-after (j ∷ ks) k =
       ap (λ t. dot_prefix mode j ++ (key_text j ++ (dot_suffix mode j ++ (codes "." ++ t)))) (dotted_keys-after ks k)
-      ∙ sym (five (dot_prefix mode j) (key_text j) (dot_suffix mode j) (codes ".") (dotted_keys mode false ks) (dot_prefix mode k ++ (key_text k ++ (dot_suffix mode k ++ codes "."))))
+      ∙ sym (five (dot_prefix mode j) (key_text j) (dot_suffix mode j) (codes ".") (dotted_keys mode false ks) (dot_prefix mode k
+      ++ (key_text k ++ (dot_suffix mode k ++ codes "."))))
 
   -- one more key at the end
   pub dotted_keys-more : (ks : List Key) (k : Key)
-      → dotted_keys mode true (ks ++ (k ∷ [])) ≡ dotted_keys mode true ks ++ (before_key mode ks k ++ (key_text k ++ (dot_suffix mode k ++ codes ".")))
+      → dotted_keys mode true (ks ++ (k ∷ [])) ≡ dotted_keys mode true ks
+      ++ (before_key mode ks k ++ (key_text k ++ (dot_suffix mode k ++ codes ".")))
   dotted_keys-more [] k = refl
   dotted_keys-more (j ∷ ks) k =
       ap (λ t. key_text j ++ (dot_suffix mode j ++ (codes "." ++ t))) (dotted_keys-after ks k)
-      ∙ sym (five [] (key_text j) (dot_suffix mode j) (codes ".") (dotted_keys mode false ks) (dot_prefix mode k ++ (key_text k ++ (dot_suffix mode k ++ codes "."))))
+      ∙ sym (five [] (key_text j) (dot_suffix mode j) (codes ".") (dotted_keys mode false ks) (dot_prefix mode k
+      ++ (key_text k ++ (dot_suffix mode k ++ codes "."))))
 
   -- ---- whole keys
 
@@ -43,29 +47,34 @@ module _ (mode : Mode) where
   last_leaf-end (j ∷ l ∷ ks) k = last_leaf-end (l ∷ ks) k
 
   step-after : (j l : Key) (rest : List Key)
-      → path_text (segments_after mode (j ∷ l ∷ rest)) ≡ (dot_prefix mode j ++ (key_text j ++ dot_suffix mode j)) ++ (codes "." ++ path_text (segments_after mode (l ∷ rest)))
+      → path_text (segments_after mode (j ∷ l ∷ rest)) ≡ (dot_prefix mode j ++ (key_text j ++ dot_suffix mode j))
+      ++ (codes "." ++ path_text (segments_after mode (l ∷ rest)))
   step-after j l [] = refl
   step-after j l (m ∷ rest) = refl
 
   key-after : (j : Key) (ks : List Key) (k : Key)
-      → path_text (segments_after mode (j ∷ (ks ++ (k ∷ [])))) ≡ (dot_prefix mode j ++ (key_text j ++ dot_suffix mode j)) ++ (codes "." ++ path_text (segments_after mode (ks ++ (k ∷ []))))
+      → path_text (segments_after mode (j ∷ (ks ++ (k ∷ [])))) ≡ (dot_prefix mode j ++ (key_text j ++ dot_suffix mode j))
+      ++ (codes "." ++ path_text (segments_after mode (ks ++ (k ∷ []))))
   key-after j [] k = refl
   key-after j (l ∷ ks) k = step-after j l (ks ++ (k ∷ []))
 
   step-first : (j l : Key) (rest : List Key)
-      → path_text (segments mode (j ∷ l ∷ rest)) ≡ (key_text j ++ dot_suffix mode j) ++ (codes "." ++ path_text (segments_after mode (l ∷ rest)))
+      → path_text (segments mode (j ∷ l ∷ rest)) ≡ (key_text j ++ dot_suffix mode j)
+      ++ (codes "." ++ path_text (segments_after mode (l ∷ rest)))
   step-first j l [] = refl
   step-first j l (m ∷ rest) = refl
 
   key-first : (j : Key) (ks : List Key) (k : Key)
-      → path_text (segments mode (j ∷ (ks ++ (k ∷ [])))) ≡ (key_text j ++ dot_suffix mode j) ++ (codes "." ++ path_text (segments_after mode (ks ++ (k ∷ []))))
+      → path_text (segments mode (j ∷ (ks ++ (k ∷ [])))) ≡ (key_text j ++ dot_suffix mode j)
+      ++ (codes "." ++ path_text (segments_after mode (ks ++ (k ∷ []))))
   key-first j [] k = refl
   key-first j (l ∷ ks) k = step-first j l (ks ++ (k ∷ []))
 
   six : (a b c d e f : Text) → (a ++ (b ++ c)) ++ (d ++ (e ++ f)) ≡ (a ++ (b ++ (c ++ (d ++ e)))) ++ f
   six a b c d e f = simp append_assoc
 
-  path-after : (ks : List Key) (k : Key) → path_text (segments_after mode (ks ++ (k ∷ []))) ≡ dotted_keys mode false ks ++ (dot_prefix mode k ++ key_text k)
+  path-after : (ks : List Key) (k : Key) → path_text (segments_after mode (ks ++ (k ∷ []))) ≡ dotted_keys mode false ks
+      ++ (dot_prefix mode k ++ key_text k)
   path-after [] k = ap (λ t. dot_prefix mode k ++ t) (append-nil (key_text k))
   path-after (j ∷ ks) k =
       key-after j ks k
@@ -73,7 +82,8 @@ module _ (mode : Mode) where
       ∙ six (dot_prefix mode j) (key_text j) (dot_suffix mode j) (codes ".") (dotted_keys mode false ks) (dot_prefix mode k ++ key_text k)
 
   -- a key behind others
-  pub path-is : (ks : List Key) (k : Key) → path_text (segments mode (ks ++ (k ∷ []))) ≡ dotted_keys mode true ks ++ (before_key mode ks k ++ key_text k)
+  pub path-is : (ks : List Key) (k : Key) → path_text (segments mode (ks ++ (k ∷ []))) ≡ dotted_keys mode true ks
+      ++ (before_key mode ks k ++ key_text k)
   path-is [] k = append-nil (key_text k)
   path-is (j ∷ ks) k =
       key-first j ks k
@@ -89,6 +99,11 @@ module _ (mode : Mode) where
   pub line_start-is : (default : Text) (ks : List Key) (k : Key) (n : Node)
       → line_start mode default (record { keys = ks ++ (k ∷ []); item = n; value = value_of mode n }) ≡ pair_start mode default ks k n
   line_start-is default ks k n =
-      ap (λ (d : Decor). shown_prefix mode default d ++ (path_text (segments mode (ks ++ (k ∷ []))) ++ (shown_suffix mode one_space d ++ (codes "=" ++ (shown_prefix mode one_space (node_decor n) ++ node_text mode n))))) (last_leaf-end ks k)
-      ∙ ap (λ (t : Text). shown_prefix mode default k.leaf ++ (t ++ (shown_suffix mode one_space k.leaf ++ (codes "=" ++ (shown_prefix mode one_space (node_decor n) ++ node_text mode n))))) (path-is ks k)
-      ∙ in_order (shown_prefix mode default k.leaf) (dotted_keys mode true ks) (before_key mode ks k) (key_text k) (shown_suffix mode one_space k.leaf) (codes "=") (shown_prefix mode one_space (node_decor n)) (node_text mode n)
+      ap (λ (d : Decor). shown_prefix mode default d ++ (path_text (segments mode (ks ++ (k ∷ [])))
+      ++ (shown_suffix mode one_space d ++ (codes "=" ++ (shown_prefix mode one_space (node_decor n) ++ node_text mode n)))))
+      (last_leaf-end ks k)
+      ∙ ap (λ (t : Text). shown_prefix mode default k.leaf
+      ++ (t ++ (shown_suffix mode one_space k.leaf ++ (codes "=" ++ (shown_prefix mode one_space (node_decor n) ++ node_text mode n)))))
+      (path-is ks k)
+      ∙ in_order (shown_prefix mode default k.leaf) (dotted_keys mode true ks) (before_key mode ks k) (key_text k)
+      (shown_suffix mode one_space k.leaf) (codes "=") (shown_prefix mode one_space (node_decor n)) (node_text mode n)

@@ -50,7 +50,8 @@ written-listed (y ∷ xs) (suc i) x = ap (λ l. item_view y ∷ l) (written-list
 made_items : (a : Array-F Item Value Array ArrayOfTables InlineTable Table) → (array_view (roll-Array a)).items ≡ items_view a.values.items
 made_items a = search (rules, the_lemmas)
 
-made_elements : (a : ArrayOfTables-F Item Value Array ArrayOfTables InlineTable Table) → (tables_view (roll-ArrayOfTables a)).items ≡ items_view a.values.items
+made_elements : (a : ArrayOfTables-F Item Value Array ArrayOfTables InlineTable Table) → (tables_view (roll-ArrayOfTables a)).items
+    ≡ items_view a.values.items
 made_elements a = search (rules, the_lemmas)
 
 pub array-leaves : (i : ℕ) (w : Value) (a : Array) → items_of (with_value_at i w a) ≡ written_at i (value_view w) (items_of a)
@@ -62,7 +63,8 @@ array-leaves i w a =
 pub array-keeps : (i : ℕ) (w : Value) (a : Array) → array_fields (with_value_at i w a) ≡ array_fields a
 array-keeps i w a = search (rules, the_lemmas)
 
-pub tables-leave : (i : ℕ) (w : Table) (a : ArrayOfTables) → tables_of (with_table_at i w a) ≡ written_at i (table_node (table_view w)) (tables_of a)
+pub tables-leave : (i : ℕ) (w : Table) (a : ArrayOfTables) → tables_of (with_table_at i w a)
+    ≡ written_at i (table_node (table_view w)) (tables_of a)
 tables-leave i w a =
     let xs = (out-ArrayOfTables a).values.items in
     ap item_list (made_elements _) ∙ written-listed xs i (items.Table w) ∙ ap (λ n. written_at i n (listed xs)) (view-Table w)
@@ -74,10 +76,12 @@ tables-keep i w a = search (rules, the_lemmas)
 -- ---- the slot of a key
 
 module _ (k : Text) (w : Item) (es : List (Slot Item)) (apart : model.AreApart (shown es)) where
-  written : (o : Option ℕ) → place k es ≡ o → shown (option_map_or (λ at. with_item at w es) o es) ≡ model.changed k (model.with_item (item_view w)) (shown es)
+  written : (o : Option ℕ) → place k es ≡ o → shown (option_map_or (λ at. with_item at w es) o es)
+      ≡ model.changed k (model.with_item (item_view w)) (shown es)
   written None e = sym (changed-none k (model.with_item (item_view w)) (shown es) (none_at k (shown es) (place-shown k es ∙ e)))
   written (Some i) e =
-      set-shown es i (slot_shown no_slot) w ∙ sym (changed-at k (model.with_item (item_view w)) (shown es) i (slot_shown no_slot) apart (place-shown k es ∙ e))
+      set-shown es i (slot_shown no_slot) w ∙ sym (changed-at k (model.with_item (item_view w)) (shown es) i (slot_shown no_slot) apart
+      (place-shown k es ∙ e))
 
   under-shown : shown (option_map_or (λ at. with_item at w es) (place k es) es) ≡ model.changed k (model.with_item (item_view w)) (shown es)
   under-shown = written (place k es) refl
@@ -96,14 +100,16 @@ pub inline-leaves : (k : Text) (t : InlineTable) → model.AreApart (inline_slot
 inline-leaves k t apart w =
     let es = (out-InlineTable t).items in
     made_inline-shown _ ∙ under-shown k (items.Value w) es (subst model.AreApart (inline-shown t) apart)
-    ∙ ap (λ n. model.changed k (model.with_item n) (shown es)) (view-Value w) ∙ ap (model.changed k (model.with_item (value_view w))) (sym (inline-shown t))
+    ∙ ap (λ n. model.changed k (model.with_item n) (shown es)) (view-Value w)
+    ∙ ap (model.changed k (model.with_item (value_view w))) (sym (inline-shown t))
 
 pub inline-keeps : (k : Text) (t : InlineTable) (w : Value) → inline_fields (with_value_under k w t) ≡ inline_fields t
 inline-keeps k t w = made_inline_fields t _
 
 -- ---- the slot at a place
 
-item-shown : (es : List (Slot Item)) (i : ℕ) (w : Item) → shown (with_item i w es) ≡ model.changed_at i (model.with_item (item_view w)) (shown es)
+item-shown : (es : List (Slot Item)) (i : ℕ) (w : Item) → shown (with_item i w es)
+    ≡ model.changed_at i (model.with_item (item_view w)) (shown es)
 item-shown [] i w = refl
 item-shown (s ∷ es) zero w = refl
 item-shown (s ∷ es) (suc i) w = ap (λ l. slot_shown s ∷ l) (item-shown es i w)
@@ -115,7 +121,8 @@ key-shown h (s ∷ es) (suc i) = ap (λ l. slot_shown s ∷ l) (key-shown h es i
 
 module _ (i : ℕ) (t : Table) where
   pub item-leaves : (w : Item) → slots_of (with_item_at i w t) ≡ model.changed_at i (model.with_item (item_view w)) (slots_of t)
-  item-leaves w = made-shown _ ∙ item-shown (out-Table t).slots i w ∙ ap (model.changed_at i (model.with_item (item_view w))) (sym (table-shown t))
+  item-leaves w = made-shown _ ∙ item-shown (out-Table t).slots i w
+      ∙ ap (model.changed_at i (model.with_item (item_view w))) (sym (table-shown t))
 
   pub item-keeps : (w : Item) → fields_view (with_item_at i w t) ≡ fields_view t
   item-keeps w = made_fields t _
@@ -127,17 +134,23 @@ module _ (i : ℕ) (t : Table) where
   key-keeps h = made_fields t _
 
 module _ (i : ℕ) (t : InlineTable) where
-  pub inline_item-leaves : (w : Item) → inline_slots_of (with_inline_item i w t) ≡ model.changed_at i (model.with_item (item_view w)) (inline_slots_of t)
-  inline_item-leaves w = made_inline-shown _ ∙ item-shown (out-InlineTable t).items i w ∙ ap (model.changed_at i (model.with_item (item_view w))) (sym (inline-shown t))
+  pub inline_item-leaves : (w : Item) → inline_slots_of (with_inline_item i w t)
+      ≡ model.changed_at i (model.with_item (item_view w)) (inline_slots_of t)
+  inline_item-leaves w = made_inline-shown _ ∙ item-shown (out-InlineTable t).items i w
+      ∙ ap (model.changed_at i (model.with_item (item_view w))) (sym (inline-shown t))
 
   pub inline_item-keeps : (w : Item) → inline_fields (with_inline_item i w t) ≡ inline_fields t
   inline_item-keeps w = made_inline_fields t _
 
-  pub inline_value-leaves : (w : Value) → inline_slots_of (inlines.with_value_at i w t) ≡ model.changed_at i (model.with_item (value_view w)) (inline_slots_of t)
-  inline_value-leaves w = inline_item-leaves (items.Value w) ∙ ap (λ n. model.changed_at i (model.with_item n) (inline_slots_of t)) (view-Value w)
+  pub inline_value-leaves : (w : Value) → inline_slots_of (inlines.with_value_at i w t)
+      ≡ model.changed_at i (model.with_item (value_view w)) (inline_slots_of t)
+  inline_value-leaves w = inline_item-leaves (items.Value w)
+      ∙ ap (λ n. model.changed_at i (model.with_item n) (inline_slots_of t)) (view-Value w)
 
-  pub inline_key-leaves : (h : Key → Key) → inline_slots_of (with_inline_key i h t) ≡ model.changed_at i (model.on_key h) (inline_slots_of t)
-  inline_key-leaves h = made_inline-shown _ ∙ key-shown h (out-InlineTable t).items i ∙ ap (model.changed_at i (model.on_key h)) (sym (inline-shown t))
+  pub inline_key-leaves : (h : Key → Key) → inline_slots_of (with_inline_key i h t)
+      ≡ model.changed_at i (model.on_key h) (inline_slots_of t)
+  inline_key-leaves h = made_inline-shown _ ∙ key-shown h (out-InlineTable t).items i
+      ∙ ap (model.changed_at i (model.on_key h)) (sym (inline-shown t))
 
   pub inline_key-keeps : (h : Key → Key) → inline_fields (with_inline_key i h t) ≡ inline_fields t
   inline_key-keeps h = made_inline_fields t _

@@ -27,7 +27,8 @@ lines-joined own rest all-lines done new all split took more =
     ∙ append_assoc done (map line_value own) (map line_value rest)
     ∙ ap (λ (l : List Shown). done ++ l) (sym (ap (map line_value) split ∙ map-append line_value own rest)) ∙ more
 
-module _ (es : List (Slot Item)) (i : ℕ) (s : Slot Item) (h : i < length es) (is : s ≡ get_or es i s) (ks : List Key) (done new all : List Shown) where
+module _ (es : List (Slot Item)) (i : ℕ) (s : Slot Item) (h : i < length es) (is : s
+    ≡ get_or es i s) (ks : List Key) (done new all : List Shown) where
   -- a slot of a table
   pub table-turn : new ≡ done ++ map line_value (lines_in_table plain (item_view s.item) (ks ++ (s.key ∷ [])))
       → done ++ map line_value (table_lines plain (slots_view (drop i es)) ks) ≡ all

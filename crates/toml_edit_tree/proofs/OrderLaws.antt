@@ -1,5 +1,6 @@
 -- Slots and elements put in the order of their places.
-use Rattle.std.proofs.Common.{◌≡◌, ℕ, zero, suc, ◌<◌, true, false, List, [], ◌∷◌, length, map, get_or, set, refl, sym, ap, ◌∙◌, inl, inr, arith, nat_le, nat_lt, Some, slice_get}
+use Rattle.std.proofs.Common.{◌≡◌, ℕ, zero, suc, ◌<◌, true, false, List, [], ◌∷◌, length, map, get_or, set, refl, sym, ap, ◌∙◌, inl, inr}
+use Rattle.std.proofs.Common.{arith, nat_le, nat_lt, Some, slice_get}
 use Rattle.std.proofs.lemmas.Bool.{cases_Bool}
 use Rattle.std.proofs.lemmas.Bool.Decides.{nat_tests}
 use Rattle.std.proofs.lemmas.Option.{same_Some}
@@ -60,12 +61,14 @@ not-before i j h = grind (arith, nat_tests)
 is-before : (i j : ℕ) → nat_le i j ≡ false → nat_lt j i ≡ true
 is-before i j h = grind (arith, nat_tests)
 
-insert-view : (s : Slot Item) (es : List (Slot Item)) → slots_view (insert_by by_place s es) ≡ slot_by_place s.key (item_view s.item) (slots_view es)
+insert-view : (s : Slot Item) (es : List (Slot Item)) → slots_view (insert_by by_place s es)
+    ≡ slot_by_place s.key (item_view s.item) (slots_view es)
 insert-view s [] = refl
 insert-view s (e ∷ es) =
     elim (cases_Bool (nat_le (key_place s.key) (key_place e.key))) [
       | inl first ↦ rw (first, not-before (key_place s.key) (key_place e.key) first) refl
-      | inr behind ↦ rw (behind, is-before (key_place s.key) (key_place e.key) behind) (ap (slot e.key (item_view e.item)) (insert-view s es))
+      | inr behind ↦ rw (behind, is-before (key_place s.key) (key_place e.key) behind)
+          (ap (slot e.key (item_view e.item)) (insert-view s es))
     ]
 
 sorted-view : (es : List (Slot Item)) → slots_view (sorted_by by_place es) ≡ sorted_slots (slots_view es)
@@ -79,12 +82,14 @@ pub slots-in-order : (es : List (Slot Item)) (first : List (Slot Node)) → map 
 slots-in-order es first h = sorted-view es ∙ ap sorted_slots (ap tree_slots h ∙ each-view first) ∙ sorted-each (tree_slots first)
 
 -- the item at a place, and another there
-pub item-at : (es : List (Slot Item)) (i : ℕ) (d : Slot Item) (x : Item) → i < length es → Some x ≡ slice_get (items_of es) i → x ≡ (get_or es i d).item
+pub item-at : (es : List (Slot Item)) (i : ℕ) (d : Slot Item) (x : Item) → i < length es → Some x ≡ slice_get (items_of es) i → x
+    ≡ (get_or es i d).item
 item-at [] i d x l e = absurd (omega (arith, l))
 item-at (s ∷ es) zero d x l e = same_Some x s.item e
 item-at (s ∷ es) (suc i) d x l e = item-at es i d x (omega (arith, l)) e
 
-pub item-changed : (es : List (Slot Item)) (i : ℕ) (d : Slot Item) (y : Item) → with_item i y es ≡ set es i (record { key = (get_or es i d).key; item = y })
+pub item-changed : (es : List (Slot Item)) (i : ℕ) (d : Slot Item) (y : Item) → with_item i y es
+    ≡ set es i (record { key = (get_or es i d).key; item = y })
 item-changed [] i d y = refl
 item-changed (s ∷ es) zero d y = refl
 item-changed (s ∷ es) (suc i) d y = ap (λ l. s ∷ l) (item-changed es i d y)

@@ -1,5 +1,6 @@
 -- What stands at a place of a list of items, by what is seen of them.
-use Rattle.std.proofs.Common.{◌≡◌, ℕ, is_some, zero, suc, ◌≤◌, List, [], ◌∷◌, length, map, slice_get, Option, Some, None, option_map, option_and_then, refl, sym, ap, subst, ◌∙◌}
+use Rattle.std.proofs.Common.{◌≡◌, ℕ, is_some, zero, suc, ◌≤◌, List, [], ◌∷◌, length, map, slice_get, Option, Some, None, option_map}
+use Rattle.std.proofs.Common.{option_and_then, refl, sym, ap, subst, ◌∙◌}
 use Rattle.std.proofs.lemmas.Option.{slice_get_past}
 use Rattle.toml_edit_model.specs.ArrayCalls.{value_at}
 use Rattle.toml_edit_model.specs.Lists.{only}
@@ -30,18 +31,21 @@ slot_past xs i h = sym (slice_get_past (listed xs) i (subst (λ n. n ≤ i) (sym
 
 -- ---- what holds a value, or a table
 
-value-in : (o : Option Item) → option_map value_view (option_and_then value_held o) ≡ option_and_then (only is_value_node) (option_map item_view o)
+value-in : (o : Option Item) → option_map value_view (option_and_then value_held o)
+    ≡ option_and_then (only is_value_node) (option_map item_view o)
 value-in None = refl
 value-in (Some x) = value-seen x
 
 pub value_seen_at : (xs : List Item) (i : ℕ) → option_map value_view (option_and_then value_held (slice_get xs i)) ≡ value_at i (listed xs)
 value_seen_at xs i = value-in (slice_get xs i) ∙ sym (ap (option_and_then (only is_value_node)) (slot_at xs i))
 
-table-in : (o : Option Item) → option_map (λ t. table_node (table_view t)) (option_and_then table_held o) ≡ option_and_then (only is_table_node) (option_map item_view o)
+table-in : (o : Option Item) → option_map (λ t. table_node (table_view t)) (option_and_then table_held o)
+    ≡ option_and_then (only is_table_node) (option_map item_view o)
 table-in None = refl
 table-in (Some x) = table-seen x
 
-pub table_seen_at : (xs : List Item) (i : ℕ) → option_map (λ t. table_node (table_view t)) (option_and_then table_held (slice_get xs i)) ≡ table_at i (listed xs)
+pub table_seen_at : (xs : List Item) (i : ℕ) → option_map (λ t. table_node (table_view t)) (option_and_then table_held (slice_get xs i))
+    ≡ table_at i (listed xs)
 table_seen_at xs i = table-in (slice_get xs i) ∙ sym (ap (option_and_then (only is_table_node)) (slot_at xs i))
 
 seen-table : (n : Node) → is_some (only is_table_node n) ≡ is_some (table_in n)

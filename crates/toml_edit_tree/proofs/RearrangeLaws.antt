@@ -1,5 +1,6 @@
 -- Slots that are renamed, moved or inserted at a place, as a table or an inline table shows them.
-use Rattle.std.proofs.Common.{◌≡◌, ℕ, zero, suc, Bool, true, false, not, ◌||◌, if◌then◌else◌, List, [], ◌∷◌, Option, None, Some, option_map, refl, ap, ◌∙◌}
+use Rattle.std.proofs.Common.{◌≡◌, ℕ, zero, suc, Bool, true, false, not, ◌||◌, if◌then◌else◌, List, [], ◌∷◌, Option, None, Some, option_map}
+use Rattle.std.proofs.Common.{refl, ap, ◌∙◌}
 use Rattle.std.specs.Option.{option_map_or}
 use Rattle.toml_edit_model.specs.Rearranging.{inserted_slot, is_free, moved_slot, renamed_key, renamed_slot}
 use Rattle.toml_edit_model.specs.Slots as model
@@ -35,7 +36,8 @@ module _ {X Y : Type 0} (h : X → Y) where
       chosen true = views.changed-seen h (model.on_key (renamed_key u)) (model.on_key (renamed_key u)) (λ s. refl) t es
       chosen false = refl
 
-  inserted-joins : (i : ℕ) (s : model.Slot X) (es : List (model.Slot X)) → inserted_slot i (model.on_item h s) (views.seen h es) ≡ views.seen h (inserted_slot i s es)
+  inserted-joins : (i : ℕ) (s : model.Slot X) (es : List (model.Slot X)) → inserted_slot i (model.on_item h s) (views.seen h es)
+      ≡ views.seen h (inserted_slot i s es)
   inserted-joins zero s [] = refl
   inserted-joins (suc i) s [] = refl
   inserted-joins zero s (e ∷ es) = refl
@@ -43,11 +45,14 @@ module _ {X Y : Type 0} (h : X → Y) where
 
   moved-joins : (t : Text) (i : ℕ) (es : List (model.Slot X)) → moved_slot t i (views.seen h es) ≡ views.seen h (moved_slot t i es)
   moved-joins t i es =
-      ap (λ o. option_map_or (λ s. inserted_slot i s (model.without t (views.seen h es))) o (views.seen h es)) (views.lookup_slot-seen h t es)
-      ∙ ap (λ l. option_map_or (λ s. inserted_slot i s l) (option_map (model.on_item h) (model.lookup_slot t es)) (views.seen h es)) (views.without-seen h t es)
+      ap (λ o. option_map_or (λ s. inserted_slot i s (model.without t (views.seen h es))) o (views.seen h es))
+      (views.lookup_slot-seen h t es)
+      ∙ ap (λ l. option_map_or (λ s. inserted_slot i s l) (option_map (model.on_item h) (model.lookup_slot t es)) (views.seen h es))
+      (views.without-seen h t es)
       ∙ found (model.lookup_slot t es)
     where
-      found : (o : Option (model.Slot X)) → option_map_or (λ s. inserted_slot i s (views.seen h (model.without t es))) (option_map (model.on_item h) o) (views.seen h es)
+      found : (o : Option (model.Slot X)) → option_map_or (λ s. inserted_slot i s (views.seen h (model.without t es)))
+          (option_map (model.on_item h) o) (views.seen h es)
           ≡ views.seen h (option_map_or (λ s. inserted_slot i s (model.without t es)) o es)
       found None = refl
       found (Some s) = inserted-joins i s (model.without t es)
@@ -69,4 +74,5 @@ moved-shown t i = carried (moved_slot t i) (moved_slot t i) (moved-joins item_vi
 pub inserted_slot-shown : (i : ℕ) (k : Key) (x : Item) (es fs : List (Slot Item)) → seen fs ≡ inserted_slot i (model.keyed k x) (seen es)
     → shown fs ≡ inserted_slot i (model.keyed k (item_view x)) (shown es)
 inserted_slot-shown i k x =
-    carried (inserted_slot i (model.keyed k x)) (inserted_slot i (model.keyed k (item_view x))) (inserted-joins item_view i (model.keyed k x))
+    carried (inserted_slot i (model.keyed k x)) (inserted_slot i (model.keyed k (item_view x)))
+    (inserted-joins item_view i (model.keyed k x))

@@ -1,5 +1,6 @@
 -- What a `retain` of values or of tables leaves.
-use Rattle.std.proofs.Common.{◌≡◌, Bool, true, false, cond, List, [], ◌∷◌, filter, map, Some, None, MatchBool, unwrap_or, refl, sym, ap, subst, ◌∙◌}
+use Rattle.std.proofs.Common.{◌≡◌, Bool, true, false, cond, List, [], ◌∷◌, filter, map, Some, None, MatchBool, unwrap_or, refl, sym, ap}
+use Rattle.std.proofs.Common.{subst, ◌∙◌}
 use Rattle.toml_edit_model.specs.Retaining.{RetainsBy}
 use Rattle.toml_edit_model.specs.Shown.{is_table_node}
 use Rattle.toml_edit_model.specs.Tree.{Node, nothing, leaf, list, inline, table, tables, is_value_node}
@@ -12,7 +13,8 @@ use Rattle.toml_edit_tree.specs.View.{item_view}
 use Rattle.toml_edit_tree.proofs.ElementLaws.{listed-map}
 
 -- where what fails a test is never kept, the closure decides of what passes it
-retains-one : (says : Node → Bool → Type 0) (b : Bool) (n : Node) (keeps : Bool) (rest passed after : List Node) → MatchBool b (says n keeps) (keeps ≡ false)
+retains-one : (says : Node → Bool → Type 0) (b : Bool) (n : Node) (keeps : Bool) (rest passed after : List Node)
+    → MatchBool b (says n keeps) (keeps ≡ false)
     → RetainsBy says passed rest → after ≡ cond keeps (n ∷ rest) rest → RetainsBy says (cond b (n ∷ passed) passed) after
 retains-one says true n keeps rest passed after m r e = (keeps, rest, m, r, e)
 retains-one says false n keeps rest passed after m r e = subst (RetainsBy says passed) (sym (e ∙ ap (λ b. cond b (n ∷ rest) rest) m)) r

@@ -6,7 +6,8 @@ use Rattle.toml_edit_model.specs.Lists.{on_slots, slots_from, slots_in}
 use Rattle.toml_edit_model.specs.Tree.{inline, table}
 use Rattle.toml_edit_slots.specs.declared.slots.Slot.{Slot}
 use Rattle.toml_edit_tree.specs.ContainerParts.{holding, table_holding}
-use Rattle.toml_edit_tree.specs.Indexed.{item_holding, slots_held, slots_open, value_holding, value_slots, value_slots_open, value_with_slots, with_slots}
+use Rattle.toml_edit_tree.specs.Indexed.{item_holding, slots_held, slots_open, value_holding, value_slots, value_slots_open}
+use Rattle.toml_edit_tree.specs.Indexed.{value_with_slots, with_slots}
 use Rattle.toml_edit_tree.specs.InlineSlots.{inline_fields}
 use Rattle.toml_edit_tree.specs.View.{fields_view, inline_view, item_view, table_slots, value_view}
 use Rattle.toml_edit_tree.specs.declared.array.Array.{Array}
@@ -21,7 +22,8 @@ use Rattle.toml_edit_tree.specs.declared.value.Value.{Value, out-Value}
 use Rattle.toml_edit_tree.specs.declared.value.Value.TheVariants as values
 use Rattle.toml_edit_tree.proofs.InlineLaws.{made_inline_fields}
 use Rattle.toml_edit_tree.proofs.SlotsLaws.{inline-shown, made_fields, made_inline-shown, made-shown, shown, table-shown}
-use Rattle.toml_edit_tree.proofs.ViewLaws.{view-Array, view-ArrayOfTables, view-Boolean, view-Datetime, view-Float, view-InlineTable, view-Integer, view-None, view-String, view-Table, view-Value}
+use Rattle.toml_edit_tree.proofs.ViewLaws.{view-Array, view-ArrayOfTables, view-Boolean, view-Datetime, view-Float, view-InlineTable}
+use Rattle.toml_edit_tree.proofs.ViewLaws.{view-Integer, view-None, view-String, view-Table, view-Value}
 
 rolled_value : (v : Value) → v ≡ roll-Value (out-Value v)
 rolled_value v = search (rules, the_lemmas)
@@ -39,7 +41,8 @@ module _ (es : List (Slot Item)) where
       ∙ ap (table (fields_view t)) (sym (slots_from-list (table_slots u)) ∙ ap slots_from (made-shown _))
       ∙ sym (ap (on_slots (λ _. shown es)) (view-Table t))
 
-  inline-holds : (t : InlineTable) → value_view (values.InlineTable (holding es t)) ≡ on_slots (λ _. shown es) (value_view (values.InlineTable t))
+  inline-holds : (t : InlineTable) → value_view (values.InlineTable (holding es t))
+      ≡ on_slots (λ _. shown es) (value_view (values.InlineTable t))
   inline-holds t =
       let u : InlineTable = holding es t in
       view-InlineTable u ∙ ap (λ g. inline g (inline_view u).slots) (made_inline_fields t es)
@@ -100,7 +103,8 @@ own_inline : (t : InlineTable) → holding (out-InlineTable t).items t ≡ t
 own_inline t = search (rules, the_lemmas)
 
 module _ (es : List (Slot Item)) where
-  own_value-open : (o : Value-F Item Value Array ArrayOfTables InlineTable Table) (v : Value) → v ≡ roll-Value o → value_slots_open o ≡ Some es → value_holding o es v ≡ v
+  own_value-open : (o : Value-F Item Value Array ArrayOfTables InlineTable Table) (v : Value) → v ≡ roll-Value o → value_slots_open o
+      ≡ Some es → value_holding o es v ≡ v
   own_value-open (Value-F.InlineTable t) v e is =
       let made : v ≡ values.InlineTable t = search (rules, the_lemmas, e) in
       ap values.InlineTable (ap (λ l. holding l t) (sym (same_Some _ _ is)) ∙ own_inline t) ∙ sym made
@@ -114,7 +118,8 @@ module _ (es : List (Slot Item)) where
   own_value : (v : Value) → value_slots v ≡ Some es → value_with_slots es v ≡ v
   own_value v is = own_value-open (out-Value v) v (rolled_value v) is
 
-  own_item-open : (o : Item-F Item Value Array ArrayOfTables InlineTable Table) (x : Item) → x ≡ roll-Item o → slots_open o ≡ Some es → item_holding o es x ≡ x
+  own_item-open : (o : Item-F Item Value Array ArrayOfTables InlineTable Table) (x : Item) → x ≡ roll-Item o → slots_open o ≡ Some es
+      → item_holding o es x ≡ x
   own_item-open (Item-F.Table t) x e is =
       let made : x ≡ items.Table t = search (rules, the_lemmas, e) in
       ap items.Table (ap (λ l. table_holding l t) (sym (same_Some _ _ is)) ∙ own_table t) ∙ sym made
@@ -129,7 +134,8 @@ module _ (es : List (Slot Item)) where
 
 -- ---- as they are seen
 
-seen_value-open : (o : Value-F Item Value Array ArrayOfTables InlineTable Table) (v : Value) → v ≡ roll-Value o → option_map shown (value_slots_open o) ≡ slots_in (value_view v)
+seen_value-open : (o : Value-F Item Value Array ArrayOfTables InlineTable Table) (v : Value) → v ≡ roll-Value o
+    → option_map shown (value_slots_open o) ≡ slots_in (value_view v)
 seen_value-open (Value-F.InlineTable t) v e =
     let is : v ≡ values.InlineTable t = search (rules, the_lemmas, e) in
     ap Some (sym (inline-shown t)) ∙ sym (ap slots_in (ap value_view is ∙ view-InlineTable t))
@@ -146,7 +152,8 @@ seen_value-open (Value-F.Datetime f) v e =
 seen_value-open (Value-F.Array a) v e =
     let is : v ≡ values.Array a = search (rules, the_lemmas, e) in sym (ap slots_in (ap value_view is ∙ view-Array a))
 
-seen_item-open : (o : Item-F Item Value Array ArrayOfTables InlineTable Table) (x : Item) → x ≡ roll-Item o → option_map shown (slots_open o) ≡ slots_in (item_view x)
+seen_item-open : (o : Item-F Item Value Array ArrayOfTables InlineTable Table) (x : Item) → x ≡ roll-Item o
+    → option_map shown (slots_open o) ≡ slots_in (item_view x)
 seen_item-open (Item-F.Table t) x e =
     let is : x ≡ items.Table t = search (rules, the_lemmas, e) in
     ap Some (sym (table-shown t)) ∙ sym (ap slots_in (ap item_view is ∙ view-Table t))

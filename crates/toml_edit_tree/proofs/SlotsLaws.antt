@@ -1,5 +1,6 @@
 -- A clause on slots, as a table or an inline table shows it.
-use Rattle.std.proofs.Common.{◌≡◌, ℕ, zero, suc, Bool, true, false, not, List, [], ◌∷◌, Option, Some, None, cond, length, map, option_and_then, option_map, slice_get, is_some, refl, sym, ap, subst, ◌∙◌, ◌↔◌, inl, inr, rules}
+use Rattle.std.proofs.Common.{◌≡◌, ℕ, zero, suc, Bool, true, false, not, List, [], ◌∷◌, Option, Some, None, cond, length, map}
+use Rattle.std.proofs.Common.{option_and_then, option_map, slice_get, is_some, refl, sym, ap, subst, ◌∙◌, ◌↔◌, inl, inr, rules}
 use Rattle.std.proofs.lemmas.Bool.{cases_Bool, false≢true}
 use Rattle.std.proofs.lemmas.Cmp.{nat_list_eq_equiv}
 use Rattle.std.specs.List.{AllByRecursion, IsDistinct}
@@ -48,13 +49,15 @@ inline-shown t = ap slot_list (inline_slots t)
 slots_in_table : (t : Table-F Item Value Array ArrayOfTables InlineTable Table) → see.table_slots (roll-Table t) ≡ slots_view t.slots
 slots_in_table t = search (rules, the_lemmas)
 
-slots_in_inline : (t : InlineTable-F Item Value Array ArrayOfTables InlineTable Table) → (see.inline_view (roll-InlineTable t)).slots ≡ slots_view t.items
+slots_in_inline : (t : InlineTable-F Item Value Array ArrayOfTables InlineTable Table) → (see.inline_view (roll-InlineTable t)).slots
+    ≡ slots_view t.items
 slots_in_inline t = search (rules, the_lemmas)
 
 pub made-shown : (t : Table-F Item Value Array ArrayOfTables InlineTable Table) → slots_of (roll-Table t) ≡ shown t.slots
 made-shown t = ap slot_list (slots_in_table t)
 
-pub made_inline-shown : (t : InlineTable-F Item Value Array ArrayOfTables InlineTable Table) → inline_slots_of (roll-InlineTable t) ≡ shown t.items
+pub made_inline-shown : (t : InlineTable-F Item Value Array ArrayOfTables InlineTable Table) → inline_slots_of (roll-InlineTable t)
+    ≡ shown t.items
 made_inline-shown t = ap slot_list (slots_in_inline t)
 
 -- ---- what a call leaves, where the view joins the call on items and that on what is seen of them
@@ -65,12 +68,14 @@ pub carried : (f : List (model.Slot Item) → List (model.Slot Item)) (g : List 
 carried f g joins es fs left =
     shown-seen fs ∙ ap (views.seen item_view) left ∙ sym (joins (seen es)) ∙ ap g (sym (shown-seen es))
 
-pub inserted-shown : (t : Text) (x : Item) (es fs : List (Slot Item)) → seen fs ≡ model.inserted t x (seen es) → shown fs ≡ model.inserted t (item_view x) (shown es)
+pub inserted-shown : (t : Text) (x : Item) (es fs : List (Slot Item)) → seen fs ≡ model.inserted t x (seen es) → shown fs
+    ≡ model.inserted t (item_view x) (shown es)
 inserted-shown t x = carried (model.inserted t x) (model.inserted t (item_view x)) (views.inserted-seen item_view t x)
 
 pub inserted_formatted-shown : (k : Key) (x : Item) (es fs : List (Slot Item)) → seen fs ≡ model.inserted_formatted k x (seen es)
     → shown fs ≡ model.inserted_formatted k (item_view x) (shown es)
-inserted_formatted-shown k x = carried (model.inserted_formatted k x) (model.inserted_formatted k (item_view x)) (views.inserted_formatted-seen item_view k x)
+inserted_formatted-shown k x =
+    carried (model.inserted_formatted k x) (model.inserted_formatted k (item_view x)) (views.inserted_formatted-seen item_view k x)
 
 pub without-shown : (t : Text) (es fs : List (Slot Item)) → seen fs ≡ model.without t (seen es) → shown fs ≡ model.without t (shown es)
 without-shown t = carried (model.without t) (model.without t) (views.without-seen item_view t)
@@ -104,7 +109,8 @@ pub lookup_key-shown : (t : Text) (es : List (Slot Item)) → model.lookup_key t
 lookup_key-shown t es = ap (option_map (λ s. s.key)) (lookup_slot-shown t es) ∙ key_of (lookup_slot t es)
 
 -- the same by what is seen
-pub lookup_slot-of : (t : Text) (es : List (Slot Item)) → model.lookup_slot t (shown es) ≡ option_map (model.on_item item_view) (model.lookup_slot t (seen es))
+pub lookup_slot-of : (t : Text) (es : List (Slot Item)) → model.lookup_slot t (shown es)
+    ≡ option_map (model.on_item item_view) (model.lookup_slot t (seen es))
 lookup_slot-of t es = ap (model.lookup_slot t) (shown-seen es) ∙ views.lookup_slot-seen item_view t (seen es)
 
 pub lookup-of : (t : Text) (es : List (Slot Item)) → model.lookup t (shown es) ≡ option_map item_view (model.lookup t (seen es))
@@ -153,7 +159,8 @@ module _ (test : Node → Bool) (t : Text) where
   abbrev NoneAt : List (model.Slot Node) → Type 0
   NoneAt es = AllByRecursion (λ u. same_text t u ≡ false) (model.names es)
 
-  moved : (u : Text) (es : List (model.Slot Node)) → same_text t u ≡ true → AllByRecursion (λ v. same_text u v ≡ false) (model.names es) → NoneAt es
+  moved : (u : Text) (es : List (model.Slot Node)) → same_text t u ≡ true → AllByRecursion (λ v. same_text u v ≡ false) (model.names es)
+      → NoneAt es
   moved u [] e all = tt
   moved u (s ∷ es) e all = (nat_list_eq_equiv.congr t u s.key.name e ∙ all.0, moved u es e all.1)
 
@@ -170,7 +177,8 @@ module _ (test : Node → Bool) (t : Text) where
   passing s = cond (test s.item) (Some s) None
 
   -- what is found among them is what stands under the name, if it passes
-  pub found-those : (es : List (model.Slot Node)) → model.AreApart es → model.lookup_slot t (model.those test es) ≡ option_and_then passing (model.lookup_slot t es)
+  pub found-those : (es : List (model.Slot Node)) → model.AreApart es → model.lookup_slot t (model.those test es)
+      ≡ option_and_then passing (model.lookup_slot t es)
   unfolding IsDistinct
   found-those [] a = refl
   found-those (s ∷ es) a =
@@ -201,7 +209,8 @@ module _ (test : Node → Bool) (t : Text) where
         | inr fails ↦ rw fails refl
       ]
 
-  pub has_slot-those : (es : List (model.Slot Node)) → model.AreApart es → model.has_slot t (model.those test es) ≡ option_map_or (λ s. test s.item) (model.lookup_slot t es) false
+  pub has_slot-those : (es : List (model.Slot Node)) → model.AreApart es → model.has_slot t (model.those test es)
+      ≡ option_map_or (λ s. test s.item) (model.lookup_slot t es) false
   has_slot-those es a = is_found (model.those test es) ∙ ap is_some (found-those es a) ∙ item_passes (model.lookup_slot t es)
 
 -- kinds of items, as calls of an item tell them
@@ -235,16 +244,19 @@ is_item-not false n h = full n h.1
 
 -- ---- retain
 
-retains-more : {X : Type 0} (p q : X → Bool → Type 0) → ((x : X) (b : Bool) → p x b → q x b) → (before after : List X) → RetainsBy p before after → RetainsBy q before after
+retains-more : {X : Type 0} (p q : X → Bool → Type 0) → ((x : X) (b : Bool) → p x b → q x b) → (before after : List X)
+    → RetainsBy p before after → RetainsBy q before after
 retains-more p q f [] after r = r
 retains-more p q f (x ∷ before) after r = (r.0, r.1, f x r.0 r.2, retains-more p q f before r.1 r.3, r.4)
 
-pub retains-shown : (p : model.Slot Item → Bool → Type 0) (q : model.Slot Node → Bool → Type 0) → ((s : model.Slot Item) (b : Bool) → p s b → q (model.on_item item_view s) b)
+pub retains-shown : (p : model.Slot Item → Bool → Type 0) (q : model.Slot Node → Bool → Type 0)
+    → ((s : model.Slot Item) (b : Bool) → p s b → q (model.on_item item_view s) b)
     → (es fs : List (Slot Item)) → RetainsBy p (seen es) (seen fs) → RetainsBy q (shown es) (shown fs)
 retains-shown p q f es fs r =
     subst (λ l. RetainsBy q l (shown fs)) (sym (shown-seen es))
     (subst (λ l. RetainsBy q (views.seen item_view (seen es)) l) (sym (shown-seen fs))
-    (retains-seen (model.on_item item_view) q (seen es) (seen fs) (retains-more p (λ s. q (model.on_item item_view s)) f (seen es) (seen fs) r)))
+    (retains-seen (model.on_item item_view) q (seen es) (seen fs)
+    (retains-more p (λ s. q (model.on_item item_view s)) f (seen es) (seen fs) r)))
 
 -- ---- extend
 
@@ -252,9 +264,11 @@ pairs-shown : (ps : List (Key × Item)) → views.seen item_view (map pair_seen 
 pairs-shown [] = refl
 pairs-shown (p ∷ ps) = ap (λ l. slot_taken p ∷ l) (pairs-shown ps)
 
-pub extended-shown : (ps : List (Key × Item)) (es fs : List (Slot Item)) → seen fs ≡ model.extended (map pair_seen ps) (seen es) → shown fs ≡ model.extended (map slot_taken ps) (shown es)
+pub extended-shown : (ps : List (Key × Item)) (es fs : List (Slot Item)) → seen fs ≡ model.extended (map pair_seen ps) (seen es) → shown fs
+    ≡ model.extended (map slot_taken ps) (shown es)
 extended-shown ps es fs e =
-    carried (model.extended (map pair_seen ps)) (model.extended (views.seen item_view (map pair_seen ps))) (views.extended-seen item_view (map pair_seen ps)) es fs e
+    carried (model.extended (map pair_seen ps)) (model.extended (views.seen item_view (map pair_seen ps)))
+    (views.extended-seen item_view (map pair_seen ps)) es fs e
     ∙ ap (λ l. model.extended l (shown es)) (pairs-shown ps)
 
 -- ---- fmt

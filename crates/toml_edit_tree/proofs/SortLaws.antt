@@ -1,6 +1,7 @@
 -- Slots sorted, and then what they have inside in turn; and what a sort of a table enters.
 use denote.Param.Weighed.{most}
-use Rattle.std.proofs.Common.{◌≡◌, ℕ, zero, suc, ◌+◌, ◌<◌, ◌≤◌, Bool, true, false, List, [], ◌∷◌, length, map, get_or, set, IsPermutation, refl, sym, ap, subst, ◌∙◌, arith}
+use Rattle.std.proofs.Common.{◌≡◌, ℕ, zero, suc, ◌+◌, ◌<◌, ◌≤◌, Bool, true, false, List, [], ◌∷◌, length, map, get_or, set, IsPermutation}
+use Rattle.std.proofs.Common.{refl, sym, ap, subst, ◌∙◌, arith}
 use Rattle.std.proofs.lemmas.Bool.{false≢true}
 use Rattle.std.proofs.lemmas.List.Elements.{All-map}
 use Rattle.std.proofs.lemmas.List.Sorted.{All-permutation, IsPermutation-map, IsPermutation-refl, length_permutation}
@@ -69,15 +70,18 @@ seen-twice [] = refl
 seen-twice (s ∷ es) = ap (λ l. one s ∷ l) (seen-twice es)
 
 pub sort-seen : (lt : model.Slot Node → model.Slot Node → Bool) (es fs : List (Slot Item))
-    → IsSortOf (λ s r. lt (model.on_item item_view s) (model.on_item item_view r)) (seen es) (seen fs) → IsSortOf lt (items_seen es) (items_seen fs)
+    → IsSortOf (λ s r. lt (model.on_item item_view s) (model.on_item item_view r)) (seen es) (seen fs)
+    → IsSortOf lt (items_seen es) (items_seen fs)
 sort-seen lt es fs s =
     subst (λ l. IsSortOf lt l (items_seen fs)) (seen-twice es)
-    (subst (λ l. IsSortOf lt (map (model.on_item item_view) (seen es)) l) (seen-twice fs) (sorts-seen (model.on_item item_view) lt (seen es) (seen fs) s))
+    (subst (λ l. IsSortOf lt (map (model.on_item item_view) (seen es)) l) (seen-twice fs)
+    (sorts-seen (model.on_item item_view) lt (seen es) (seen fs) s))
 
 permuted-seen : (es fs : List (Slot Item)) → IsPermutation (seen es) (seen fs) → IsPermutation (items_seen es) (items_seen fs)
 permuted-seen es fs p =
     subst (λ l. IsPermutation l (items_seen fs)) (seen-twice es)
-    (subst (λ l. IsPermutation (map (model.on_item item_view) (seen es)) l) (seen-twice fs) (IsPermutation-map (model.on_item item_view) (seen es) (seen fs) p))
+    (subst (λ l. IsPermutation (map (model.on_item item_view) (seen es)) l) (seen-twice fs)
+    (IsPermutation-map (model.on_item item_view) (seen es) (seen fs) p))
 
 -- ---- depth
 
@@ -113,7 +117,8 @@ shallow-permuted es fs p k d l b =
 -- ---- a sort on its way
 
 -- the item at the place changed too
-turned-at : (Q : Node → Node → Type 0) (mid : List (model.Slot Node)) (es : List (Slot Item)) (at : ℕ) → Turned Q at mid (items_seen es) → at < length es → (d : Slot Item) (y : Item)
+turned-at : (Q : Node → Node → Type 0) (mid : List (model.Slot Node)) (es : List (Slot Item)) (at : ℕ) → Turned Q at mid (items_seen es)
+    → at < length es → (d : Slot Item) (y : Item)
     → Q (item_view (get_or es at d).item) (item_view y) → Turned Q (at + 1) mid (items_seen (with_item at y es))
 turned-at Q mid es at t l d y q =
     let within : at < length (items_seen es) = omega (arith, l, length-seen es) in
@@ -121,13 +126,15 @@ turned-at Q mid es at t l d y q =
     let next = turn Q at mid (items_seen es) t within (one d) (item_view y) there in
     let more : suc at ≡ at + 1 = omega arith in
     subst (λ l. Turned Q (at + 1) mid l) (sym (changed-seen es at (one d) y))
-    (subst (λ n. Turned Q n mid (set (items_seen es) at (record { key = (get_or (items_seen es) at (one d)).key; item = item_view y }))) more next)
+    (subst (λ n. Turned Q n mid (set (items_seen es) at (record { key = (get_or (items_seen es) at (one d)).key; item = item_view y })))
+    more next)
 
 pub rests : (es : List (model.Slot Node)) → IsPermutation es es
 rests es = IsPermutation-refl es
 
 -- The slots were sorted to the ones in mid, by each test of which Says holds, and those inside before the place were sorted too.
-pub record InTurn (enters : Node → Bool) (Says : (model.Slot Node → model.Slot Node → Bool) → Type 0) (first es : List (Slot Item)) (at : ℕ) : Type 0 where
+pub record InTurn (enters : Node → Bool) (Says : (model.Slot Node → model.Slot Node → Bool)
+    → Type 0) (first es : List (Slot Item)) (at : ℕ) : Type 0 where
   pub mid : List (model.Slot Node)
   pub permuted : IsPermutation (items_seen first) mid
   pub sort : (lt : model.Slot Node → model.Slot Node → Bool) → Says lt → IsSortOf lt (items_seen first) mid
@@ -138,7 +145,8 @@ pub record InTurn (enters : Node → Bool) (Says : (model.Slot Node → model.Sl
 
 module _ (enters : Node → Bool) (Says : (model.Slot Node → model.Slot Node → Bool) → Type 0) where
   pub begins : (first es : List (Slot Item)) → IsPermutation (seen first) (seen es)
-      → ((lt : model.Slot Node → model.Slot Node → Bool) → Says lt → IsSortOf lt (items_seen first) (items_seen es)) → InTurn enters Says first es 0
+      → ((lt : model.Slot Node → model.Slot Node → Bool) → Says lt → IsSortOf lt (items_seen first) (items_seen es))
+      → InTurn enters Says first es 0
   begins first es p s =
       record {
         mid = items_seen es;
@@ -152,7 +160,8 @@ module _ (enters : Node → Bool) (Says : (model.Slot Node → model.Slot Node �
 
   pub goes-on : (first es : List (Slot Item)) (at : ℕ) → InTurn enters Says first es at → at < length es → (d : Slot Item) (y : Item)
       → ReordersItem enters IsPermutation (item_view (get_or es at d).item) (item_view y)
-      → ((lt : model.Slot Node → model.Slot Node → Bool) → Says lt → ReordersItem enters (IsSortOf lt) (item_view (get_or es at d).item) (item_view y))
+      → ((lt : model.Slot Node → model.Slot Node → Bool) → Says lt
+      → ReordersItem enters (IsSortOf lt) (item_view (get_or es at d).item) (item_view y))
       → InTurn enters Says first (with_item at y es) (at + 1)
   goes-on first es at h l d y p s =
       record {
@@ -170,22 +179,26 @@ module _ (enters : Node → Bool) (Says : (model.Slot Node → model.Slot Node �
   ends-sorted first es at h l lt by =
       (h.mid, h.sort lt by, all-turned enters (IsSortOf lt) at h.mid (items_seen es) (h.turned lt by) (omega (arith, l, length-seen es)))
 
-  pub ends-reordered : (first es : List (Slot Item)) (at : ℕ) → InTurn enters Says first es at → IsDeepReorder enters (items_seen first) (items_seen es)
+  pub ends-reordered : (first es : List (Slot Item)) (at : ℕ) → InTurn enters Says first es at
+      → IsDeepReorder enters (items_seen first) (items_seen es)
   ends-reordered first es at h = (h.mid, h.permuted, some-turned enters IsPermutation rests at h.mid (items_seen es) h.reordered)
 
   pub ends-refused : (first es : List (Slot Item)) (at : ℕ) → InTurn enters Says first es at → at < length es → (d : Slot Item) (y : Item)
-      → ReordersItem enters IsPermutation (item_view (get_or es at d).item) (item_view y) → IsDeepReorder enters (items_seen first) (items_seen (with_item at y es))
+      → ReordersItem enters IsPermutation (item_view (get_or es at d).item) (item_view y)
+      → IsDeepReorder enters (items_seen first) (items_seen (with_item at y es))
   ends-refused first es at h l d y p = (
     h.mid,
     h.permuted,
-    some-turned enters IsPermutation rests (at + 1) h.mid (items_seen (with_item at y es)) (turned-at (ReordersItem enters IsPermutation) h.mid es at h.reordered l d y p),
+    some-turned enters IsPermutation rests (at + 1) h.mid (items_seen (with_item at y es))
+        (turned-at (ReordersItem enters IsPermutation) h.mid es at h.reordered l d y p),
   )
 
 pub stays : (enters : Node → Bool) (es : List (model.Slot Node)) → IsDeepReorder enters es es
 stays enters es = (es, rests es, list-stays enters IsPermutation rests es)
 
 -- what no sort enters stays
-pub passed : (enters : Node → Bool) (R : List (model.Slot Node) → List (model.Slot Node) → Type 0) (n : Node) → enters n ≡ false → ReordersItem enters R n n
+pub passed : (enters : Node → Bool) (R : List (model.Slot Node) → List (model.Slot Node) → Type 0) (n : Node) → enters n ≡ false
+    → ReordersItem enters R n n
 passed enters R (table f ss) other = rw other refl
 passed enters R (inline f ss) other = rw other refl
 passed enters R (leaf s spelling d) other = refl
@@ -199,7 +212,8 @@ list-of : (t : Table) → slots_of t ≡ items_seen (out-Table t).slots
 list-of t = ap slot_list (table_slots t) ∙ list-seen (out-Table t).slots
 
 -- a relation of slots, of a table and of it with others
-pub of_table : (R : List (model.Slot Node) → List (model.Slot Node) → Type 0) (t u : Table) → R (items_seen (out-Table t).slots) (items_seen (out-Table u).slots) → R (slots_of t) (slots_of u)
+pub of_table : (R : List (model.Slot Node) → List (model.Slot Node) → Type 0) (t u : Table)
+    → R (items_seen (out-Table t).slots) (items_seen (out-Table u).slots) → R (slots_of t) (slots_of u)
 of_table R t u r = subst (λ l. R l (slots_of u)) (sym (list-of t)) (subst (λ l. R (items_seen (out-Table t).slots) l) (sym (list-of u)) r)
 
 pub value-passed : (n : Node) → is_value_node n ≡ true → is_dotted_table n ≡ false
@@ -218,26 +232,33 @@ tables-passed x a is = ap (λ y. is_dotted_table (item_view y)) is ∙ ap is_dot
 
 -- what is lent of an item is its table
 pub item-entered : (R : List (model.Slot Node) → List (model.Slot Node) → Type 0) (lent t u : Table) → lent ≡ t
-    → ReordersItem is_dotted_table R (table_node (table_view lent)) (table_node (table_view u)) → ReordersItem is_dotted_table R (item_view (items.Table t)) (item_view (items.Table u))
+    → ReordersItem is_dotted_table R (table_node (table_view lent)) (table_node (table_view u))
+    → ReordersItem is_dotted_table R (item_view (items.Table t)) (item_view (items.Table u))
 item-entered R lent t u same r =
-    subst (λ n. ReordersItem is_dotted_table R n (item_view (items.Table u))) (sym (view-Table t ∙ ap (λ y. table_node (table_view y)) (sym same)))
+    subst (λ n. ReordersItem is_dotted_table R n (item_view (items.Table u))) (sym (view-Table t
+    ∙ ap (λ y. table_node (table_view y)) (sym same)))
     (subst (λ n. ReordersItem is_dotted_table R (table_node (table_view lent)) n) (sym (view-Table u)) r)
 
 -- a dotted table whose slots went from these to those
-pub entered : (R : List (model.Slot Node) → List (model.Slot Node) → Type 0) (f : TableFields) (es fs : List (Slot Item)) → f.is_dotted ≡ true
+pub entered : (R : List (model.Slot Node) → List (model.Slot Node) → Type 0) (f : TableFields) (es fs : List (Slot Item)) → f.is_dotted
+    ≡ true
     → (mid : List (model.Slot Node)) × R (items_seen es) mid × ReordersItems is_dotted_table R mid (slots_from (items_seen fs))
     → ReordersItem is_dotted_table R (table f (slots_view es)) (table f (slots_view fs))
 entered R f es fs dotted r =
     rw (view-seen es, view-seen fs, dotted)
     (slots_from (items_seen es), r.0, refl, subst (λ l. R l r.0) (sym (slot_list-from (items_seen es))) r.1, r.2)
 
-pub table-entered : (R : List (model.Slot Node) → List (model.Slot Node) → Type 0) (t : Table) (fs : List (Slot Item)) → (fields_view t).is_dotted ≡ true
-    → (mid : List (model.Slot Node)) × R (items_seen (out-Table t).slots) mid × ReordersItems is_dotted_table R mid (slots_from (items_seen fs))
+pub table-entered : (R : List (model.Slot Node) → List (model.Slot Node) → Type 0) (t : Table) (fs : List (Slot Item))
+    → (fields_view t).is_dotted ≡ true
+    → (mid : List (model.Slot Node)) × R (items_seen (out-Table t).slots) mid
+    × ReordersItems is_dotted_table R mid (slots_from (items_seen fs))
     → ReordersItem is_dotted_table R (table_node (table_view t)) (table_node (table_view (record t { slots = fs })))
 table-entered R t fs dotted r =
     let after : Table = record t { slots = fs } in
-    let old : table_node (table_view t) ≡ table (fields_view t) (slots_view (out-Table t).slots) = ap (table (fields_view t)) (table_slots t) in
+    let old : table_node (table_view t) ≡ table (fields_view t) (slots_view (out-Table t).slots) =
+    ap (table (fields_view t)) (table_slots t) in
     let new : table_node (table_view after) ≡ table (fields_view t) (slots_view fs) =
     ap (λ f. table f (table_view after).slots) (made_fields t fs) ∙ ap (table (fields_view t)) (table_slots after) in
     subst (λ n. ReordersItem is_dotted_table R n (table_node (table_view after))) (sym old)
-    (subst (λ n. ReordersItem is_dotted_table R (table (fields_view t) (slots_view (out-Table t).slots)) n) (sym new) (entered R (fields_view t) (out-Table t).slots fs dotted r))
+    (subst (λ n. ReordersItem is_dotted_table R (table (fields_view t) (slots_view (out-Table t).slots)) n) (sym new)
+    (entered R (fields_view t) (out-Table t).slots fs dotted r))

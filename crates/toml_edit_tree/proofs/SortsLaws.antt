@@ -1,5 +1,6 @@
 -- A sort of items by what they hold, as it is seen in their trees.
-use Rattle.std.proofs.Common.{◌≡◌, Bool, true, false, cond, ◌&&◌, if◌then◌else◌, List, Option, Some, None, option_map, IsPermutation, unwrap_or, refl, sym, ap, subst}
+use Rattle.std.proofs.Common.{◌≡◌, Bool, true, false, cond, ◌&&◌, if◌then◌else◌, List, Option, Some, None, option_map, IsPermutation}
+use Rattle.std.proofs.Common.{unwrap_or, refl, sym, ap, subst}
 use Rattle.std.proofs.lemmas.List.Sorted.{IsPermutation-map}
 use Rattle.toml_edit_lists.specs.Sorts.{held_lt}
 use Rattle.toml_edit_laws.proofs.slots.Sorts.{sorts-seen}
@@ -16,7 +17,8 @@ permuted-listed xs ys p =
     subst (λ l. IsPermutation l (listed ys)) (sym (listed-map xs))
     (subst (IsPermutation _) (sym (listed-map ys)) (IsPermutation-map item_view xs ys p))
 
-module _ {E : Type 0} (held : Item → Option E) (view : E → Node) (test : Node → Bool) (same : (x : Item) → option_map view (held x) ≡ only test (item_view x)) (lt : Node → Node → Bool) where
+module _ {E : Type 0} (held : Item → Option E) (view : E → Node) (test : Node → Bool) (same : (x : Item) → option_map view (held x)
+    ≡ only test (item_view x)) (lt : Node → Node → Bool) where
   abbrev seen_lt : E → E → Bool
   seen_lt d e = lt (view d) (view e)
 
@@ -35,9 +37,11 @@ module _ {E : Type 0} (held : Item → Option E) (view : E → Node) (test : Nod
   lt-seen (Some o) (Some q) m n true false e f = absurd cc
   lt-seen (Some o) (Some q) m n false c e f = absurd cc
 
-  pub sorts-held : (xs ys : List Item) → IsSortOf (λ x y. held_lt seen_lt (held x) (held y)) xs ys → IsSortOf (others_first test lt) (listed xs) (listed ys)
+  pub sorts-held : (xs ys : List Item) → IsSortOf (λ x y. held_lt seen_lt (held x) (held y)) xs ys
+      → IsSortOf (others_first test lt) (listed xs) (listed ys)
   sorts-held xs ys s =
       subst (λ l. IsSortOf (others_first test lt) l (listed ys)) (sym (listed-map xs))
       (subst (IsSortOf (others_first test lt) _) (sym (listed-map ys))
       (sorts-seen item_view (others_first test lt) xs ys
-      (subst (λ r. IsSortOf r xs ys) (λ i x y. lt-seen (held x) (held y) (item_view x) (item_view y) (test (item_view x)) (test (item_view y)) (same x) (same y) i) s)))
+      (subst (λ r. IsSortOf r xs ys) (λ i x y. lt-seen (held x) (held y) (item_view x) (item_view y) (test (item_view x))
+      (test (item_view y)) (same x) (same y) i) s)))

@@ -1,6 +1,7 @@
 -- What an entry of a table is of, and what it leaves.
 use native.Mathlib.Bridge.{le_prop}
-use Rattle.std.proofs.Common.{◌≡◌, ℕ, zero, suc, ◌+◌, ◌<◌, nat_lt, Bool, true, false, cond, if◌then◌else◌, List, [], ◌∷◌, ◌++◌, Option, Some, None, option_map, refl, sym, ap, ◌∙◌, inl, inr, arith, length, subst, take, get_or, set, slice_get}
+use Rattle.std.proofs.Common.{◌≡◌, ℕ, zero, suc, ◌+◌, ◌<◌, nat_lt, Bool, true, false, cond, if◌then◌else◌, List, [], ◌∷◌, ◌++◌, Option}
+use Rattle.std.proofs.Common.{Some, None, option_map, refl, sym, ap, ◌∙◌, inl, inr, arith, length, subst, take, get_or, set, slice_get}
 use Rattle.std.proofs.lemmas.Bool.{cases_Bool}
 use Rattle.std.proofs.lemmas.Cmp.{nat_list_eq_equiv}
 use Rattle.std.proofs.lemmas.Option.{none-some, same_Some, slice_get-get_or}
@@ -71,7 +72,8 @@ set-shown [] i d x = refl
 set-shown (s ∷ es) zero d x = refl
 set-shown (s ∷ es) (suc i) d x = ap (λ l. slot_shown s ∷ l) (set-shown es i d x)
 
-pub last-shown : (es : List (Slot Item)) (k : Key) (x : Item) → shown (es ++ record { key = k; item = x } ∷ []) ≡ shown es ++ record { key = k; item = item_view x } ∷ []
+pub last-shown : (es : List (Slot Item)) (k : Key) (x : Item) → shown (es ++ record { key = k; item = x } ∷ []) ≡ shown es
+    ++ record { key = k; item = item_view x } ∷ []
 last-shown [] k x = refl
 last-shown (s ∷ es) k x = ap (λ l. slot_shown s ∷ l) (last-shown es k x)
 
@@ -80,7 +82,8 @@ item-with_item [] i x h = absurd (omega (arith, h))
 item-with_item (s ∷ es) zero x h = refl
 item-with_item (s ∷ es) (suc i) x h = item-with_item es i x (omega (arith, h))
 
-pub with_item-last : (es : List (Slot Item)) (s : Slot Item) (x : Item) → with_item (length es) x (es ++ s ∷ []) ≡ es ++ record { key = s.key; item = x } ∷ []
+pub with_item-last : (es : List (Slot Item)) (s : Slot Item) (x : Item) → with_item (length es) x (es ++ s ∷ []) ≡ es
+    ++ record { key = s.key; item = x } ∷ []
 with_item-last [] s x = refl
 with_item-last (r ∷ es) s x = ap (λ l. r ∷ l) (with_item-last es s x)
 
@@ -95,11 +98,13 @@ items-get [] (suc i) = refl
 items-get (s ∷ es) zero = refl
 items-get (s ∷ es) (suc i) = items-get es i
 
-pub part-of-key : {X : Type 0} (f : Key → X) (o : Option (Slot Item)) → option_map f (option_map (λ s. s.key) o) ≡ option_map (λ s. f s.key) o
+pub part-of-key : {X : Type 0} (f : Key → X) (o : Option (Slot Item)) → option_map f (option_map (λ s. s.key) o)
+    ≡ option_map (λ s. f s.key) o
 part-of-key f None = refl
 part-of-key f (Some s) = refl
 
-pub get-shown : (es : List (Slot Item)) (i : ℕ) (s : Slot Item) → slice_get es i ≡ Some s → get_or (shown es) i (slot_shown s) ≡ slot_shown s
+pub get-shown : (es : List (Slot Item)) (i : ℕ) (s : Slot Item) → slice_get es i ≡ Some s → get_or (shown es) i (slot_shown s)
+    ≡ slot_shown s
 get-shown [] i s got = refl
 get-shown (r ∷ es) zero s got = ap slot_shown (same_Some r s got)
 get-shown (r ∷ es) (suc i) s got = get-shown es i s got
@@ -112,10 +117,12 @@ key-at t es i at low =
     let s = get_or es i no_slot in
     let got : slice_get es i ≡ Some s = slice_get-get_or es i no_slot low in
     ap (option_map (λ (r : Slot Item). r.key)) got
-    ∙ sym (ap (option_map (λ (r : model.Slot Node). r.key)) (lookup_slot-at t (shown es) i (slot_shown s) (place-shown t es ∙ at) ∙ ap Some (get-shown es i s got)))
+    ∙ sym (ap (option_map (λ (r : model.Slot Node). r.key)) (lookup_slot-at t (shown es) i (slot_shown s) (place-shown t es ∙ at)
+    ∙ ap Some (get-shown es i s got)))
 
 pub key-none : (t : Text) (es : List (Slot Item)) → place t es ≡ None → None ≡ model.lookup_key t (shown es)
-key-none t es none = sym (ap (option_map (λ (r : model.Slot Node). r.key)) (lookup_slot-none t (shown es) (none_at t (shown es) (place-shown t es ∙ none))))
+key-none t es none =
+    sym (ap (option_map (λ (r : model.Slot Node). r.key)) (lookup_slot-none t (shown es) (none_at t (shown es) (place-shown t es ∙ none))))
 
 -- ---- a key that is there
 
@@ -127,7 +134,8 @@ module _ (k : Key) (t : Table) (i : ℕ) (at : place k.name (out-Table t).slots 
   here = place-shown k.name old ∙ at
 
   pub leaves-present : model.AreApart (slots_of t) → (x : Item)
-      → slots_of (record t { slots = with_item i x old }) ≡ model.put (model.with_item (item_view x)) (record { key = k; item = item_view x }) (slots_of t)
+      → slots_of (record t { slots = with_item i x old })
+      ≡ model.put (model.with_item (item_view x)) (record { key = k; item = item_view x }) (slots_of t)
   leaves-present apart x =
       let new : model.Slot Node = record { key = k; item = item_view x } in
       made-shown _ ∙ set-shown old i new x
@@ -135,7 +143,8 @@ module _ (k : Key) (t : Table) (i : ℕ) (at : place k.name (out-Table t).slots 
       ∙ ap (model.put (model.with_item (item_view x)) new) (sym (table-shown t))
 
   found : (s : Slot Item) → slice_get old i ≡ Some s → model.lookup_slot k.name (slots_of t) ≡ Some (slot_shown s)
-  found s got = ap (model.lookup_slot k.name) (table-shown t) ∙ lookup_slot-at k.name (shown old) i (slot_shown s) here ∙ ap Some (get-shown old i s got)
+  found s got = ap (model.lookup_slot k.name) (table-shown t) ∙ lookup_slot-at k.name (shown old) i (slot_shown s) here
+      ∙ ap Some (get-shown old i s got)
 
   pub item-present : i < length old → option_map item_view (slice_get (items_of old) i) ≡ model.lookup k.name (slots_of t)
   item-present low =
@@ -144,7 +153,8 @@ module _ (k : Key) (t : Table) (i : ℕ) (at : place k.name (out-Table t).slots 
       ap (option_map item_view) (items-get old i ∙ ap (option_map (λ (r : Slot Item). r.item)) got)
       ∙ sym (ap (option_map (λ (r : model.Slot Node). r.item)) (found s got))
 
-  pub key-present : i < length old → option_map (λ (s : Slot Item). s.key) (slice_get old i) ≡ Some (unwrap_or (model.lookup_key k.name (slots_of t)) k)
+  pub key-present : i < length old → option_map (λ (s : Slot Item). s.key) (slice_get old i)
+      ≡ Some (unwrap_or (model.lookup_key k.name (slots_of t)) k)
   key-present low =
       let s = get_or old i no_slot in
       let got : slice_get old i ≡ Some s = slice_get-get_or old i no_slot low in
@@ -161,14 +171,16 @@ module _ (k : Key) (t : Table) (none : place k.name (out-Table t).slots ≡ None
   gone = place-shown k.name before ∙ none
 
   pub leaves-new : (x : Item)
-      → slots_of (record t { slots = before ++ record { key = k; item = x } ∷ [] }) ≡ model.put (model.with_item (item_view x)) (record { key = k; item = item_view x }) (slots_of t)
+      → slots_of (record t { slots = before ++ record { key = k; item = x } ∷ [] })
+      ≡ model.put (model.with_item (item_view x)) (record { key = k; item = item_view x }) (slots_of t)
   leaves-new x =
       let new : model.Slot Node = record { key = k; item = item_view x } in
       made-shown _ ∙ last-shown before k x ∙ sym (put-new (model.with_item (item_view x)) new (shown before) gone)
       ∙ ap (model.put (model.with_item (item_view x)) new) (sym (table-shown t))
 
   nothing-found : model.lookup_slot k.name (slots_of t) ≡ None
-  nothing-found = ap (model.lookup_slot k.name) (table-shown t) ∙ lookup_slot-none k.name (shown before) (none_at k.name (shown before) gone)
+  nothing-found = ap (model.lookup_slot k.name) (table-shown t)
+      ∙ lookup_slot-none k.name (shown before) (none_at k.name (shown before) gone)
 
   pub item-new : None ≡ model.lookup k.name (slots_of t)
   item-new = sym (ap (option_map (λ (r : model.Slot Node). r.item)) nothing-found)

@@ -1,5 +1,6 @@
 -- The turns of the loops that print: what is done and the text of what is left stay the whole text.
-use Rattle.std.proofs.Common.{◌≡◌, ℕ, ◌+◌, ◌<◌, ◌≤◌, Bool, true, false, List, [], ◌∷◌, ◌++◌, Option, length, get_or, drop, sym, ap, ◌∙◌, rules, append_assoc}
+use Rattle.std.proofs.Common.{◌≡◌, ℕ, ◌+◌, ◌<◌, ◌≤◌, Bool, true, false, List, [], ◌∷◌, ◌++◌, Option, length, get_or, drop, sym, ap, ◌∙◌}
+use Rattle.std.proofs.Common.{rules, append_assoc}
 use Rattle.std.specs.Prelude.{if◌then◌else◌}
 use Rattle.std.proofs.lemmas.List.{at_drop_all, drop_more}
 use Rattle.toml_edit_model.specs.Text.{Text}
@@ -7,7 +8,8 @@ use Rattle.toml_edit_model.specs.Mode.{Mode}
 use Rattle.toml_edit_model.specs.Tree.{Decor, Items, Key, Node, is_value_node, item}
 use Rattle.toml_edit_model.specs.Print.{Line, inside_lines, table_lines}
 use Rattle.toml_edit_slots.specs.declared.slots.Slot.{Slot}
-use Rattle.toml_edit_tree.specs.Printing.{element_text, items_text, last_comma, last_shown, lines_in_table, lines_of_item, lines_text, pairs_shown}
+use Rattle.toml_edit_tree.specs.Printing.{element_text, items_text, last_comma, last_shown, lines_in_table, lines_of_item, lines_text}
+use Rattle.toml_edit_tree.specs.Printing.{pairs_shown}
 use Rattle.toml_edit_tree.specs.declared.array.Array.{Array}
 use Rattle.toml_edit_tree.specs.declared.array_of_tables.ArrayOfTables.{ArrayOfTables}
 use Rattle.toml_edit_tree.specs.declared.inline_table.InlineTable.{InlineTable}
@@ -64,15 +66,18 @@ from-item xs i x h is =
 
 module _ (mode : Mode) where
   abbrev by_test : Bool → Bool → Node → Items → Bool → Text
-  by_test comma is_first n xs b = if b then element_text mode is_first n ++ items_text mode comma false xs else items_text mode comma is_first xs
+  by_test comma is_first n xs b = if b then element_text mode is_first n ++ items_text mode comma false xs
+      else items_text mode comma is_first xs
 
   module _ (comma is_first : Bool) (xs : List Item) (i : ℕ) (x : Item) (h : i < length xs) (is : x ≡ get_or xs i x) where
     value-text : (v : Value) → x ≡ items.Value v
-        → items_text mode comma is_first (items_view (drop i xs)) ≡ element_text mode is_first (value_view v) ++ items_text mode comma false (items_view (drop (i + 1) xs))
+        → items_text mode comma is_first (items_view (drop i xs)) ≡ element_text mode is_first (value_view v)
+        ++ items_text mode comma false (items_view (drop (i + 1) xs))
     value-text v e =
         ap (items_text mode comma is_first) (from-item xs i x h is)
         ∙ ap (by_test comma is_first (item_view x) (items_view (drop (i + 1) xs))) (value-node x v e)
-        ∙ ap (λ (n : Node). element_text mode is_first n ++ items_text mode comma false (items_view (drop (i + 1) xs))) (ap item_view e ∙ view-Value v)
+        ∙ ap (λ (n : Node). element_text mode is_first n ++ items_text mode comma false (items_view (drop (i + 1) xs))) (ap item_view e
+        ∙ view-Value v)
 
     other-text : ((v : Value) → x ≡ items.Value v → ⊥)
         → items_text mode comma is_first (items_view (drop i xs)) ≡ items_text mode comma is_first (items_view (drop (i + 1) xs))
@@ -135,11 +140,13 @@ module _ (mode : Mode) where
         → (done ++ lines_text mode own-in-table) ++ lines_text mode rest-in-table ≡ all
     table-turn done all more =
         append_assoc done (lines_text mode own-in-table) (lines_text mode rest-in-table)
-        ∙ ap (λ (t : Text). done ++ t) (sym (ap (lines_text mode) from-slot-in-table ∙ lines_text-append mode own-in-table rest-in-table)) ∙ more
+        ∙ ap (λ (t : Text). done ++ t) (sym (ap (lines_text mode) from-slot-in-table ∙ lines_text-append mode own-in-table rest-in-table))
+        ∙ more
 
     module _ (before next : Option Decor) (last : next ≡ last_shown before own) where
       -- the decor of the last pair
-      pub last-turn : (all : Option Decor) → last_shown before (inside_lines mode (slots_view (drop i es)) ks) ≡ all → last_shown next rest ≡ all
+      pub last-turn : (all : Option Decor) → last_shown before (inside_lines mode (slots_view (drop i es)) ks) ≡ all → last_shown next rest
+          ≡ all
       last-turn all more =
           ap (λ (d : Option Decor). last_shown d rest) last
           ∙ sym (ap (last_shown before) from-slot ∙ last_shown-append mode before own rest) ∙ more

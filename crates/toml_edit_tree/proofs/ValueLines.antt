@@ -73,26 +73,35 @@ module _ (mode : Mode) where
   -- ---- the texts of containers, by their fields
 
   pub array-text : (a : Array)
-      → codes "[" ++ (items_text mode (out-Array a).trailing_comma true (items_view (out-Array a).values.items) ++ (shown_raw mode (out-Array a).trailing ++ codes "]"))
+      → codes "[" ++ (items_text mode (out-Array a).trailing_comma true (items_view (out-Array a).values.items)
+      ++ (shown_raw mode (out-Array a).trailing ++ codes "]"))
       ≡ node_text mode (array_node (array_view a))
   array-text a =
-      ap (λ c. codes "[" ++ (items_text mode c true (items_view (out-Array a).values.items) ++ (shown_raw mode (out-Array a).trailing ++ codes "]"))) (sym (array-comma a))
-      ∙ ap (λ xs. codes "[" ++ (items_text mode (array_view a).fields.comma true xs ++ (shown_raw mode (out-Array a).trailing ++ codes "]"))) (sym (array_items a))
-      ∙ ap (λ r. codes "[" ++ (items_text mode (array_view a).fields.comma true (array_view a).items ++ (shown_raw mode r ++ codes "]"))) (sym (array-trailing a))
+      ap (λ c. codes "[" ++ (items_text mode c true (items_view (out-Array a).values.items)
+      ++ (shown_raw mode (out-Array a).trailing ++ codes "]"))) (sym (array-comma a))
+      ∙ ap (λ xs. codes "[" ++ (items_text mode (array_view a).fields.comma true xs
+      ++ (shown_raw mode (out-Array a).trailing ++ codes "]"))) (sym (array_items a))
+      ∙ ap (λ r. codes "[" ++ (items_text mode (array_view a).fields.comma true (array_view a).items ++ (shown_raw mode r ++ codes "]")))
+      (sym (array-trailing a))
       ∙ sym (list-text mode (array_view a).fields (array_view a).items)
 
   -- the pairs and what follows them, where d is the decor of the last
   abbrev pairs_and_end : Bool → Raw → Option Decor → List Line → Text
   pairs_and_end c r d ls = codes "{" ++ (pairs_shown mode None ls ++ (after_pairs mode c d ++ (shown_raw mode r ++ codes "}")))
 
-  pub inline-table-text : (t : InlineTable) (d : Option Decor) → d ≡ last_shown None (inside_lines mode (slots_view (out-InlineTable t).items) [])
+  pub inline-table-text : (t : InlineTable) (d : Option Decor) → d
+      ≡ last_shown None (inside_lines mode (slots_view (out-InlineTable t).items) [])
       → codes "{"
       ++ (pairs_shown mode None (inside_lines mode (slots_view (out-InlineTable t).items) [])
       ++ (after_pairs mode (out-InlineTable t).trailing_comma d ++ (shown_raw mode (out-InlineTable t).trailing ++ codes "}")))
       ≡ node_text mode (inline_node (inline_view t))
   inline-table-text t d last =
-      ap (λ e. pairs_and_end (out-InlineTable t).trailing_comma (out-InlineTable t).trailing e (inside_lines mode (slots_view (out-InlineTable t).items) [])) last
-      ∙ ap (λ ss. pairs_and_end (out-InlineTable t).trailing_comma (out-InlineTable t).trailing (last_shown None (inside_lines mode ss [])) (inside_lines mode ss [])) (sym (inline_slots t))
-      ∙ ap (λ c. pairs_and_end c (out-InlineTable t).trailing (last_shown None (inside_lines mode (inline_view t).slots [])) (inside_lines mode (inline_view t).slots [])) (sym (inline-comma t))
-      ∙ ap (λ r. pairs_and_end (inline_view t).fields.comma r (last_shown None (inside_lines mode (inline_view t).slots [])) (inside_lines mode (inline_view t).slots [])) (sym (inline-trailing t))
+      ap (λ e. pairs_and_end (out-InlineTable t).trailing_comma (out-InlineTable t).trailing e
+      (inside_lines mode (slots_view (out-InlineTable t).items) [])) last
+      ∙ ap (λ ss. pairs_and_end (out-InlineTable t).trailing_comma (out-InlineTable t).trailing (last_shown None (inside_lines mode ss []))
+      (inside_lines mode ss [])) (sym (inline_slots t))
+      ∙ ap (λ c. pairs_and_end c (out-InlineTable t).trailing (last_shown None (inside_lines mode (inline_view t).slots []))
+      (inside_lines mode (inline_view t).slots [])) (sym (inline-comma t))
+      ∙ ap (λ r. pairs_and_end (inline_view t).fields.comma r (last_shown None (inside_lines mode (inline_view t).slots []))
+      (inside_lines mode (inline_view t).slots [])) (sym (inline-trailing t))
       ∙ sym (inline-text mode (inline_view t).fields (inline_view t).slots)

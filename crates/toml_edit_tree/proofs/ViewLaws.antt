@@ -68,11 +68,13 @@ view-Float f = search (rules, the_lemmas)
 pub view-Boolean : (f : FormattedView Bool) → value_view (values.Boolean f) ≡ leaf (boolean f.value) f.repr f.decor
 view-Boolean f = search (rules, the_lemmas)
 
-pub view-Datetime : (f : FormattedView code.Datetime) → value_view (values.Datetime f) ≡ leaf (datetime (datetime_view f.value)) f.repr f.decor
+pub view-Datetime : (f : FormattedView code.Datetime) → value_view (values.Datetime f)
+    ≡ leaf (datetime (datetime_view f.value)) f.repr f.decor
 view-Datetime f = search (rules, the_lemmas)
 
 -- another decor is seen as one
-decorated-open : (d : Decor) (o : Value-F Item Value Array ArrayOfTables InlineTable Table) → value_view (decorated_open d o) ≡ with_decor d (value_view (roll-Value o))
+decorated-open : (d : Decor) (o : Value-F Item Value Array ArrayOfTables InlineTable Table) → value_view (decorated_open d o)
+    ≡ with_decor d (value_view (roll-Value o))
 decorated-open d (Value-F.String f) = search (rules, the_lemmas)
 decorated-open d (Value-F.Integer f) = search (rules, the_lemmas)
 decorated-open d (Value-F.Float f) = search (rules, the_lemmas)

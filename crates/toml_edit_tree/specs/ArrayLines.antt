@@ -2,7 +2,8 @@
 -- (TOML 1.1.0, "Array" and "Comment"). The gap at a place is the text before the slot there, after
 -- the comma or the bracket; the last gap is before the closing bracket. A gap that has a newline
 -- begins with the rest of the line before it, where that line's comment is.
-use Rattle.std.specs.Prelude.{ℕ, zero, suc, ◌-◌, ◌==◌, nat_lt, Bool, not, ◌&&◌, ◌||◌, if◌then◌else◌, List, [], ◌∷◌, ◌++◌, codes, drop, filter, flat_map, length, map, take_while, Option, None, Some, is_none, is_some, option_and_then}
+use Rattle.std.specs.Prelude.{ℕ, zero, suc, ◌-◌, ◌==◌, nat_lt, Bool, not, ◌&&◌, ◌||◌, if◌then◌else◌, List, [], ◌∷◌, ◌++◌, codes, drop}
+use Rattle.std.specs.Prelude.{filter, flat_map, length, map, take_while, Option, None, Some, is_none, is_some, option_and_then}
 use Rattle.std.specs.List.{list_all}
 use Rattle.std.specs.Option.{option_or, unwrap_or}
 use Rattle.toml_edit_model.specs.ArrayCalls.{inserted_at, removed_at, value_at}
@@ -123,7 +124,7 @@ indent_at i xs = take_while is_blank (unwrap_or (line_begun (beside i xs) xs) (c
 
 -- ---- insertion
 
--- a line of a value's prefix that is kept: the last one has no newline, and is mostly indentation
+-- whether a line of a value's prefix stays: it ends with a newline, or has more than white space
 abbrev pub is_kept : Text → Bool
 is_kept l = is_broken l || not (is_empty (line_words l))
 

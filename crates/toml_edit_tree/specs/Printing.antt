@@ -3,8 +3,10 @@ use Rattle.std.specs.Prelude.{ℕ, Bool, true, false, List, [], ◌∷◌, ◌++
 use Rattle.toml_edit_model.specs.Text.{Text, is_empty, joined}
 use Rattle.toml_edit_model.specs.Syntax.{comma_text, path_text, statement_text, value_text}
 use Rattle.toml_edit_model.specs.Mode.{Mode}
-use Rattle.toml_edit_model.specs.Tree.{Decor, Key, Node, Items, no_items, item, shown_prefix, shown_suffix, key_text, node_decor, is_value_node}
-use Rattle.toml_edit_model.specs.Print.{Line, one_space, dot_prefix, dot_suffix, element_default, is_line_node, last_leaf, dotted_lines, line_of, line_statement, lines_inside, segments, value_of}
+use Rattle.toml_edit_model.specs.Tree.{Decor, Key, Node, Items, no_items, item, shown_prefix, shown_suffix, key_text, node_decor}
+use Rattle.toml_edit_model.specs.Tree.{is_value_node}
+use Rattle.toml_edit_model.specs.Print.{Line, one_space, dot_prefix, dot_suffix, element_default, is_line_node, last_leaf, dotted_lines}
+use Rattle.toml_edit_model.specs.Print.{line_of, line_statement, lines_inside, segments, value_of}
 use Rattle.toml_edit_laws.specs.PrintByVisits.{has_dotted_lines, has_inside_of}
 use Rattle.toml_edit_tree.specs.declared.encode.Path as paths
 

@@ -6,7 +6,8 @@ use Rattle.toml_edit_datetime.specs.DatetimeView.{datetime_view}
 use Rattle.toml_edit_model.specs.Tree.{Raw, Node, nothing, leaf, Items, Slots, TableFields, Tree}
 use Rattle.toml_edit_slots.specs.declared.slots.Slot as repr
 use Rattle.toml_edit_slots.specs.Slots.{on_item}
-use Rattle.toml_edit_tree.specs.Containers.{ArrayView, InlineView, TableView, TablesView, array_node, inline_node, table_node, tables_node, tree_slots}
+use Rattle.toml_edit_tree.specs.Containers.{ArrayView, InlineView, TableView, TablesView, array_node, inline_node, table_node, tables_node}
+use Rattle.toml_edit_tree.specs.Containers.{tree_slots}
 use Rattle.toml_edit_model.specs.Lists.{items_from}
 use Rattle.toml_edit_tree.specs.declared.item.Item.{Item, fold-Item}
 use Rattle.toml_edit_tree.specs.declared.item.Item.TheOpen.{Item-F, Value-F, Array-F, ArrayOfTables-F, InlineTable-F, Table-F}

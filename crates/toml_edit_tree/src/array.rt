@@ -26,9 +26,9 @@ pub use iter::{ArrayIntoIter, ArrayIter};
 use std::alloc::Global;
 use std::fmt;
 use std::ops::Range;
+use toml_edit_io::{Printed, Sink, show};
 use toml_edit_repr::{Decor, Mem, RawString};
 use toml_edit_slots::NoMemory;
-use toml_edit_stream::{Printed, Sink, show};
 
 mod iter;
 mod line_texts;

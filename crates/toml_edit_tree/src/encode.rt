@@ -2,7 +2,7 @@
 //!
 //! The functions between a loop and the text of one line have one or two callers each. They are
 //! inlined, since a call would cost more than most of them do.
-#![tactic(auto, using(toml_edit_stream::proofs::Puts::put_steps))]
+#![tactic(auto, using(toml_edit_io::proofs::Puts::put_steps))]
 
 ghost use Rattle.std.specs.Prelude.{◌≡◌, true, [], ◌∷◌, ◌++◌};
 ghost use Rattle.std.specs.Option.{option_copied};
@@ -24,10 +24,10 @@ use crate::inline_table::InlineTable;
 use crate::item::Item;
 use crate::table::Table;
 use crate::value::Value;
+use toml_edit_io::{Printed, Sink};
 use toml_edit_key::Key;
 use toml_edit_repr::{Decor, Mode, put_last_comma, put_raw, put_scalar, put_side};
 use toml_edit_slots::Slots;
-use toml_edit_stream::{Printed, Sink};
 
 /// The keys on the way to a slot or to a table, from the outermost in.
 ///

@@ -36,10 +36,10 @@ pub use iter::{InlineTableIntoIter, InlineTableIter};
 pub use slot::InlineSlotMut;
 use std::alloc::Global;
 use std::fmt;
+use toml_edit_io::{Printed, Sink, show};
 use toml_edit_key::Key;
 use toml_edit_repr::{Decor, Mem, RawString};
 use toml_edit_slots::{NoMemory, Slot, Slots};
-use toml_edit_stream::{Printed, Sink, show};
 
 mod entry;
 mod iter;

@@ -32,10 +32,10 @@ pub use entry::{Entry, OccupiedEntry, VacantEntry};
 pub use iter::{IntoIter, Iter};
 use std::alloc::Global;
 use std::fmt;
+use toml_edit_io::{Printed, Sink, show};
 use toml_edit_key::Key;
 use toml_edit_repr::{Decor, Mem, Mode};
 use toml_edit_slots::{NoMemory, Slot, Slots};
-use toml_edit_stream::{Printed, Sink, show};
 
 pub mod entry;
 mod iter;
@@ -584,7 +584,7 @@ impl Table {
     /// drop(from.remove(name));
     /// ```
     ///
-    /// From `move_table` of the crate `toml_edit_jobs`.
+    /// From `move_table` of the crate `toml_edit_recipes`.
     pub fn insert_formatted(
         &mut self,
         key: &Key,

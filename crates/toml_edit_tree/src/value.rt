@@ -29,10 +29,10 @@ use std::alloc::Global;
 use std::ops::Range;
 use std::{fmt, mem};
 use toml_edit_datetime::{Date, Datetime, FloatText, Time};
+use toml_edit_io::{Printed, Sink, show};
 use toml_edit_key::Key;
 use toml_edit_repr::{Decor, Formatted, Mem, RawString};
 use toml_edit_slots::Slots;
-use toml_edit_stream::{Printed, Sink, show};
 use toml_edit_token::Scalar;
 
 /// A value with its spelling and its decor (TOML, "Key/Value Pair").

@@ -6,7 +6,7 @@ use std::io::{BufWriter, ErrorKind, Write};
 use std::process::ExitCode;
 use std::{env, io};
 use toml_edit_command::{end_unwritten, end_without_memory, run};
-use toml_edit_stream::Watched;
+use toml_edit_io::Watched;
 
 /// Runs `tomled` with the arguments and the streams of the process, and returns its exit status.
 ///

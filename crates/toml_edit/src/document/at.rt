@@ -2,15 +2,15 @@
 ghost use Rattle.std.specs.Prelude.{◌≡◌, IfErr, option_map};
 ghost use Rattle.toml_edit_laws.specs.Commands.{item_at, remove_at, root_item, set_at};
 ghost use Rattle.toml_edit_tree.specs.View.{item_view, value_view};
-ghost use Rattle.toml_edit_change.specs.Calls.{ChangesFound, TakesFound, item_inside, replaced_at};
-ghost use Rattle.toml_edit_change.specs.Changes.{Changes, names};
-ghost use Rattle.toml_edit_change.specs.Headed.{set_at_with_headers};
-ghost use Rattle.toml_edit_change.specs.declared.fault.ChangeFault.TheVariants.{NoSuchPath};
+ghost use Rattle.toml_edit_paths.specs.Calls.{ChangesFound, TakesFound, item_inside, replaced_at};
+ghost use Rattle.toml_edit_paths.specs.Changes.{Changes, names};
+ghost use Rattle.toml_edit_paths.specs.Headed.{set_at_with_headers};
+ghost use Rattle.toml_edit_paths.specs.declared.fault.ChangeFault.TheVariants.{NoSuchPath};
 ghost use Rattle.toml_edit.specs.DocumentView.{IsPrintedAs, tree_owned};
 
 use super::DocumentMut;
-use toml_edit_change::ChangeFault;
 use toml_edit_key::Key;
+use toml_edit_paths::ChangeFault;
 use toml_edit_tree::{Item, Value};
 
 /// # Paths
@@ -27,7 +27,7 @@ impl DocumentMut {
         ensures { option_map (λ x. item_view x.now) result
             ≡ item_at (names path.now) (tree_owned self.now) }
     {
-        toml_edit_change::get(self.as_item(), path)
+        toml_edit_paths::get(self.as_item(), path)
     }
 
     /// Puts the value at `path`.
@@ -50,7 +50,7 @@ impl DocumentMut {
         ensures printed { IsPrintedAs self.new self.old }
     {
         let alloc = self.as_table().slots.allocator();
-        toml_edit_change::set(alloc, self.as_table_mut(), path, value)
+        toml_edit_paths::set(alloc, self.as_table_mut(), path, value)
     }
 
     /// Puts the value at `path`, as [`set_at`](Self::set_at) does, but makes tables with headers
@@ -76,7 +76,7 @@ impl DocumentMut {
         ensures printed { IsPrintedAs self.new self.old }
     {
         let alloc = self.as_table().slots.allocator();
-        toml_edit_change::set_with_headers(alloc, self.as_table_mut(), path, value)
+        toml_edit_paths::set_with_headers(alloc, self.as_table_mut(), path, value)
     }
 
     /// Calls the closure on the item at `path`, and returns its result, or `None` if there is no
@@ -100,7 +100,7 @@ impl DocumentMut {
             (tree_owned self.old) (tree_owned self.new) result }
         ensures printed { IsPrintedAs self.new self.old }
     {
-        toml_edit_change::change(self.as_table_mut(), path, change)
+        toml_edit_paths::change(self.as_table_mut(), path, change)
     }
 
     /// Removes the item at `path`: the slot of a table with its key, the value of an array, or the
@@ -118,6 +118,6 @@ impl DocumentMut {
         ensures fault { IfErr result (λ fault. fault ≡ NoSuchPath) }
         ensures printed { IsPrintedAs self.new self.old }
     {
-        toml_edit_change::remove(self.as_table_mut(), path)
+        toml_edit_paths::remove(self.as_table_mut(), path)
     }
 }

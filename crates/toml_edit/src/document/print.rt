@@ -1,7 +1,7 @@
 //! Printing a document: as a text, to an output, or to a formatter.
 ghost use Rattle.std.specs.Prelude.{◌≡◌, [], false, true, OnOk, IfOk, IsErrOf, string_bytes};
 ghost use Rattle.std.specs.Io.KnownBytes.{Appends};
-ghost use Rattle.toml_edit_stream.specs.Streams.{AppendsBeginning};
+ghost use Rattle.toml_edit_io.specs.Streams.{AppendsBeginning};
 ghost use Rattle.toml_edit_tree.specs.Printing.{keys_on};
 ghost use Rattle.toml_edit.specs.DocumentView.{print_of};
 
@@ -11,10 +11,10 @@ use bumpalo::Bump;
 use std::alloc::{AllocError, Global};
 use std::error::Error;
 use std::fmt;
+use toml_edit_io as stream;
+use toml_edit_io::{Broken, Output, show};
 use toml_edit_repr::Mem;
 use toml_edit_slots::NoMemory;
-use toml_edit_stream as stream;
-use toml_edit_stream::{Broken, Output, show};
 use toml_edit_tree::Path;
 
 /// The reason why a document was not printed in full.
@@ -129,7 +129,8 @@ impl DocumentMut {
     /// Where line endings are kept it has them. Else it has line feeds (LF) alone, and a newline
     /// after the last statement. What was parsed and not changed gives the normal form of its
     /// source. `Display` writes this text too, and [`print_to`](Self::print_to) writes it to an
-    /// [`Output`](crate::Output). [`fits`](Self::fits) checks that it is valid.
+    /// [`Output`](crate::Output). [`fits`](Self::fits) checks that it is valid. Takes memory for
+    /// the whole text and for the order of the headers.
     ///
     /// # Errors
     ///

@@ -1,5 +1,7 @@
--- Where the elements of a tree are in order, the headers before each header are as many elements of each array on its way as its numbers say.
-use Rattle.std.proofs.Common.{◌≡◌, refl, sym, ◌∙◌, ap, subst, ℕ, suc, ◌+◌, ◌≤◌, ◌<◌, arith, ℤ, pos, Bool, true, false, List, [], ◌∷◌, ◌++◌, length, inl, inr}
+-- Where the elements of a tree are in order, the headers before each header are as many elements of each array on its way as its numbers
+-- say.
+use Rattle.std.proofs.Common.{◌≡◌, refl, sym, ◌∙◌, ap, subst, ℕ, suc, ◌+◌, ◌≤◌, ◌<◌, arith, ℤ, pos, Bool, true, false, List, [], ◌∷◌, ◌++◌}
+use Rattle.std.proofs.Common.{length, inl, inr}
 use Rattle.std.specs.Prelude.{◌&&◌, ◌||◌, not, nat_lt, filter, map, if◌then◌else◌}
 use Rattle.std.specs.List.{list_all, AllByRecursion}
 use Rattle.std.proofs.lemmas.Bool.{cases_eq, lt-ltb}
@@ -27,12 +29,15 @@ use Rattle.toml_edit_model.specs.Order.{sorted_by}
 
 -- ---- the order of headers
 
-pairs-places : (R : Visit → Visit → Type 0) (seen : ℤ) (vs : List Visit) → AllPairs R vs → AllPairs (λ (a b : PlacedVisit). R a.1 b.1) (places_from seen vs)
+pairs-places : (R : Visit → Visit → Type 0) (seen : ℤ) (vs : List Visit) → AllPairs R vs
+    → AllPairs (λ (a b : PlacedVisit). R a.1 b.1) (places_from seen vs)
 pairs-places R seen [] h = tt
 pairs-places R seen (v ∷ vs) h = by_test v.fields.is_dotted (pairs-places R seen vs h.1) (pairs-places R (place_of seen v) vs h.1)
   where
-    by_test : (b : Bool) → AllPairs (λ (a b : PlacedVisit). R a.1 b.1) (places_from seen vs) → AllPairs (λ (a b : PlacedVisit). R a.1 b.1) (places_from (place_of seen v) vs)
-        → AllPairs (λ (a b : PlacedVisit). R a.1 b.1) (if b then places_from seen vs else (place_of seen v, v) ∷ places_from (place_of seen v) vs)
+    by_test : (b : Bool) → AllPairs (λ (a b : PlacedVisit). R a.1 b.1) (places_from seen vs)
+        → AllPairs (λ (a b : PlacedVisit). R a.1 b.1) (places_from (place_of seen v) vs)
+        → AllPairs (λ (a b : PlacedVisit). R a.1 b.1) (if b then places_from seen vs else (place_of seen v, v)
+        ∷ places_from (place_of seen v) vs)
     by_test true x y = x
     by_test false x y = (places-all (R v) (place_of seen v) vs h.0, y)
 
@@ -48,15 +53,18 @@ pairs-unimage {A} f R (x ∷ xs) h = (each xs h.0, pairs-unimage f R xs h.1)
 
 pub after-below : (P q : Path) (m n : ℕ) → is_after_element (to_element P m) (to_element P n ++ q) ≡ nat_lt n m
 after-below [] q m n = refl
-after-below (at_key k ∷ P) q m n = ap (λ b. b && is_after_element (to_element P m) (to_element P n ++ q)) (same_step-refl (at_key k)) ∙ after-below P q m n
+after-below (at_key k ∷ P) q m n = ap (λ b. b && is_after_element (to_element P m) (to_element P n ++ q)) (same_step-refl (at_key k))
+    ∙ after-below P q m n
 after-below (at_element i ∷ []) q m n =
     ap (λ b. b && is_after_element (to_element [] m) (to_element [] n ++ q)) (same_step-refl (at_element i)) ∙ after-below [] q m n
 after-below (at_element i ∷ s ∷ P) q m n =
-    ap (λ b. b && is_after_element (to_element (s ∷ P) m) (to_element (s ∷ P) n ++ q)) (same_step-refl (at_element i)) ∙ after-below (s ∷ P) q m n
+    ap (λ b. b && is_after_element (to_element (s ∷ P) m) (to_element (s ∷ P) n ++ q)) (same_step-refl (at_element i))
+    ∙ after-below (s ∷ P) q m n
 
 -- ---- counted lists
 
-pub counted-among : (n : ℕ) (P : Path) (xs : List Visit) (w : Visit) → Counted n P xs → Among w xs → (m : ℕ) × (w.path ≡ to_element P m) × (n ≤ m) × (m < n + length xs)
+pub counted-among : (n : ℕ) (P : Path) (xs : List Visit) (w : Visit) → Counted n P xs → Among w xs → (m : ℕ) × (w.path ≡ to_element P m)
+    × (n ≤ m) × (m < n + length xs)
 counted-among n P [] w h a = elim a [ ]
 counted-among n P (x ∷ xs) w h (inl e) = (n, ap (λ (v : Visit). v.path) e ∙ h.0, omega arith, omega arith)
 counted-among n P (x ∷ xs) w h (inr a) =
@@ -65,7 +73,8 @@ counted-among n P (x ∷ xs) w h (inr a) =
     let high : more.0 < suc n + length xs = more.3 in
     (more.0, more.1, omega arith, omega arith)
 
-pub counted-at : (n : ℕ) (P : Path) (xs : List Visit) (m : ℕ) → Counted n P xs → n ≤ m → m < n + length xs → (w : Visit) × Among w xs × (w.path ≡ to_element P m)
+pub counted-at : (n : ℕ) (P : Path) (xs : List Visit) (m : ℕ) → Counted n P xs → n ≤ m → m < n + length xs → (w : Visit) × Among w xs
+    × (w.path ≡ to_element P m)
 counted-at n P [] m h low high = absurd (omega arith)
 counted-at n P (x ∷ xs) m h low high =
     elim (cases_eq n m) [
@@ -77,7 +86,8 @@ counted-at n P (x ∷ xs) m h low high =
 pub counted-right : (n : ℕ) (P : Path) (xs ys : List Visit) → Counted n P (xs ++ ys) → Counted (n + length xs) P ys
 counted-right n P [] ys h = subst (λ m. Counted m P ys) (let same : n ≡ n + 0 = omega arith in same) h
 counted-right n P (x ∷ xs) ys h =
-    subst (λ m. Counted m P ys) (let same : suc n + length xs ≡ n + suc (length xs) = omega arith in same) (counted-right (suc n) P xs ys h.1)
+    subst (λ m. Counted m P ys) (let same : suc n + length xs ≡ n + suc (length xs) = omega arith in
+    same) (counted-right (suc n) P xs ys h.1)
 
 pub counted-left : (n : ℕ) (P : Path) (xs ys : List Visit) → Counted n P (xs ++ ys) → Counted n P xs
 counted-left n P [] ys h = tt
@@ -90,7 +100,8 @@ counted-late n P (x ∷ xs) h = (
       (λ w a. let at = counted-among (suc n) P xs w h.1 a in
       let low : suc n ≤ at.0 = at.2 in
       let first : x.path ≡ to_element P n ++ [] = h.0 ∙ sym (append-nil (to_element P n)) in
-      ap (λ p. is_after_element p x.path) at.1 ∙ ap (is_after_element (to_element P at.0)) first ∙ after-below P [] at.0 n ∙ lt-ltb n at.0 (omega arith)),
+      ap (λ p. is_after_element p x.path) at.1 ∙ ap (is_after_element (to_element P at.0)) first ∙ after-below P [] at.0 n
+      ∙ lt-ltb n at.0 (omega arith)),
   counted-late (suc n) P xs h.1,
 )
 
@@ -101,13 +112,15 @@ undotted-elements vs h =
     (λ v g e. sym (ap (λ b. b && v.fields.is_dotted) e) ∙ not-true (v.is_element && v.fields.is_dotted) g)
     (all-of (λ v. not (v.is_element && v.fields.is_dotted)) vs h)
 
-filter-weaker : {A : Type 0} (test wider : A → Bool) (xs : List A) → AllByRecursion (λ x. test x ≡ true → wider x ≡ true) xs → filter test (filter wider xs) ≡ filter test xs
+filter-weaker : {A : Type 0} (test wider : A → Bool) (xs : List A) → AllByRecursion (λ x. test x ≡ true → wider x ≡ true) xs
+    → filter test (filter wider xs) ≡ filter test xs
 filter-weaker test wider [] h = refl
 filter-weaker {A} test wider (x ∷ xs) h = by_test (wider x) refl (test x) refl (filter-weaker test wider xs h.1)
   where
     by_test : (b : Bool) → wider x ≡ b → (c : Bool) → test x ≡ c → filter test (filter wider xs) ≡ filter test xs
         → filter test (if b then x ∷ filter wider xs else filter wider xs) ≡ (if c then x ∷ filter test xs else filter test xs)
-    by_test true e c g ih = ap (λ d. if d then x ∷ filter test (filter wider xs) else filter test (filter wider xs)) g ∙ ap (λ ys. if c then x ∷ ys else ys) ih
+    by_test true e c g ih = ap (λ d. if d then x ∷ filter test (filter wider xs) else filter test (filter wider xs)) g
+        ∙ ap (λ ys. if c then x ∷ ys else ys) ih
     by_test false e true g ih = true-false (wider x) (h.0 g) e
     by_test false e false g ih = ih
 
@@ -119,20 +132,25 @@ placed-items P seen (v ∷ vs) h =
   where
     by_test : (b : Bool) → v.fields.is_dotted ≡ b → (c : Bool) → is_item_of P v ≡ c
         → map (λ (v : PlacedVisit). v.1) (filter (λ (v : PlacedVisit). is_item_of P v.1) (places_from seen vs)) ≡ filter (is_item_of P) vs
-        → map (λ (v : PlacedVisit). v.1) (filter (λ (v : PlacedVisit). is_item_of P v.1) (places_from (place_of seen v) vs)) ≡ filter (is_item_of P) vs
-        → map (λ (v : PlacedVisit). v.1) (filter (λ (v : PlacedVisit). is_item_of P v.1) (if b then places_from seen vs else (place_of seen v, v) ∷ places_from (place_of seen v) vs))
+        → map (λ (v : PlacedVisit). v.1) (filter (λ (v : PlacedVisit). is_item_of P v.1) (places_from (place_of seen v) vs))
+        ≡ filter (is_item_of P) vs
+        → map (λ (v : PlacedVisit). v.1) (filter (λ (v : PlacedVisit). is_item_of P v.1) (if b then places_from seen vs
+        else (place_of seen v, v) ∷ places_from (place_of seen v) vs))
         ≡ (if c then v ∷ filter (is_item_of P) vs else filter (is_item_of P) vs)
     by_test true e true g x y = true-false v.fields.is_dotted e (h.0 (item-element P v g))
     by_test true e false g x y = x
     by_test false e c g x y =
         ap (λ d. map (λ (v : PlacedVisit). v.1)
-        (if d then (place_of seen v, v) ∷ filter (λ (v : PlacedVisit). is_item_of P v.1) (places_from (place_of seen v) vs) else filter (λ (v : PlacedVisit). is_item_of P v.1) (places_from (place_of seen v) vs))) g
+        (if d then (place_of seen v, v) ∷ filter (λ (v : PlacedVisit). is_item_of P v.1) (places_from (place_of seen v) vs)
+        else filter (λ (v : PlacedVisit). is_item_of P v.1) (places_from (place_of seen v) vs))) g
         ∙ kept c y
       where
         kept : (c : Bool)
-            → map (λ (v : PlacedVisit). v.1) (filter (λ (v : PlacedVisit). is_item_of P v.1) (places_from (place_of seen v) vs)) ≡ filter (is_item_of P) vs
+            → map (λ (v : PlacedVisit). v.1) (filter (λ (v : PlacedVisit). is_item_of P v.1) (places_from (place_of seen v) vs))
+            ≡ filter (is_item_of P) vs
             → map (λ (v : PlacedVisit). v.1)
-            (if c then (place_of seen v, v) ∷ filter (λ (v : PlacedVisit). is_item_of P v.1) (places_from (place_of seen v) vs) else filter (λ (v : PlacedVisit). is_item_of P v.1) (places_from (place_of seen v) vs))
+            (if c then (place_of seen v, v) ∷ filter (λ (v : PlacedVisit). is_item_of P v.1) (places_from (place_of seen v) vs)
+            else filter (λ (v : PlacedVisit). is_item_of P v.1) (places_from (place_of seen v) vs))
             ≡ (if c then v ∷ filter (is_item_of P) vs else filter (is_item_of P) vs)
         kept true y = ap (λ ws. v ∷ ws) y
         kept false y = y
@@ -160,7 +178,8 @@ abbrev pub tree_at : Tree → Visit → Type 0
 tree_at t v = IsAt (tree_spot t.slots) (walk t) v
 
 -- each table in the order of headers, and each header
-pub order-at : (t : Tree) → SlotsAreWellMade t.slots → AllByRecursion (λ (v : PlacedVisit). tree_at t v.1 × (v.1.fields.is_dotted ≡ false)) (in_header_order t)
+pub order-at : (t : Tree) → SlotsAreWellMade t.slots
+    → AllByRecursion (λ (v : PlacedVisit). tree_at t v.1 × (v.1.fields.is_dotted ≡ false)) (in_header_order t)
 order-at t made = order-all (tree_at t) t (walk-at t made)
 
 pub order-apart : (t : Tree) → SlotsAreWellMade t.slots → AllPairs (λ (v w : PlacedVisit). Apart v.1 w.1) (in_header_order t)
@@ -179,12 +198,14 @@ module _ (mode : Mode) where
 
     pub element-headed : (v : Visit) → IsAt K W v → v.is_element ≡ true → has_header mode v ≡ true
     element-headed v at e =
-        ap (λ b. not b && (v.is_element || not (v.fields.is_implicit && is_empty (lines_of mode v)))) (element-keys v at.trail at.keys at.ends e)
+        ap (λ b. not b && (v.is_element || not (v.fields.is_implicit && is_empty (lines_of mode v))))
+        (element-keys v at.trail at.keys at.ends e)
         ∙ ap (λ b. b || not (v.fields.is_implicit && is_empty (lines_of mode v))) e
 
   -- ---- elements among the headers
 
-  pub headed-at : (t : Tree) → SlotsAreWellMade t.slots → AllByRecursion (λ v. (tree_at t v × (v.fields.is_dotted ≡ false)) × (has_header mode v ≡ true)) (headed mode t)
+  pub headed-at : (t : Tree) → SlotsAreWellMade t.slots
+      → AllByRecursion (λ v. (tree_at t v × (v.fields.is_dotted ≡ false)) × (has_header mode v ≡ true)) (headed mode t)
   headed-at t made =
       all_pass (λ v. tree_at t v × (v.fields.is_dotted ≡ false)) (has_header mode) (map (λ (v : PlacedVisit). v.1) (in_header_order t))
       (all-image (λ (v : PlacedVisit). v.1) (λ v. tree_at t v × (v.fields.is_dotted ≡ false)) (in_header_order t) (order-at t made))
@@ -195,26 +216,32 @@ module _ (mode : Mode) where
       let f : PlacedVisit → Visit = λ v. v.1 in
       let test : PlacedVisit → Bool = λ v. is_item_of P v.1 in
       let places = places_from (pos 0) (walk t) in
-      let undotted = undotted-elements (walk t) (and_right (not t.root.is_dotted) (list_all (λ v. not (v.is_element && v.fields.is_dotted)) (walk t)) fitting.fits.undotted) in
+      let undotted = undotted-elements (walk t) (and_right (not t.root.is_dotted)
+      (list_all (λ v. not (v.is_element && v.fields.is_dotted)) (walk t)) fitting.fits.undotted) in
       let items : map f (filter test places) ≡ filter (is_item_of P) (walk t) = placed-items P (pos 0) (walk t) undotted in
       let headers : filter (is_item_of P) (headed mode t) ≡ map f (filter test (in_header_order t)) =
       filter-weaker (is_item_of P) (has_header mode) (map f (in_header_order t))
       (all-image f (λ v. is_item_of P v ≡ true → has_header mode v ≡ true) (in_header_order t)
-      (all-map (λ (v : PlacedVisit). tree_at t v.1 × (v.1.fields.is_dotted ≡ false)) (λ (v : PlacedVisit). is_item_of P v.1 ≡ true → has_header mode v.1 ≡ true) (in_header_order t)
+      (all-map (λ (v : PlacedVisit). tree_at t v.1 × (v.1.fields.is_dotted ≡ false)) (λ (v : PlacedVisit). is_item_of P v.1 ≡ true
+      → has_header mode v.1 ≡ true) (in_header_order t)
       (λ v h g. element-headed (tree_spot t.slots) (walk t) v.1 h.0 (item-element P v.1 g)) (order-at t fitting.made)))
       ∙ filter-image f (is_item_of P) (in_header_order t) in
-      let sorted : filter test (in_header_order t) ≡ sorted_by comes_before (filter test places) = filter-sorted comes_before before-trans before-total test places in
+      let sorted : filter test (in_header_order t) ≡ sorted_by comes_before (filter test places) =
+      filter-sorted comes_before before-trans before-total test places in
       let counted : Counted 0 P (map f (filter test places)) = subst (Counted 0 P) (sym items) (walk-counted P t fitting.made) in
       let early : AllPairs (λ g h. is_too_late g h ≡ false) (filter (is_item_of P) (headed mode t)) =
       pairs-filter (λ g h. is_too_late g h ≡ false) (is_item_of P) (headed mode t) (not-late (headed mode t) fitting.fits.ordered) in
       let elements : AllByRecursion (λ v. v.is_element ≡ true) (filter (is_item_of P) (headed mode t)) =
-      all-map (λ v. is_item_of P v ≡ true) (λ v. v.is_element ≡ true) (filter (is_item_of P) (headed mode t)) (item-element P) (filter-passes (is_item_of P) (headed mode t)) in
+      all-map (λ v. is_item_of P v ≡ true) (λ v. v.is_element
+      ≡ true) (filter (is_item_of P) (headed mode t)) (item-element P) (filter-passes (is_item_of P) (headed mode t)) in
       let calm : AllPairs (λ g h. is_after_element g.path h.path ≡ true → ⊥) (filter (is_item_of P) (headed mode t)) =
-      pairs-of (λ v. v.is_element ≡ true) (λ g h. is_too_late g h ≡ false) (λ g h. is_after_element g.path h.path ≡ true → ⊥) (filter (is_item_of P) (headed mode t))
+      pairs-of (λ v. v.is_element ≡ true) (λ g h. is_too_late g h ≡ false) (λ g h. is_after_element g.path h.path ≡ true
+      → ⊥) (filter (is_item_of P) (headed mode t))
       (λ g h e k early. late-element g h early e) elements early in
       headers ∙ ap (map f) (sorted
       ∙ sorted-stays comes_before (λ a b. is_after_element a.1.path b.1.path ≡ true) (filter test places)
-      (pairs-unimage f (λ a b. is_after_element b.path a.path ≡ true) (filter test places) (counted-late 0 P (map f (filter test places)) counted))
+      (pairs-unimage f (λ a b. is_after_element b.path a.path
+      ≡ true) (filter test places) (counted-late 0 P (map f (filter test places)) counted))
       (subst (AllPairs (λ (a b : PlacedVisit). is_after_element a.1.path b.1.path ≡ true → ⊥)) sorted
       (pairs-unimage f (λ a b. is_after_element a.path b.path ≡ true → ⊥) (filter test (in_header_order t))
       (subst (AllPairs (λ a b. is_after_element a.path b.path ≡ true → ⊥)) headers calm)))) ∙ items

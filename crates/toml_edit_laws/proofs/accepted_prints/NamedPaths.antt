@@ -5,7 +5,8 @@ use Rattle.std.specs.List.{AllByRecursion}
 use Rattle.toml_edit_model.specs.Mode.{Mode}
 use Rattle.toml_edit_model.specs.Text.{Text}
 use Rattle.toml_edit_model.specs.Syntax.{Segment}
-use Rattle.toml_edit_model.specs.Paths.{at_key, Path, to_key, line_mentions, next_start, elements_at, in_last, passing_role, header_mentions, header_path}
+use Rattle.toml_edit_model.specs.Paths.{at_key, Path, to_key, line_mentions, next_start, elements_at, in_last, passing_role}
+use Rattle.toml_edit_model.specs.Paths.{header_mentions, header_path}
 use Rattle.toml_edit_model.specs.Tree.{Key}
 use Rattle.toml_edit_model.specs.HeaderOrder.{Visit}
 use Rattle.toml_edit_model.specs.Print.{segments_after, segments, below}
@@ -37,10 +38,12 @@ names-snoc (l ∷ ks) k = ap (λ ns. l.name ∷ ns) (names-snoc ks k)
 
 -- ---- key lines
 
-pub line-told : {S : Type 0} (source : S) (byte : ℕ) (p : Path) (ss : List Segment) → map core (line_mentions source byte p ss) ≡ line_cores p (keys_of_segments ss)
+pub line-told : {S : Type 0} (source : S) (byte : ℕ) (p : Path) (ss : List Segment) → map core (line_mentions source byte p ss)
+    ≡ line_cores p (keys_of_segments ss)
 line-told source byte p [] = refl
 line-told source byte p (s ∷ []) = refl
-line-told source byte p (s ∷ r ∷ rest) = ap (λ ts. (to_key p s.key, dotted_role) ∷ ts) (line-told source (next_start byte s) (to_key p s.key) (r ∷ rest))
+line-told source byte p (s ∷ r ∷ rest) =
+    ap (λ ts. (to_key p s.key, dotted_role) ∷ ts) (line-told source (next_start byte s) (to_key p s.key) (r ∷ rest))
 
 -- so many keys down
 abbrev pub down : Path → List Text → Path
@@ -55,11 +58,13 @@ pub down-snoc : (p : Path) (ns : List Text) (n : Text) → down p (ns ++ (n ∷ 
 down-snoc p [] n = refl
 down-snoc p (m ∷ ns) n = down-snoc (to_key p m) ns n
 
-pub dotted-snoc : (p : Path) (ns : List Text) (n : Text) → dotted_told p (ns ++ (n ∷ [])) ≡ dotted_told p ns ++ ((to_key (down p ns) n, dotted_role) ∷ [])
+pub dotted-snoc : (p : Path) (ns : List Text) (n : Text) → dotted_told p (ns ++ (n ∷ [])) ≡ dotted_told p ns
+    ++ ((to_key (down p ns) n, dotted_role) ∷ [])
 dotted-snoc p [] n = refl
 dotted-snoc p (m ∷ ns) n = ap (λ ts. (to_key p m, dotted_role) ∷ ts) (dotted-snoc (to_key p m) ns n)
 
-pub line-snoc : (p : Path) (ns : List Text) (n : Text) → line_cores p (ns ++ (n ∷ [])) ≡ dotted_told p ns ++ ((to_key (down p ns) n, value_role) ∷ [])
+pub line-snoc : (p : Path) (ns : List Text) (n : Text) → line_cores p (ns ++ (n ∷ [])) ≡ dotted_told p ns
+    ++ ((to_key (down p ns) n, value_role) ∷ [])
 line-snoc p [] n = refl
 line-snoc p (m ∷ []) n = refl
 line-snoc p (m ∷ k ∷ ns) n = ap (λ ts. (to_key p m, dotted_role) ∷ ts) (line-snoc (to_key p m) (k ∷ ns) n)
@@ -88,7 +93,8 @@ abbrev pub header_told : List Path → Role → Path → List Text → List Core
 header_told A role p [] = []
 header_told A role p (n ∷ []) = (to_key p n, role) ∷ []
 header_told A role p (n ∷ m ∷ rest) =
-    (to_key p n, passing_role (elements_at A (to_key p n))) ∷ header_told A role (in_last (elements_at A (to_key p n)) (to_key p n)) (m ∷ rest)
+    (to_key p n, passing_role (elements_at A (to_key p n)))
+    ∷ header_told A role (in_last (elements_at A (to_key p n)) (to_key p n)) (m ∷ rest)
 
 pub header-told : {S : Type 0} (source : S) (A : List Path) (role : Role) (byte : ℕ) (p : Path) (ss : List Segment)
     → map core (header_mentions source A role byte p ss) ≡ header_told A role p (keys_of_segments ss)
@@ -105,7 +111,8 @@ passed A p (n ∷ ns) = passed A (in_last (elements_at A (to_key p n)) (to_key p
 
 abbrev pub passing_told : List Path → Path → List Text → List Core
 passing_told A p [] = []
-passing_told A p (n ∷ ns) = (to_key p n, passing_role (elements_at A (to_key p n))) ∷ passing_told A (in_last (elements_at A (to_key p n)) (to_key p n)) ns
+passing_told A p (n ∷ ns) = (to_key p n, passing_role (elements_at A (to_key p n)))
+    ∷ passing_told A (in_last (elements_at A (to_key p n)) (to_key p n)) ns
 
 pub passed-snoc : (A : List Path) (p : Path) (ns : List Text) (n : Text)
     → passed A p (ns ++ (n ∷ [])) ≡ in_last (elements_at A (to_key (passed A p ns) n)) (to_key (passed A p ns) n)
@@ -113,10 +120,12 @@ passed-snoc A p [] n = refl
 passed-snoc A p (m ∷ ns) n = passed-snoc A (in_last (elements_at A (to_key p m)) (to_key p m)) ns n
 
 pub passing-snoc : (A : List Path) (p : Path) (ns : List Text) (n : Text)
-    → passing_told A p (ns ++ (n ∷ [])) ≡ passing_told A p ns ++ ((to_key (passed A p ns) n, passing_role (elements_at A (to_key (passed A p ns) n))) ∷ [])
+    → passing_told A p (ns ++ (n ∷ [])) ≡ passing_told A p ns
+    ++ ((to_key (passed A p ns) n, passing_role (elements_at A (to_key (passed A p ns) n))) ∷ [])
 passing-snoc A p [] n = refl
 passing-snoc A p (m ∷ ns) n =
-    ap (λ ts. (to_key p m, passing_role (elements_at A (to_key p m))) ∷ ts) (passing-snoc A (in_last (elements_at A (to_key p m)) (to_key p m)) ns n)
+    ap (λ ts. (to_key p m, passing_role (elements_at A (to_key p m)))
+    ∷ ts) (passing-snoc A (in_last (elements_at A (to_key p m)) (to_key p m)) ns n)
 
 pub named-snoc : (A : List Path) (p : Path) (ns : List Text) (n : Text) → named_path A p (ns ++ (n ∷ [])) ≡ to_key (passed A p ns) n
 named-snoc A p [] n = refl
@@ -128,7 +137,8 @@ pub header-snoc : (A : List Path) (role : Role) (p : Path) (ns : List Text) (n :
 header-snoc A role p [] n = refl
 header-snoc A role p (m ∷ []) n = refl
 header-snoc A role p (m ∷ k ∷ ns) n =
-    ap (λ ts. (to_key p m, passing_role (elements_at A (to_key p m))) ∷ ts) (header-snoc A role (in_last (elements_at A (to_key p m)) (to_key p m)) (k ∷ ns) n)
+    ap (λ ts. (to_key p m, passing_role (elements_at A (to_key p m)))
+    ∷ ts) (header-snoc A role (in_last (elements_at A (to_key p m)) (to_key p m)) (k ∷ ns) n)
 
 -- ---- along a way
 
@@ -155,7 +165,8 @@ module _ (K : Path → Spot) where
   Fit m = suits m.1 (K m.0) ≡ true
 
   -- what is said of a way suits what stands along it
-  pub passing-fit : (W : List Visit) (A : List Path) (r : Trail) → Led K W r → RightBy (elements_at A) r → AllByRecursion Fit (passing_told A [] (names (trail_keys r)))
+  pub passing-fit : (W : List Visit) (A : List Path) (r : Trail) → Led K W r → RightBy (elements_at A) r
+      → AllByRecursion Fit (passing_told A [] (names (trail_keys r)))
   passing-fit W A start led h = tt
   passing-fit W A (to_table r k) led h =
       subst (λ ns. AllByRecursion Fit (passing_told A [] ns)) (sym (names-snoc (trail_keys r) k))

@@ -5,9 +5,12 @@ use Rattle.std.specs.List.{list_all}
 use Rattle.toml_edit_model.specs.Text.{Text, joined, is_empty}
 use Rattle.toml_edit_model.specs.Mode.{Mode, plain, exact, is_exact}
 use Rattle.toml_edit_model.specs.Trivia.{IsNewline}
-use Rattle.toml_edit_model.specs.Syntax.{Segment, Statement, key_line, header, AreStatements, IsStatement, statement_text, newline_after, without_newline, open_statements, frame_text, value_text, brackets_text}
+use Rattle.toml_edit_model.specs.Syntax.{Segment, Statement, key_line, header, AreStatements, IsStatement, statement_text, newline_after}
+use Rattle.toml_edit_model.specs.Syntax.{without_newline, open_statements, frame_text, value_text, brackets_text}
 use Rattle.toml_edit_model.specs.Version.{v1_1}
-use Rattle.toml_edit_model.specs.Paths.{Path, same_path, passing_role, Mention, Source, Placed, Context, start_context, context_after, source_of, mentions_of, placed_from, line_mentions, header_mentions, next_start, to_key, elements_at, in_last, header_role_of, path_start}
+use Rattle.toml_edit_model.specs.Paths.{Path, same_path, passing_role, Mention, Source, Placed, Context, start_context, context_after}
+use Rattle.toml_edit_model.specs.Paths.{source_of, mentions_of, placed_from, line_mentions, header_mentions, next_start, to_key}
+use Rattle.toml_edit_model.specs.Paths.{elements_at, in_last, header_role_of, path_start}
 use Rattle.toml_edit_model.specs.Accepted.{agree, is_sound}
 use Rattle.toml_edit_model.specs.Meaning.{statement_facts, facts_from, meaning, fact, a_table}
 use Rattle.toml_edit_model.specs.Tree.{Tree, shown_raw}
@@ -38,11 +41,13 @@ open-are final (s ∷ r ∷ q ∷ ss) e h = (h.0, open-are final (r ∷ q ∷ ss
 abbrev Meets : Mention Source → List (Mention Source) → Bool
 Meets x ms = list_all (λ y. not (same_path x.path y.path) || may_meet x.role y.role) ms
 
-line-meets : (a b : Source) (start : ℕ) (p : Path) (ss : List Segment) (x : Mention Source) → Meets x (line_mentions a start p ss) ≡ Meets x (line_mentions b start p ss)
+line-meets : (a b : Source) (start : ℕ) (p : Path) (ss : List Segment) (x : Mention Source) → Meets x (line_mentions a start p ss)
+    ≡ Meets x (line_mentions b start p ss)
 line-meets a b start p [] x = refl
 line-meets a b start p (s ∷ []) x = refl
 line-meets a b start p (s ∷ r ∷ ss) x =
-    ap (λ c. (not (same_path x.path (to_key p s.key)) || may_meet x.role dotted_role) && c) (line-meets a b (next_start start s) (to_key p s.key) (r ∷ ss) x)
+    ap (λ c. (not (same_path x.path (to_key p s.key)) || may_meet x.role dotted_role)
+    && c) (line-meets a b (next_start start s) (to_key p s.key) (r ∷ ss) x)
 
 header-meets : (a b : Source) (arrays : List Path) (role : Role) (start : ℕ) (p : Path) (ss : List Segment) (x : Mention Source)
     → Meets x (header_mentions a arrays role start p ss) ≡ Meets x (header_mentions b arrays role start p ss)
@@ -52,12 +57,16 @@ header-meets a b arrays role start p (s ∷ r ∷ ss) x =
     ap (λ c. (not (same_path x.path (to_key p s.key)) || may_meet x.role (passing_role (elements_at arrays (to_key p s.key)))) && c)
     (header-meets a b arrays role (next_start start s) (in_last (elements_at arrays (to_key p s.key)) (to_key p s.key)) (r ∷ ss) x)
 
-statement-meets : (c : Context) (s : Statement) (x : Mention Source) → Meets x (mentions_of c (without_newline s)) ≡ Meets x (mentions_of c s)
-statement-meets c (key_line f v end) x = line-meets (source_of c (key_line f v [])) (source_of c (key_line f v end)) (c.start + path_start (key_line f v end)) c.block f.path x
+statement-meets : (c : Context) (s : Statement) (x : Mention Source) → Meets x (mentions_of c (without_newline s))
+    ≡ Meets x (mentions_of c s)
+statement-meets c (key_line f v end) x =
+    line-meets (source_of c (key_line f v [])) (source_of c (key_line f v end)) (c.start + path_start (key_line f v end)) c.block f.path x
 statement-meets c (header h end) x =
-    header-meets (source_of c (header h [])) (source_of c (header h end)) c.arrays (header_role_of h) (c.start + path_start (header h end)) [] h.path x
+    header-meets (source_of c (header h [])) (source_of c (header h end)) c.arrays (header_role_of h) (c.start
+    + path_start (header h end)) [] h.path x
 
-all-meet : (ms : List (Mention Source)) (xs ys : List (Mention Source)) → ((x : Mention Source) → Meets x xs ≡ Meets x ys) → agree may_meet ms xs ≡ agree may_meet ms ys
+all-meet : (ms : List (Mention Source)) (xs ys : List (Mention Source)) → ((x : Mention Source) → Meets x xs ≡ Meets x ys)
+    → agree may_meet ms xs ≡ agree may_meet ms ys
 all-meet [] xs ys h = refl
 all-meet (m ∷ ms) xs ys h = ap (λ b. b && agree may_meet ms xs) (h m) ∙ ap (λ b. Meets m ys && b) (all-meet ms xs ys h)
 
@@ -80,10 +89,13 @@ right-open : (c : Context) (earlier : List Placed) (s : Statement)
     → is_right_after earlier (record { source = source_of c (without_newline s); mentions = mentions_of c (without_newline s) })
     ≡ is_right_after earlier (record { source = source_of c s; mentions = mentions_of c s })
 right-open c earlier s =
-    ap (λ x. is_sound x && list_all (λ (e : Placed). agree may_meet e.mentions (mentions_of c (without_newline s))) earlier) (source-is c (without_newline s))
+    ap (λ x. is_sound x && list_all (λ (e : Placed). agree may_meet e.mentions (mentions_of c (without_newline s))) earlier)
+    (source-is c (without_newline s))
     ∙ ap (λ b. b && list_all (λ (e : Placed). agree may_meet e.mentions (mentions_of c (without_newline s))) earlier) (sound-open s)
-    ∙ ap (λ x. is_sound x && list_all (λ (e : Placed). agree may_meet e.mentions (mentions_of c (without_newline s))) earlier) (sym (source-is c s))
-    ∙ ap (λ b. is_sound (source_of c s).statement && b) (earlier-meet earlier (mentions_of c (without_newline s)) (mentions_of c s) (statement-meets c s))
+    ∙ ap (λ x. is_sound x && list_all (λ (e : Placed). agree may_meet e.mentions (mentions_of c (without_newline s))) earlier)
+    (sym (source-is c s))
+    ∙ ap (λ b. is_sound (source_of c s).statement && b)
+    (earlier-meet earlier (mentions_of c (without_newline s)) (mentions_of c s) (statement-meets c s))
 
 accepted-open : (c : Context) (earlier : List Placed) (ss : List Statement)
     → all_right_in v1_1 earlier (placed_from c (open_statements ss)) ≡ all_right_in v1_1 earlier (placed_from c ss)
@@ -106,7 +118,8 @@ unfolding meaning
 open-ends d h e =
     record {
       is_document = (open-are d.final d.statements e h.0, h.1);
-      accepted = accepted-is (record d { statements = open_statements d.statements }) ∙ accepted-open (start_context d) [] d.statements ∙ sym (accepted-is d);
+      accepted = accepted-is (record d { statements = open_statements d.statements }) ∙ accepted-open (start_context d) [] d.statements
+          ∙ sym (accepted-is d);
       means = ap (λ fs. fact [] a_table ∷ fs) (facts-open (start_context d) d.statements);
     }
 
@@ -116,7 +129,8 @@ newline-apart : (s : Statement) → statement_text (without_newline s) ++ newlin
 newline-apart (key_line f v end) = ap (λ t. t ++ end) (append-nil (frame_text f (value_text v)))
 newline-apart (header h end) =
     append_assoc h.leading (brackets_text h ++ (h.trailing ++ [])) end
-    ∙ ap (λ t. h.leading ++ t) (append_assoc (brackets_text h) (h.trailing ++ []) end ∙ ap (λ t. brackets_text h ++ (t ++ end)) (append-nil h.trailing))
+    ∙ ap (λ t. h.leading ++ t) (append_assoc (brackets_text h) (h.trailing ++ []) end
+    ∙ ap (λ t. brackets_text h ++ (t ++ end)) (append-nil h.trailing))
 
 text-open : (ss : List Statement) → joined (map statement_text (open_statements ss)) ++ last_newline ss ≡ joined (map statement_text ss)
 text-open [] = refl
@@ -143,10 +157,13 @@ module _ (mode : Mode) (t : Tree) where
   closed exact = refl
 
   print-closed : print_in mode false t ≡ framed (statements_of mode t)
-  print-closed = ap (λ b. framed (map (λ (p : Printed). p.statement) (if b then open_last (printed mode t) else printed mode t))) (closed mode)
+  print-closed = ap (λ b. framed (map (λ (p : Printed). p.statement) (if b then open_last (printed mode t) else printed mode t)))
+      (closed mode)
 
-  print-by : (b : Bool) → leaves_open mode true t ≡ b → print_in mode true t ≡ framed (if b then open_statements (statements_of mode t) else statements_of mode t)
-  print-by b e = ap (λ b. framed (map (λ (p : Printed). p.statement) (if b then open_last (printed mode t) else printed mode t))) e ∙ by_test b
+  print-by : (b : Bool) → leaves_open mode true t ≡ b → print_in mode true t
+      ≡ framed (if b then open_statements (statements_of mode t) else statements_of mode t)
+  print-by b e = ap (λ b. framed (map (λ (p : Printed). p.statement) (if b then open_last (printed mode t) else printed mode t))) e
+      ∙ by_test b
     where
       by_test : (b : Bool) → framed (map (λ (p : Printed). p.statement) (if b then open_last (printed mode t) else printed mode t))
           ≡ framed (if b then open_statements (statements_of mode t) else statements_of mode t)
@@ -155,9 +172,12 @@ module _ (mode : Mode) (t : Tree) where
 
   print-open : leaves_open mode true t ≡ true → print_in mode true t ++ last_newline (statements_of mode t) ≡ print_in mode false t
   print-open e =
-      let none : after ≡ [] = none-left (root_suffix mode t) (shown_raw mode t.trailing) (and_right (is_exact mode && true) (is_empty (root_suffix mode t) && is_empty (shown_raw mode t.trailing)) e) in
+      let none : after ≡ [] =
+      none-left (root_suffix mode t) (shown_raw mode t.trailing) (and_right (is_exact mode && true) (is_empty (root_suffix mode t)
+      && is_empty (shown_raw mode t.trailing)) e) in
       ap (λ x. x ++ last_newline (statements_of mode t)) (print-by true e)
-      ∙ move-in (root_prefix mode t) (joined (map statement_text (open_statements (statements_of mode t)))) after (last_newline (statements_of mode t)) none
+      ∙ move-in (root_prefix mode t) (joined (map statement_text (open_statements (statements_of mode t)))) after
+      (last_newline (statements_of mode t)) none
       ∙ ap (λ x. root_prefix mode t ++ (x ++ after)) (text-open (statements_of mode t))
       ∙ sym print-closed
 

@@ -16,7 +16,8 @@ use Rattle.toml_edit_laws.proofs.accepted_prints.LinePlaces.{Parted, inside-part
 use Rattle.toml_edit_laws.proofs.common.Cores.{Core, core, keys_of_segments, line_cores}
 use Rattle.toml_edit_laws.proofs.common.Pairs.{AllPairs, pairs-image}
 use Rattle.toml_edit_laws.proofs.accepted_prints.EachPrintedValue.{LooksAtEach, after-pairs, value-passes}
-use Rattle.toml_edit_model.specs.Roles.{Role, dotted_role, implied_role, header_role, array_role, value_role, continued_role, may_meet_inline}
+use Rattle.toml_edit_model.specs.Roles.{Role, dotted_role, implied_role, header_role, array_role, value_role, continued_role}
+use Rattle.toml_edit_model.specs.Roles.{may_meet_inline}
 
 -- ---- two pairs
 
@@ -33,12 +34,17 @@ told-way : (p : Path) (ns : List Text) → AllByRecursion (OnWay (p ++ map at_ke
 told-way p [] = tt
 told-way p (n ∷ []) = (refl, tt)
 told-way p (n ∷ m ∷ rest) =
-    let same : to_key p n ++ map at_key (m ∷ rest) ≡ p ++ map at_key (n ∷ m ∷ rest) = append_assoc p (at_key n ∷ []) (map at_key (m ∷ rest)) in
-    ((map at_key (m ∷ rest), sym same), subst (λ whole. AllByRecursion (OnWay whole) (line_cores (to_key p n) (m ∷ rest))) same (told-way (to_key p n) (m ∷ rest)))
+    let same : to_key p n ++ map at_key (m ∷ rest) ≡ p ++ map at_key (n ∷ m ∷ rest) =
+    append_assoc p (at_key n ∷ []) (map at_key (m ∷ rest)) in (
+      (map at_key (m ∷ rest), sym same),
+      subst (λ whole. AllByRecursion (OnWay whole) (line_cores (to_key p n) (m ∷ rest))) same
+          (told-way (to_key p n) (m ∷ rest)),
+    )
 
 pub parted-front : (xs ys : List Text) (rest : Path) → Parted xs ys → map at_key ys ≡ map at_key xs ++ rest → ⊥
 parted-front xs ys rest h e =
-    clash h.common (subst (λ zs. map at_key (h.common ++ (h.second ∷ h.after_second)) ≡ map at_key zs ++ rest) h.is_first (subst (λ zs. map at_key zs ≡ map at_key xs ++ rest) h.is_second e))
+    clash h.common (subst (λ zs. map at_key (h.common ++ (h.second ∷ h.after_second)) ≡ map at_key zs
+    ++ rest) h.is_first (subst (λ zs. map at_key zs ≡ map at_key xs ++ rest) h.is_second e))
   where
     clash : (common : List Text)
         → map at_key (common ++ (h.second ∷ h.after_second)) ≡ map at_key (common ++ (h.first ∷ h.after_first)) ++ rest → ⊥
@@ -59,7 +65,8 @@ parted-swap xs ys h =
     }
 
 -- what two parted pairs say may meet
-way-meet : (xs ys : List Text) (q : Path) (r s : Role) → Parted xs ys → OnWay (map at_key xs) (q, r) → OnWay (map at_key ys) (q, s) → may_meet_inline r s ≡ true
+way-meet : (xs ys : List Text) (q : Path) (r s : Role) → Parted xs ys → OnWay (map at_key xs) (q, r) → OnWay (map at_key ys) (q, s)
+    → may_meet_inline r s ≡ true
 way-meet xs ys q dotted_role dotted_role h f g = refl
 way-meet xs ys q value_role dotted_role h f g = absurd (parted-front xs ys g.0 h (g.1 ∙ ap (λ p. p ++ g.0) f))
 way-meet xs ys q dotted_role value_role h f g = absurd (parted-front ys xs f.0 (parted-swap xs ys h) (f.1 ∙ ap (λ p. p ++ f.0) g))
@@ -88,10 +95,12 @@ agree-by {S} may P Q meet (m ∷ ms) ns h g = and_both _ (agree may ms ns) (each
     by_path n q true e = meet m.path m.role n.role h.0 (subst (λ p. Q (p, n.role)) (sym (same_path-is m.path n.path e)) q)
     by_path n q false e = refl
 
-    each : (ns : List (Mention S)) → AllByRecursion Q (map core ns) → list_all (λ n. not (same_path m.path n.path) || may m.role n.role) ns ≡ true
+    each : (ns : List (Mention S)) → AllByRecursion Q (map core ns) → list_all (λ n. not (same_path m.path n.path) || may m.role n.role) ns
+        ≡ true
     each [] q = refl
     each (n ∷ ns) q =
-        and_both (not (same_path m.path n.path) || may m.role n.role) (list_all (λ n. not (same_path m.path n.path) || may m.role n.role) ns)
+        and_both (not (same_path m.path n.path) || may m.role n.role) (list_all (λ n. not (same_path m.path n.path)
+        || may m.role n.role) ns)
         (by_path n q.0 (same_path m.path n.path) refl) (each ns q.1)
 
 -- ---- all pairs
@@ -109,16 +118,21 @@ all-agree start number (pair f v ps) h =
     (all-agree (start + length (frame_text f (value_text v)) + 1) (suc number) ps h.1)
   where
     each : (i j : ℕ) (qs : Pairs) → AllByRecursion (Parted (keys_of_segments f.path)) (pair_names qs)
-        → list_all (agree may_meet_inline (line_mentions (record { frame = f; value = v }) (start + length f.leading) [] f.path)) (pair_mentions i qs) ≡ true
+        → list_all (agree may_meet_inline (line_mentions (record { frame = f; value = v }) (start + length f.leading) [] f.path))
+        (pair_mentions i qs) ≡ true
     each i j no_pairs g = refl
     each i j (pair k w qs) g =
         let ms = line_mentions (record { frame = f; value = v }) (start + length f.leading) [] f.path in
         let ns = line_mentions (record { frame = k; value = w }) (i + length k.leading) [] k.path in
-        and_both (agree may_meet_inline ms ns) (list_all (agree may_meet_inline ms) (pair_mentions (i + length (frame_text k (value_text w)) + 1) qs))
+        and_both (agree may_meet_inline ms ns) (list_all (agree may_meet_inline ms) (pair_mentions (i + length (frame_text k (value_text w))
+        + 1) qs))
         (agree-by may_meet_inline (OnWay (map at_key (keys_of_segments f.path))) (OnWay (map at_key (keys_of_segments k.path)))
         (λ q r s a b. way-meet (keys_of_segments f.path) (keys_of_segments k.path) q r s g.0 a b) ms ns
-        (subst (AllByRecursion (OnWay (map at_key (keys_of_segments f.path)))) (sym (line-told (record { frame = f; value = v }) (start + length f.leading) [] f.path)) (told-way [] (keys_of_segments f.path)))
-        (subst (AllByRecursion (OnWay (map at_key (keys_of_segments k.path)))) (sym (line-told (record { frame = k; value = w }) (i + length k.leading) [] k.path)) (told-way [] (keys_of_segments k.path))))
+        (subst (AllByRecursion (OnWay (map at_key (keys_of_segments f.path))))
+        (sym (line-told (record { frame = f; value = v }) (start + length f.leading) [] f.path))
+        (told-way [] (keys_of_segments f.path)))
+        (subst (AllByRecursion (OnWay (map at_key (keys_of_segments k.path))))
+        (sym (line-told (record { frame = k; value = w }) (i + length k.leading) [] k.path)) (told-way [] (keys_of_segments k.path))))
         (each (i + length (frame_text k (value_text w)) + 1) (suc j) qs g.1)
 
 after-names : (t : Text) (ps : Pairs) → pair_names (add_after_pairs t ps) ≡ pair_names ps
@@ -143,9 +157,11 @@ module _ (mode : Mode) where
   lines-names : (ls : List Line) → pair_names (pairs_of_lines mode ls) ≡ map (λ l. names l.keys) ls
   lines-names [] = refl
   lines-names (l ∷ []) = ap (λ ns. ns ∷ []) (segments-names mode l.keys)
-  lines-names (l ∷ m ∷ ls) = ap (λ ns. ns ∷ pair_names (pairs_of_lines mode (m ∷ ls))) (segments-names mode l.keys) ∙ ap (λ nss. names l.keys ∷ nss) (lines-names (m ∷ ls))
+  lines-names (l ∷ m ∷ ls) = ap (λ ns. ns ∷ pair_names (pairs_of_lines mode (m ∷ ls))) (segments-names mode l.keys)
+      ∙ ap (λ nss. names l.keys ∷ nss) (lines-names (m ∷ ls))
 
-  close-pairs : (comma : Bool) (t : Text) (ps : Pairs) → AllPairs Parted (pair_names ps) → pairs_have_agreeing_pairs ps ≡ true → has_agreeing_pairs (close_inline comma t ps) ≡ true
+  close-pairs : (comma : Bool) (t : Text) (ps : Pairs) → AllPairs Parted (pair_names ps) → pairs_have_agreeing_pairs ps ≡ true
+      → has_agreeing_pairs (close_inline comma t ps) ≡ true
   close-pairs comma t no_pairs h g = refl
   close-pairs true t (pair f v ps) h g = and_both _ (pairs_have_agreeing_pairs (pair f v ps)) (all-agree 0 0 (pair f v ps) h) g
   close-pairs false t (pair f v ps) h g =
@@ -160,5 +176,6 @@ module _ (mode : Mode) where
       (λ s r d made. refl)
       (λ f ss made.
       close-pairs f.comma (shown_raw mode f.trailing) (pairs_of_lines mode (inside_lines mode ss []))
-      (subst (AllPairs Parted) (sym (lines-names (inside_lines mode ss []))) (pairs-image (λ (l : Line). names l.keys) Parted (inside_lines mode ss []) (inside-parted mode ss [] made))))
+      (subst (AllPairs Parted) (sym (lines-names (inside_lines mode ss [])))
+      (pairs-image (λ (l : Line). names l.keys) Parted (inside_lines mode ss []) (inside-parted mode ss [] made))))
       refl

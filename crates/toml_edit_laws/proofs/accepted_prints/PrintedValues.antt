@@ -8,9 +8,16 @@ use Rattle.toml_edit_model.specs.Trivia.{IsWholeTrivia, IsFinalTrivia, Piece, bl
 use Rattle.toml_edit_model.specs.Scalars.{Scalar}
 use Rattle.toml_edit_model.specs.Spelling.{SpellsKey, SpellsInRange}
 use Rattle.toml_edit_model.specs.DefaultSpelling.{key_spelling}
-use Rattle.toml_edit_model.specs.Syntax.{Value, Elements, no_elements, element, Pairs, no_pairs, pair, IsSpelledSegment, ends_unspaced, IsPath, IsFrame, IsValue, AreElements, ArePairs, keeps_ranges, elements_keep_ranges, pairs_keep_ranges}
-use Rattle.toml_edit_model.specs.Tree.{Raw, owned, span, Decor, Key, Node, nothing, leaf, list, inline, table, tables, Items, no_items, item, Slots, no_slots, slot, shown_side, shown_prefix, shown_suffix, shown_raw, shown_spelling, scalar_text, key_text, node_decor, is_value_node, HasTrueSpelling, IsRealScalar, IsWellMade, ItemsAreWellMade, SlotsAreWellMade}
-use Rattle.toml_edit_model.specs.Print.{segments, segments_after, last_leaf, Line, frame_of, add_after, close_array, add_after_pairs, close_inline, element_default, around_of, pairs_of_lines, line_of, is_line_node, value_of, elements_of, inside_lines, lines_inside}
+use Rattle.toml_edit_model.specs.Syntax.{Value, Elements, no_elements, element, Pairs, no_pairs, pair, IsSpelledSegment, ends_unspaced}
+use Rattle.toml_edit_model.specs.Syntax.{IsPath, IsFrame, IsValue, AreElements, ArePairs, keeps_ranges, elements_keep_ranges}
+use Rattle.toml_edit_model.specs.Syntax.{pairs_keep_ranges}
+use Rattle.toml_edit_model.specs.Tree.{Raw, owned, span, Decor, Key, Node, nothing, leaf, list, inline, table, tables, Items, no_items}
+use Rattle.toml_edit_model.specs.Tree.{item, Slots, no_slots, slot, shown_side, shown_prefix, shown_suffix, shown_raw, shown_spelling}
+use Rattle.toml_edit_model.specs.Tree.{scalar_text, key_text, node_decor, is_value_node, HasTrueSpelling, IsRealScalar, IsWellMade}
+use Rattle.toml_edit_model.specs.Tree.{ItemsAreWellMade, SlotsAreWellMade}
+use Rattle.toml_edit_model.specs.Print.{segments, segments_after, last_leaf, Line, frame_of, add_after, close_array, add_after_pairs}
+use Rattle.toml_edit_model.specs.Print.{close_inline, element_default, around_of, pairs_of_lines, line_of, is_line_node, value_of}
+use Rattle.toml_edit_model.specs.Print.{elements_of, inside_lines, lines_inside}
 use Rattle.toml_edit_model.specs.Print as print
 use Rattle.toml_edit_model.specs.Fits.{LineSuits, ElementSuits, Suits, ItemsSuit, InsideSuits, NodeSuitsInside}
 use Rattle.toml_edit_laws.proofs.spellings.DefaultLaws.{default_spells}
@@ -88,7 +95,8 @@ line-value (table f ss) h = h
 line-value (tables e xs) h = h
 line-value nothing h = h
 
-scalar_text-spells : (s : Scalar) (r : Option Raw) → HasTrueSpelling (SpellsInRange s) r → IsRealScalar s → SpellsInRange s (scalar_text s r)
+scalar_text-spells : (s : Scalar) (r : Option Raw) → HasTrueSpelling (SpellsInRange s) r → IsRealScalar s
+    → SpellsInRange s (scalar_text s r)
 scalar_text-spells s None h g = default_spells s g
 scalar_text-spells s (Some (owned t)) h g = h
 scalar_text-spells s (Some (span i j)) h g = default_spells s g
@@ -116,7 +124,8 @@ module _ (mode : Mode) where
   -- ---- sides
 
   -- a side that suits its place by the empty default suits it by any default that does
-  pub side-any : (P : Text → Type 0) (default : Text) (r : Option Raw) → P default → P (shown_side mode [] r) → P (shown_side mode default r)
+  pub side-any : (P : Text → Type 0) (default : Text) (r : Option Raw) → P default → P (shown_side mode [] r)
+      → P (shown_side mode default r)
   side-any P default None h g = h
   side-any P default (Some (owned t)) h g = g
   side-any P default (Some (span i j)) h g = h
@@ -158,7 +167,8 @@ module _ (mode : Mode) where
   pairs_of_lines-are (l ∷ []) h = (h.0.0 print.one_space print.one_space blank-whole blank-whole, h.0.1, tt)
   pairs_of_lines-are (l ∷ m ∷ ls) h = (h.0.0 print.one_space [] blank-whole empty-trivia, h.0.1, pairs_of_lines-are (m ∷ ls) h.1)
 
-  line-is : (ks : List Key) (k : Key) (n : Node) (v : Value) → KeysAreTrue (ks ++ (k ∷ [])) → LineSuits mode IsWholeTrivia (ks ++ (k ∷ [])) n
+  line-is : (ks : List Key) (k : Key) (n : Node) (v : Value) → KeysAreTrue (ks ++ (k ∷ []))
+      → LineSuits mode IsWholeTrivia (ks ++ (k ∷ [])) n
       → IsValue v → IsPair (record { keys = ks ++ (k ∷ []); item = n; value = v })
   line-is ks k n v keys suits value = (
     λ key_default suffix_default kd sd. (
@@ -185,7 +195,8 @@ module _ (mode : Mode) where
       default-is false = blank-whole
 
   -- what holds by the test on a node
-  by_value : (n : Node) (is_first : Bool) (es rest : Elements) (b : Bool) → is_value_node n ≡ b → MatchBool b (ElementSuits mode n × Suits mode n) (Unit {0})
+  by_value : (n : Node) (is_first : Bool) (es rest : Elements) (b : Bool) → is_value_node n ≡ b
+      → MatchBool b (ElementSuits mode n × Suits mode n) (Unit {0})
       → (is_value_node n ≡ true → Suits mode n → IsValue (value_of mode n))
       → AreElements es → AreElements rest
       → AreElements (elim b [ true ↦ element (around_of mode is_first (node_decor n)) (value_of mode n) es | false ↦ rest ])
@@ -204,7 +215,8 @@ module _ (mode : Mode) where
   mutual
     pub value-is : (n : Node) → IsWellMade n → is_value_node n ≡ true → Suits mode n → IsValue (value_of mode n)
     value-is (leaf s r d) made shape h = (scalar_text-spells s r made.0 made.1).0
-    value-is (list f xs) made shape h = close_array-is f.comma (shown_raw mode f.trailing) (elements_of mode xs true) h.0 (elements-are xs true made h.1)
+    value-is (list f xs) made shape h =
+        close_array-is f.comma (shown_raw mode f.trailing) (elements_of mode xs true) h.0 (elements-are xs true made h.1)
     value-is (inline f ss) made shape h =
         close_inline-is f.comma (shown_raw mode f.trailing) (pairs_of_lines mode (inside_lines mode ss [])) h.0
         (pairs_of_lines-are (inside_lines mode ss []) (lines-are ss [] made h.1 tt))
@@ -218,7 +230,8 @@ module _ (mode : Mode) where
         by_value n is_first (elements_of mode xs false) (elements_of mode xs is_first) (is_value_node n) refl h.0
         (value-is n made.0) (elements-are xs false made.1 h.1) (elements-are xs is_first made.1 h.1)
 
-    lines-are : (ss : Slots) (ks : List Key) → SlotsAreWellMade ss → InsideSuits mode ss ks → KeysAreTrue ks → AllByRecursion IsPair (inside_lines mode ss ks)
+    lines-are : (ss : Slots) (ks : List Key) → SlotsAreWellMade ss → InsideSuits mode ss ks → KeysAreTrue ks
+        → AllByRecursion IsPair (inside_lines mode ss ks)
     lines-are no_slots ks made h keys = tt
     lines-are (slot k n ss) ks made h keys =
         let own = keys-snoc ks k keys made.1 in
@@ -228,7 +241,8 @@ module _ (mode : Mode) where
         (λ g. node_lines-are n (ks ++ (k ∷ [])) made.2 g own))
         (lines-are ss ks made.3 h.1 keys)
 
-    node_lines-are : (n : Node) (ks : List Key) → IsWellMade n → NodeSuitsInside mode n ks → KeysAreTrue ks → AllByRecursion IsPair (lines_inside mode n ks)
+    node_lines-are : (n : Node) (ks : List Key) → IsWellMade n → NodeSuitsInside mode n ks → KeysAreTrue ks
+        → AllByRecursion IsPair (lines_inside mode n ks)
     node_lines-are (inline f ss) ks made h keys = lines-are ss ks made h keys
     node_lines-are (table f ss) ks made h keys = lines-are ss ks made h keys
     node_lines-are (leaf s r d) ks made h keys = tt

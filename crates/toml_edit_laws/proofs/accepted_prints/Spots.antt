@@ -1,12 +1,14 @@
 -- What stands at a numbered path of a tree, and which roles a printed statement may give it.
-use Rattle.std.proofs.Common.{◌≡◌, refl, sym, ◌∙◌, ap, subst, ℕ, zero, suc, ◌+◌, Bool, true, false, List, [], ◌∷◌, ◌++◌, append_assoc, ◌⊎◌, inl, inr}
+use Rattle.std.proofs.Common.{◌≡◌, refl, sym, ◌∙◌, ap, subst, ℕ, zero, suc, ◌+◌, Bool, true, false, List, [], ◌∷◌, ◌++◌, append_assoc, ◌⊎◌}
+use Rattle.std.proofs.Common.{inl, inr}
 use Rattle.std.specs.Prelude.{◌&&◌, ◌||◌, not, if◌then◌else◌}
 use Rattle.std.specs.List.{list_all}
 use Rattle.toml_edit_model.specs.Text.{Text, same_text}
 use Rattle.toml_edit_model.specs.Paths.{at_key, at_element, Path, to_key}
 use Rattle.toml_edit_model.specs.Tree.{Key, Node, leaf, list, inline, table, tables, Items, no_items, item, Slots, no_slots, slot, has_key}
 use Rattle.toml_edit_laws.proofs.common.Members.{Among, passes-among}
-use Rattle.toml_edit_laws.proofs.common.Tests.{and_left, and_right, and_both, append-nil, same_text-refl, same_text-is, false-by, true-false, if-true, if-false, or-true}
+use Rattle.toml_edit_laws.proofs.common.Tests.{and_left, and_right, and_both, append-nil, same_text-refl, same_text-is, false-by}
+use Rattle.toml_edit_laws.proofs.common.Tests.{true-false, if-true, if-false, or-true}
 use Rattle.toml_edit_model.specs.Roles.{Role, dotted_role, implied_role, header_role, array_role, value_role, continued_role, may_meet}
 
 -- a line's value, so many keys below the table that it is a line of; a table that lines go through; a table with a header; an array
@@ -125,14 +127,18 @@ is-value continued_role h = absurd cc
 pub suiting-meet : (s : Spot) (r q : Role) → suits r s ≡ true → suits q s ≡ true → Meet r q
 suiting-meet s r q h g =
     let row = passes-among (λ r. list_all (λ q. not (suits r s && suits q s) || meets r q) roles) r roles (all-meet s) (each-role r) in
-    let both : (not (suits r s && suits q s) || meets r q) ≡ true = passes-among (λ q. not (suits r s && suits q s) || meets r q) q roles row (each-role q) in
+    let both : (not (suits r s && suits q s) || meets r q) ≡ true =
+    passes-among (λ q. not (suits r s && suits q s) || meets r q) q roles row (each-role q) in
     by_test (may_meet r q) refl (is_header r && is_header q) refl
     (sym (ap (λ b. not b || meets r q) (and_both (suits r s) (suits q s) h g)) ∙ both)
   where
-    by_test : (b : Bool) → may_meet r q ≡ b → (c : Bool) → (is_header r && is_header q) ≡ c → (b || (c || (is_value r && is_value q))) ≡ true → Meet r q
+    by_test : (b : Bool) → may_meet r q ≡ b → (c : Bool) → (is_header r && is_header q) ≡ c → (b || (c || (is_value r && is_value q)))
+        ≡ true → Meet r q
     by_test true e c f m = inl e
-    by_test false e true f m = inr (inl (is-header r (and_left (is_header r) (is_header q) f), is-header q (and_right (is_header r) (is_header q) f)))
-    by_test false e false f m = inr (inr (is-value r (and_left (is_value r) (is_value q) m), is-value q (and_right (is_value r) (is_value q) m)))
+    by_test false e true f m =
+        inr (inl (is-header r (and_left (is_header r) (is_header q) f), is-header q (and_right (is_header r) (is_header q) f)))
+    by_test false e false f m =
+        inr (inr (is-value r (and_left (is_value r) (is_value q) m), is-value q (and_right (is_value r) (is_value q) m)))
 
 -- ---- a map of all paths sees the slots of a table
 
@@ -157,7 +163,8 @@ module _ (K : Path → Spot) where
 
   -- a later key isn't the first
   other-key : (k : Text) (l : Key) (ss : Slots) → has_key l.name ss ≡ false → has_key k ss ≡ true → same_text k l.name ≡ false
-  other-key k l ss h g = false-by (same_text k l.name) (λ e. true-false (has_key k ss) g (subst (λ x. has_key x ss ≡ false) (sym (same_text-is k l.name e)) h))
+  other-key k l ss h g =
+      false-by (same_text k l.name) (λ e. true-false (has_key k ss) g (subst (λ x. has_key x ss ≡ false) (sym (same_text-is k l.name e)) h))
 
   pub sees-first : (p : Path) (k : Key) (n : Node) (ss : Slots) (d : ℕ) → Sees p (slot k n ss) d → SeesNode (to_key p k.name) n (suc d)
   sees-first p k n ss d h q =
@@ -169,12 +176,14 @@ module _ (K : Path → Spot) where
       h l q (ap (λ b. same_text l k.name || b) g ∙ or-true (same_text l k.name))
       ∙ if-false (same_text l k.name) (node_spot n (suc d) q) (slots_spot ss d l q) (other-key l k ss none g)
 
-  pub inside-first : (p : Path) (k : Key) (n : Node) (ss : Slots) (d : ℕ) → SeesInside p (slot k n ss) d → SeesNodeInside (to_key p k.name) n (suc d)
+  pub inside-first : (p : Path) (k : Key) (n : Node) (ss : Slots) (d : ℕ) → SeesInside p (slot k n ss) d
+      → SeesNodeInside (to_key p k.name) n (suc d)
   inside-first p k n ss d h q =
       ap K (append_assoc p (at_key k.name ∷ []) q) ∙ h k.name q (own-key k n ss)
       ∙ if-true (same_text k.name k.name) (inside_node_spot n (suc d) q) (inside_spot ss d k.name q) (same_text-refl k.name)
 
-  pub inside-rest : (p : Path) (k : Key) (n : Node) (ss : Slots) (d : ℕ) → has_key k.name ss ≡ false → SeesInside p (slot k n ss) d → SeesInside p ss d
+  pub inside-rest : (p : Path) (k : Key) (n : Node) (ss : Slots) (d : ℕ) → has_key k.name ss ≡ false → SeesInside p (slot k n ss) d
+      → SeesInside p ss d
   inside-rest p k n ss d none h l q g =
       h l q (ap (λ b. same_text l k.name || b) g ∙ or-true (same_text l k.name))
       ∙ if-false (same_text l k.name) (inside_node_spot n (suc d) q) (inside_spot ss d l q) (other-key l k ss none g)

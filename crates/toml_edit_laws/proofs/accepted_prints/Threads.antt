@@ -1,17 +1,21 @@
 -- The reader's context along the printed statements: in it each header's numbered path is that of its table in the tree, and each
 -- line stands in the block of its table.
-use Rattle.std.proofs.Common.{◌≡◌, refl, sym, ◌∙◌, ap, subst, ℕ, zero, suc, ◌+◌, arith, pos, Bool, true, false, List, [], ◌∷◌, ◌++◌, append_assoc, length, length-append}
+use Rattle.std.proofs.Common.{◌≡◌, refl, sym, ◌∙◌, ap, subst, ℕ, zero, suc, ◌+◌, arith, pos, Bool, true, false, List, [], ◌∷◌, ◌++◌}
+use Rattle.std.proofs.Common.{append_assoc, length, length-append}
 use Rattle.std.specs.Prelude.{◌&&◌, ◌||◌, not, filter, map, if◌then◌else◌}
 use Rattle.std.specs.List.{AllByRecursion}
 use Rattle.std.proofs.lemmas.List.Elements.{filter-append}
 use Rattle.toml_edit_model.specs.Mode.{Mode}
 use Rattle.toml_edit_model.specs.Text.{Text, is_empty}
 use Rattle.toml_edit_model.specs.Syntax.{Statement, key_line, header}
-use Rattle.toml_edit_model.specs.Paths.{at_element, Path, same_path, in_last, to_key, to_element, elements_at, passing_role, header_path, header_role_of}
+use Rattle.toml_edit_model.specs.Paths.{at_element, Path, same_path, in_last, to_key, to_element, elements_at, passing_role, header_path}
+use Rattle.toml_edit_model.specs.Paths.{header_role_of}
 use Rattle.toml_edit_model.specs.Meaning.{parent}
 use Rattle.toml_edit_model.specs.Tree.{Key, Tree}
-use Rattle.toml_edit_model.specs.HeaderOrder.{Visit, PlacedVisit, visit_of, slots_walk, walk, place_of, places_from, is_root, comes_before, in_header_order}
-use Rattle.toml_edit_model.specs.Print.{Line, segments, lines_of, has_header, Printed, printed_line, printed_table, printed_tables, printed, header_statement}
+use Rattle.toml_edit_model.specs.HeaderOrder.{Visit, PlacedVisit, visit_of, slots_walk, walk, place_of, places_from, is_root, comes_before}
+use Rattle.toml_edit_model.specs.HeaderOrder.{in_header_order}
+use Rattle.toml_edit_model.specs.Print.{Line, segments, lines_of, has_header, Printed, printed_line, printed_table, printed_tables, printed}
+use Rattle.toml_edit_model.specs.Print.{header_statement}
 use Rattle.toml_edit_model.specs.Fits.{headed}
 use Rattle.toml_edit_laws.specs.AcceptedPrints.{IsFitting}
 use Rattle.toml_edit_laws.proofs.common.Tests.{and_left, not-true, true-false, if-false}
@@ -22,7 +26,9 @@ use Rattle.toml_edit_laws.proofs.accepted_prints.WalkPlaces.{Trail, start, to_ta
 use Rattle.toml_edit_laws.proofs.accepted_prints.WalkPaths.{walk-apart, is_item_of}
 use Rattle.toml_edit_laws.proofs.accepted_prints.HeaderNumbers.{tree_at}
 use Rattle.toml_edit_laws.proofs.accepted_prints.HeaderReach.{RightBy, Reached, reached, elements_in}
-use Rattle.toml_edit_laws.proofs.accepted_prints.NamedPaths.{names, segments-names, names-snoc, down, dotted_told, line-snoc, down-snoc, below-down, named_path, header-named, header_told, passing_told, named-snoc, header-snoc, right-same, passed-trail, Fit, passing-fit}
+use Rattle.toml_edit_laws.proofs.accepted_prints.NamedPaths.{names, segments-names, names-snoc, down, dotted_told, line-snoc, down-snoc}
+use Rattle.toml_edit_laws.proofs.accepted_prints.NamedPaths.{below-down, named_path, header-named, header_told, passing_told, named-snoc}
+use Rattle.toml_edit_laws.proofs.accepted_prints.NamedPaths.{header-snoc, right-same, passed-trail, Fit, passing-fit}
 use Rattle.toml_edit_laws.proofs.accepted_prints.LinePlaces.{LineAt, table-at}
 use Rattle.toml_edit_laws.proofs.common.PathLaws.{parent-last}
 use Rattle.toml_edit_laws.proofs.common.Cores.{Core, keys_of_segments, line_cores}
@@ -77,15 +83,18 @@ Counts A before = (q : Path) → elements_at A q ≡ elements_in q before
 counts-plain : (A : List Path) (before : List Visit) (v : Visit) → v.is_element ≡ false → Counts A before → Counts A (before ++ (v ∷ []))
 counts-plain A before v e h q =
     let more : elements_in q (before ++ (v ∷ [])) ≡ elements_in q before + length (filter (is_item_of q) (v ∷ [])) =
-    ap length (filter-append (is_item_of q) before (v ∷ [])) ∙ length-append (filter (is_item_of q) before) (filter (is_item_of q) (v ∷ [])) in
+    ap length (filter-append (is_item_of q) before (v ∷ []))
+    ∙ length-append (filter (is_item_of q) before) (filter (is_item_of q) (v ∷ [])) in
     let none : length (filter (is_item_of q) (v ∷ [])) ≡ 0 = ap (λ b. length (if b && same_path q (parent v.path) then v ∷ [] else [])) e in
     let now = h q in
     omega arith
 
-counts-item : (A : List Path) (before : List Visit) (v : Visit) (P : Path) (n : ℕ) → v.is_element ≡ true → v.path ≡ to_element P n → Counts A before → Counts (P ∷ A) (before ++ (v ∷ []))
+counts-item : (A : List Path) (before : List Visit) (v : Visit) (P : Path) (n : ℕ) → v.is_element ≡ true → v.path ≡ to_element P n
+    → Counts A before → Counts (P ∷ A) (before ++ (v ∷ []))
 counts-item A before v P n e path h q =
     let more : elements_in q (before ++ (v ∷ [])) ≡ elements_in q before + length (filter (is_item_of q) (v ∷ [])) =
-    ap length (filter-append (is_item_of q) before (v ∷ [])) ∙ length-append (filter (is_item_of q) before) (filter (is_item_of q) (v ∷ [])) in
+    ap length (filter-append (is_item_of q) before (v ∷ []))
+    ∙ length-append (filter (is_item_of q) before) (filter (is_item_of q) (v ∷ [])) in
     let one : length (filter (is_item_of q) (v ∷ [])) ≡ length (if same_path q P then v ∷ [] else []) =
     ap (λ b. length (if b && same_path q (parent v.path) then v ∷ [] else [])) e
     ∙ ap (λ p. length (if same_path q p then v ∷ [] else [])) (ap parent path ∙ parent-last P (at_element n)) in
@@ -130,7 +139,8 @@ module _ (mode : Mode) where
     line-own b l front last e =
         subst (λ ns. AllByRecursion (λ (m : Core). OwnOf (printed_line mode b l) m.0 m.1) (line_cores b ns)) (sym e)
         (subst (AllByRecursion (λ (m : Core). OwnOf (printed_line mode b l) m.0 m.1)) (sym (line-snoc b front last))
-        (all-append (λ (m : Core). OwnOf (printed_line mode b l) m.0 m.1) (dotted_told b front) _ (dotted-own (printed_line mode b l) b front)
+        (all-append (λ (m : Core). OwnOf (printed_line mode b l) m.0 m.1) (dotted_told b front) _
+        (dotted-own (printed_line mode b l) b front)
         ((sym (down-snoc b front last) ∙ ap (down b) (sym e) ∙ sym (below-down b l.keys), refl), tt)))
 
     line-stands : (A : List Path) (b : Path) (l : Line) → LineAt mode K b l → StandsIn K A b (printed_line mode b l)
@@ -139,10 +149,12 @@ module _ (mode : Mode) where
           block = refl;
           says =
               subst (λ ns. AllByRecursion (Says K (printed_line mode b l)) (line_cores b ns)) (sym (segments-names mode l.keys))
-              (all-both (Fit K) (λ (m : Core). OwnOf (printed_line mode b l) m.0 m.1) (line_cores b (names l.keys)) at.said (line-own b l at.front at.last at.some));
+              (all-both (Fit K) (λ (m : Core). OwnOf (printed_line mode b l) m.0 m.1) (line_cores b (names l.keys)) at.said
+              (line-own b l at.front at.last at.some));
         }
 
-    lines-thread : (A : List Path) (b : Path) (ls : List Line) (ps : List Printed) → AllByRecursion (LineAt mode K b) ls → Threads (StandsIn K) A b ps
+    lines-thread : (A : List Path) (b : Path) (ls : List Line) (ps : List Printed) → AllByRecursion (LineAt mode K b) ls
+        → Threads (StandsIn K) A b ps
         → Threads (StandsIn K) A b (map (printed_line mode b) ls ++ ps)
     lines-thread A b [] ps h g = g
     lines-thread A b (l ∷ ls) ps h g = (line-stands A b l h.0, lines-thread A b ls ps h.1 g)
@@ -153,9 +165,11 @@ module _ (mode : Mode) where
     passing-own p q zero = tt
     passing-own p q (suc n) = tt
 
-    passing-owns : (p : Printed) (A : List Path) (q : Path) (ns : List Text) → AllByRecursion (λ (m : Core). OwnOf p m.0 m.1) (passing_told A q ns)
+    passing-owns : (p : Printed) (A : List Path) (q : Path) (ns : List Text)
+        → AllByRecursion (λ (m : Core). OwnOf p m.0 m.1) (passing_told A q ns)
     passing-owns p A q [] = tt
-    passing-owns p A q (n ∷ ns) = (passing-own p (to_key q n) (elements_at A (to_key q n)), passing-owns p A (in_last (elements_at A (to_key q n)) (to_key q n)) ns)
+    passing-owns p A q (n ∷ ns) =
+        (passing-own p (to_key q n) (elements_at A (to_key q n)), passing-owns p A (in_last (elements_at A (to_key q n)) (to_key q n)) ns)
 
     -- the header's path, and what it says, by its way
     trail-path : (A : List Path) (ks : List Key) (r : Trail) (k : Key) → ks ≡ trail_keys r ++ (k ∷ []) → RightBy (elements_at A) r
@@ -164,18 +178,24 @@ module _ (mode : Mode) where
         header-named A [] (segments mode ks) ∙ ap (named_path A []) (segments-names mode ks ∙ ap names e ∙ names-snoc (trail_keys r) k)
         ∙ named-snoc A [] (names (trail_keys r)) k.name ∙ ap (λ p. to_key p k.name) (passed-trail A r right)
 
-    trail-says : (W : List Visit) (A : List Path) (p : Printed) (role : Role) (ks : List Key) (r : Trail) (k : Key) → ks ≡ trail_keys r ++ (k ∷ []) → RightBy (elements_at A) r → Led K W r
-        → Says K p (to_key (trail_path r) k.name, role) → AllByRecursion (Says K p) (header_told A role [] (keys_of_segments (segments mode ks)))
+    trail-says : (W : List Visit) (A : List Path) (p : Printed) (role : Role) (ks : List Key) (r : Trail) (k : Key) → ks ≡ trail_keys r
+        ++ (k ∷ []) → RightBy (elements_at A) r → Led K W r
+        → Says K p (to_key (trail_path r) k.name, role) → AllByRecursion (Says K p)
+        (header_told A role [] (keys_of_segments (segments mode ks)))
     trail-says W A p role ks r k e right led last =
-        subst (λ ns. AllByRecursion (Says K p) (header_told A role [] ns)) (sym (segments-names mode ks ∙ ap names e ∙ names-snoc (trail_keys r) k))
+        subst (λ ns. AllByRecursion (Says K p) (header_told A role [] ns)) (sym (segments-names mode ks ∙ ap names e
+        ∙ names-snoc (trail_keys r) k))
         (subst (AllByRecursion (Says K p)) (sym (header-snoc A role [] (names (trail_keys r)) k.name))
         (all-append (Says K p) (passing_told A [] (names (trail_keys r))) _
-        (all-both (Fit K) (λ (m : Core). OwnOf p m.0 m.1) (passing_told A [] (names (trail_keys r))) (passing-fit K W A r led right) (passing-owns p A [] (names (trail_keys r))))
+        (all-both (Fit K) (λ (m : Core). OwnOf p m.0 m.1) (passing_told A [] (names (trail_keys r))) (passing-fit K W A r led right)
+        (passing-owns p A [] (names (trail_keys r))))
         (subst (λ q. Says K p (to_key q k.name, role)) (sym (passed-trail A r right)) last, tt)))
 
   -- a table without a header has no lines, unless it is the root
   pub no-lines : (v : Visit) → is_root v ≡ false → has_header mode v ≡ false → lines_of mode v ≡ []
-  no-lines v root none = by_lines (lines_of mode v) v.is_element v.fields.is_implicit (sym (ap (λ b. not b && (v.is_element || not (v.fields.is_implicit && is_empty (lines_of mode v)))) root) ∙ none)
+  no-lines v root none =
+      by_lines (lines_of mode v) v.is_element v.fields.is_implicit
+      (sym (ap (λ b. not b && (v.is_element || not (v.fields.is_implicit && is_empty (lines_of mode v)))) root) ∙ none)
     where
       by_lines : (ls : List Line) (e i : Bool) → (e || not (i && is_empty ls)) ≡ false → ls ≡ []
       by_lines [] e i h = refl
@@ -201,9 +221,11 @@ module _ (mode : Mode) where
     header-stands : (A : List Path) (b : Path) (before : List Visit) (is_first : Bool) (v : Visit) (after : List Visit)
         → headed mode t ≡ before ++ (v ∷ after) → IsPlaced v → Counts A before → HeaderStands A b before is_first v
     header-stands A b before is_first v after split placed counts =
-        by_trail placed.0.0.0.trail placed.0.0.0.path placed.0.0.0.keys placed.0.0.0.led placed.0.0.0.ends (reached mode t fitting before v after split placed.0.0.0)
+        by_trail placed.0.0.0.trail placed.0.0.0.path placed.0.0.0.keys placed.0.0.0.led placed.0.0.0.ends
+        (reached mode t fitting before v after split placed.0.0.0)
       where
-        by_trail : (T : Trail) → v.path ≡ trail_path T → v.keys ≡ trail_keys T → Led K (walk t) T → EndsAs K (walk t) v T → Reached (λ p. elements_in p before) T
+        by_trail : (T : Trail) → v.path ≡ trail_path T → v.keys ≡ trail_keys T → Led K (walk t) T → EndsAs K (walk t) v T
+            → Reached (λ p. elements_in p before) T
             → HeaderStands A b before is_first v
         by_trail start path keys led ends reach = true-false (is_root v) (ap is_empty keys) placed.1
         by_trail (to_table r k) path keys led ends reach =
@@ -211,10 +233,12 @@ module _ (mode : Mode) where
             let own : header_path A [] (segments mode v.keys) ≡ v.path = trail-path K A v.keys r k keys right ∙ sym path in
             record {
               block =
-                  ap (λ e. if e then to_element (header_path A [] (segments mode v.keys)) (elements_at A (header_path A [] (segments mode v.keys))) else header_path A [] (segments mode v.keys)) ends.0
+                  ap (λ e. if e then to_element (header_path A [] (segments mode v.keys))
+                  (elements_at A (header_path A [] (segments mode v.keys))) else header_path A [] (segments mode v.keys)) ends.0
                   ∙ own;
               says =
-                  subst (λ e. AllByRecursion (Says K (own_header mode is_first v)) (header_told A (if e then array_role else header_role) [] (keys_of_segments (segments mode v.keys)))) (sym ends.0)
+                  subst (λ e. AllByRecursion (Says K (own_header mode is_first v)) (header_told A (if e then array_role
+                  else header_role) [] (keys_of_segments (segments mode v.keys)))) (sym ends.0)
                   (trail-says K (walk t) A (own_header mode is_first v) header_role v.keys r k keys right led.0
                   (ap (λ p. suits header_role (K p)) (sym path) ∙ ap (suits header_role) (ends.1 placed.0.1), (sym path, refl)));
               counts =
@@ -227,47 +251,63 @@ module _ (mode : Mode) where
             let own : header_path A [] (segments mode v.keys) ≡ P = trail-path K A v.keys r k keys right in
             record {
               block =
-                  ap (λ e. if e then to_element (header_path A [] (segments mode v.keys)) (elements_at A (header_path A [] (segments mode v.keys))) else header_path A [] (segments mode v.keys)) ends
+                  ap (λ e. if e then to_element (header_path A [] (segments mode v.keys))
+                  (elements_at A (header_path A [] (segments mode v.keys))) else header_path A [] (segments mode v.keys)) ends
                   ∙ ap (λ q. to_element q (elements_at A q)) own ∙ ap (to_element P) (counts P ∙ reach.1) ∙ sym path;
               says =
-                  subst (λ e. AllByRecursion (Says K (own_header mode is_first v)) (header_told A (if e then array_role else header_role) [] (keys_of_segments (segments mode v.keys)))) (sym ends)
-                  (trail-says K (walk t) A (own_header mode is_first v) array_role v.keys r k keys right led.0 (ap (suits array_role) led.1, tt));
+                  subst (λ e. AllByRecursion (Says K (own_header mode is_first v)) (header_told A (if e then array_role
+                  else header_role) [] (keys_of_segments (segments mode v.keys)))) (sym ends)
+                  (trail-says K (walk t) A (own_header mode is_first v) array_role v.keys r k keys right led.0 (
+                    ap (suits array_role) led.1,
+                    tt,
+                  ));
               counts =
                   subst (λ e. Counts (if e then header_path A [] (segments mode v.keys) ∷ A else A) (before ++ (v ∷ []))) (sym ends)
                   (subst (λ q. Counts (q ∷ A) (before ++ (v ∷ []))) (sym own) (counts-item A before v P n ends path counts));
             }
 
     -- a table's lines stand below it
-    pub lines-at : (v : Visit) → tree_at t v → IsVisit v → v.fields.is_dotted ≡ false → AllByRecursion (LineAt mode K v.path) (lines_of mode v)
+    pub lines-at : (v : Visit) → tree_at t v → IsVisit v → v.fields.is_dotted ≡ false
+        → AllByRecursion (LineAt mode K v.path) (lines_of mode v)
     lines-at v at is undotted = table-at mode K v.slots v.path [] is.made tt (at.sees undotted)
 
     -- the tables after these, in the order of headers
     tables-thread : (vs : List PlacedVisit) (before : List Visit) (A : List Path) (b : Path) (is_first : Bool)
-        → headed mode t ≡ before ++ filter (has_header mode) (map (λ (v : PlacedVisit). v.1) vs) → AllByRecursion (λ (v : PlacedVisit). IsPlaced v.1) vs → Counts A before
+        → headed mode t ≡ before ++ filter (has_header mode) (map (λ (v : PlacedVisit). v.1) vs)
+        → AllByRecursion (λ (v : PlacedVisit). IsPlaced v.1) vs → Counts A before
         → Threads (StandsIn K) A b (printed_tables mode is_first vs)
     tables-thread [] before A b is_first split placed counts = tt
     tables-thread (v ∷ vs) before A b is_first split placed counts =
         by_header (has_header mode v.1) refl split (tables-thread vs)
       where
         by_header : (c : Bool) → has_header mode v.1 ≡ c
-            → headed mode t ≡ before ++ (if c then v.1 ∷ filter (has_header mode) (map (λ (v : PlacedVisit). v.1) vs) else filter (has_header mode) (map (λ (v : PlacedVisit). v.1) vs))
+            → headed mode t ≡ before ++ (if c then v.1 ∷ filter (has_header mode) (map (λ (v : PlacedVisit). v.1) vs)
+            else filter (has_header mode) (map (λ (v : PlacedVisit). v.1) vs))
             → ((before : List Visit) (A : List Path) (b : Path) (is_first : Bool)
-            → headed mode t ≡ before ++ filter (has_header mode) (map (λ (v : PlacedVisit). v.1) vs) → AllByRecursion (λ (v : PlacedVisit). IsPlaced v.1) vs → Counts A before
+            → headed mode t ≡ before ++ filter (has_header mode) (map (λ (v : PlacedVisit). v.1) vs)
+            → AllByRecursion (λ (v : PlacedVisit). IsPlaced v.1) vs → Counts A before
             → Threads (StandsIn K) A b (printed_tables mode is_first vs))
             → Threads (StandsIn K) A b
             (((if c then own_header mode is_first v.1 ∷ [] else []) ++ map (printed_line mode v.1.path) (lines_of mode v.1))
             ++ printed_tables mode (is_first && is_empty (printed_table mode is_first v.1)) vs)
         by_header true e split more =
-            let stands = header-stands A b before is_first v.1 (filter (has_header mode) (map (λ (v : PlacedVisit). v.1) vs)) split placed.0 counts in (
+            let stands = header-stands A b before is_first v.1 (filter (has_header mode) (map (λ (v : PlacedVisit). v.1) vs)) split placed.0
+            counts in (
               record { block = stands.block; says = stands.says },
-              subst (λ q. Threads (StandsIn K) (arrays_after A (header_statement mode is_first v.1)) q (map (printed_line mode v.1.path) (lines_of mode v.1) ++ printed_tables mode (is_first && is_empty (printed_table mode is_first v.1)) vs)) (sym stands.block)
-                  (lines-thread K (arrays_after A (header_statement mode is_first v.1)) v.1.path (lines_of mode v.1) (printed_tables mode (is_first && is_empty (printed_table mode is_first v.1)) vs)
+              subst (λ q. Threads (StandsIn K) (arrays_after A (header_statement mode is_first v.1)) q
+                  (map (printed_line mode v.1.path) (lines_of mode v.1)
+                  ++ printed_tables mode (is_first && is_empty (printed_table mode is_first v.1)) vs)) (sym stands.block)
+                  (lines-thread K (arrays_after A (header_statement mode is_first v.1)) v.1.path (lines_of mode v.1)
+                  (printed_tables mode (is_first && is_empty (printed_table mode is_first v.1)) vs)
                   (lines-at v.1 placed.0.0.0.0 placed.0.0.0.1 placed.0.0.1)
-                  (more (before ++ (v.1 ∷ [])) (arrays_after A (header_statement mode is_first v.1)) v.1.path (is_first && is_empty (printed_table mode is_first v.1))
-                  (split ∙ sym (append_assoc before (v.1 ∷ []) (filter (has_header mode) (map (λ (v : PlacedVisit). v.1) vs)))) placed.1 stands.counts)),
+                  (more (before ++ (v.1 ∷ [])) (arrays_after A (header_statement mode is_first v.1)) v.1.path (is_first
+                  && is_empty (printed_table mode is_first v.1))
+                  (split ∙ sym (append_assoc before (v.1 ∷ []) (filter (has_header mode) (map (λ (v : PlacedVisit). v.1) vs)))) placed.1
+                  stands.counts)),
             )
         by_header false e split more =
-            subst (λ ls. Threads (StandsIn K) A b (map (printed_line mode v.1.path) ls ++ printed_tables mode (is_first && is_empty (printed_table mode is_first v.1)) vs)) (sym (no-lines v.1 placed.0.1 e))
+            subst (λ ls. Threads (StandsIn K) A b (map (printed_line mode v.1.path) ls
+            ++ printed_tables mode (is_first && is_empty (printed_table mode is_first v.1)) vs)) (sym (no-lines v.1 placed.0.1 e))
             (more before A b (is_first && is_empty (printed_table mode is_first v.1)) split placed.1 counts)
 
   -- ---- the root is first
@@ -289,7 +329,8 @@ module _ (mode : Mode) where
       (all-both (tree_at t) (λ v. [] ≡ v.path → ⊥) W (walk-at t fitting.made).1 (walk-apart t fitting.made).0)) in
       let seen = place_of (pos 0) (visit_of [] [] false t.root t.slots) in
       all-sorted (λ (v : PlacedVisit). IsPlaced t fitting v.1) comes_before (places_from seen W)
-      (all-map (λ (v : PlacedVisit). ((tree_at t v.1 × IsVisit v.1) × (is_root v.1 ≡ false)) × (v.1.fields.is_dotted ≡ false)) (λ (v : PlacedVisit). IsPlaced t fitting v.1) (places_from seen W)
+      (all-map (λ (v : PlacedVisit). ((tree_at t v.1 × IsVisit v.1) × (is_root v.1 ≡ false))
+      × (v.1.fields.is_dotted ≡ false)) (λ (v : PlacedVisit). IsPlaced t fitting v.1) (places_from seen W)
       (λ v h. ((h.0.0, h.1), h.0.1))
       (places-all (λ v. (tree_at t v × IsVisit v) × (is_root v ≡ false)) seen W facts))
 
@@ -300,6 +341,8 @@ module _ (mode : Mode) where
       let split : headed mode t ≡ [] ++ filter (has_header mode) (map (λ (v : PlacedVisit). v.1) (after_root t)) =
       ap (λ (vs : List PlacedVisit). filter (has_header mode) (map (λ (v : PlacedVisit). v.1) vs)) (order-is t fitting) in
       subst (λ vs. Threads (StandsIn (tree_spot t.slots)) [] [] (printed_tables mode true vs)) (sym (order-is t fitting))
-      (lines-thread (tree_spot t.slots) [] [] (lines_of mode root.1) (printed_tables mode (true && is_empty (printed_table mode true root.1)) (after_root t))
+      (lines-thread (tree_spot t.slots) [] [] (lines_of mode root.1) (printed_tables mode (true
+      && is_empty (printed_table mode true root.1)) (after_root t))
       (table-at mode (tree_spot t.slots) t.slots [] [] fitting.made tt (tree-sees t.slots))
-      (tables-thread t fitting (after_root t) [] [] [] (true && is_empty (printed_table mode true root.1)) split (after-placed t fitting) (λ q. refl)))
+      (tables-thread t fitting (after_root t) [] [] [] (true
+      && is_empty (printed_table mode true root.1)) split (after-placed t fitting) (λ q. refl)))

@@ -7,11 +7,13 @@ use Rattle.std.proofs.lemmas.List.Elements.{filter-append}
 use Rattle.toml_edit_model.specs.Text.{Text, same_text}
 use Rattle.toml_edit_model.specs.Paths.{at_key, at_element, Path, same_step, same_path, to_key, to_element}
 use Rattle.toml_edit_model.specs.Meaning.{parent}
-use Rattle.toml_edit_model.specs.Tree.{Key, Node, nothing, leaf, list, inline, table, tables, Items, no_items, item, Slots, no_slots, slot, Tree, has_key, IsWellMade, ItemsAreWellMade, SlotsAreWellMade}
+use Rattle.toml_edit_model.specs.Tree.{Key, Node, nothing, leaf, list, inline, table, tables, Items, no_items, item, Slots, no_slots, slot}
+use Rattle.toml_edit_model.specs.Tree.{Tree, has_key, IsWellMade, ItemsAreWellMade, SlotsAreWellMade}
 use Rattle.toml_edit_model.specs.HeaderOrder.{Visit, visit_of, node_walk, items_walk, slots_walk, walk}
 use Rattle.toml_edit_laws.proofs.common.Tests.{and_left, and_right, append-nil, same_text-refl, same_text-is, or-true, false-by, true-false}
 use Rattle.toml_edit_laws.proofs.common.OrderLaws.{none-left}
-use Rattle.toml_edit_laws.proofs.common.PathLaws.{same_step-is, same_path-is, same_path-refl, is_front, front-refl, front-more, front-through, front-keys, parent-last, front-longer}
+use Rattle.toml_edit_laws.proofs.common.PathLaws.{same_step-is, same_path-is, same_path-refl, is_front, front-refl, front-more}
+use Rattle.toml_edit_laws.proofs.common.PathLaws.{front-through, front-keys, parent-last, front-longer}
 use Rattle.toml_edit_laws.proofs.common.Pairs.{AllPairs, all-across, pairs-append}
 use Rattle.toml_edit_laws.proofs.common.Each.{all-append, all-map}
 
@@ -25,7 +27,8 @@ front-elements [] (t ∷ q) i j h g =
     cc
 front-elements (s ∷ p) [] i j h g = absurd cc
 front-elements (s ∷ p) (t ∷ q) i j h g =
-    front-elements p q i j (and_right (same_step s t) (is_front (to_element p i) q) h) (and_right (same_step s t) (is_front (to_element p j) q) g)
+    front-elements p q i j (and_right (same_step s t) (is_front (to_element p i) q) h)
+    (and_right (same_step s t) (is_front (to_element p j) q) g)
 
 front-step : (p : Path) (k : Text) → is_front p (to_key p k) ≡ true
 front-step p k = front-more p (at_key k ∷ [])
@@ -79,8 +82,10 @@ mutual
   items-in (item (table f ss) xs) p ks i = (
     (i, omega arith, front-refl (to_element p i), λ e. inl refl),
     all-append (InItems p i) (slots_walk ss (to_element p i) ks) (items_walk xs p ks (suc i))
-        (all-map (InSlots (to_element p i) ss) (InItems p i) (slots_walk ss (to_element p i) ks) (in-slots-items p i ss) (slots-in ss (to_element p i) ks))
-        (all-map (InItems p (suc i)) (InItems p i) (items_walk xs p ks (suc i)) (λ v h. (h.0, omega (arith, h.1), h.2, h.3)) (items-in xs p ks (suc i))),
+        (all-map (InSlots (to_element p i) ss) (InItems p i) (slots_walk ss (to_element p i) ks) (in-slots-items p i ss)
+        (slots-in ss (to_element p i) ks))
+        (all-map (InItems p (suc i)) (InItems p i) (items_walk xs p ks (suc i)) (λ v h. (h.0, omega (arith, h.1), h.2, h.3))
+        (items-in xs p ks (suc i))),
   )
   items-in (item (tables e us) xs) p ks i = items-in xs p ks i
   items-in (item (leaf s x y) xs) p ks i = items-in xs p ks i
@@ -103,7 +108,8 @@ abbrev pub Apart : Visit → Visit → Type 0
 Apart v w = v.path ≡ w.path → ⊥
 
 -- a key that isn't among the slots
-other-keys : (p q : Path) (k l : Text) (ss : Slots) → has_key k ss ≡ false → has_key l ss ≡ true → is_front (to_key p k) q ≡ true → is_front (to_key p l) q ≡ true → ⊥
+other-keys : (p q : Path) (k l : Text) (ss : Slots) → has_key k ss ≡ false → has_key l ss ≡ true → is_front (to_key p k) q ≡ true
+    → is_front (to_key p l) q ≡ true → ⊥
 other-keys p q k l ss none has h g =
     true-false (has_key k ss) (subst (λ x. has_key x ss ≡ true) (sym (same_text-is k l (front-keys p q k l h g))) has) none
 
@@ -130,7 +136,8 @@ mutual
             (all-map (InSlots q ss) (λ w. q ≡ w.path → ⊥) below
             (λ w h e. front-longer q (at_key h.0) [] (subst (λ r. is_front (to_key q h.0) r ≡ true) (sym e) h.2.0)) (slots-in ss q ks))
             (all-map (InItems p (suc i)) (λ w. q ≡ w.path → ⊥) rest
-            (λ w h e. let same : i ≡ h.0 = front-elements p q i h.0 (front-refl q) (subst (λ r. is_front (to_element p h.0) r ≡ true) (sym e) h.2) in
+            (λ w h e. let same : i ≡ h.0 = front-elements p q i h.0 (front-refl q) (subst (λ r. is_front (to_element p h.0) r
+            ≡ true) (sym e) h.2) in
             let le : suc i ≤ h.0 = h.1 in absurd (omega arith)) (items-in xs p ks (suc i))),
         pairs-append Apart below rest (slots-apart ss q ks made.0) (items-apart xs p ks (suc i) made.1)
             (all-across (InSlots q ss) (InItems p (suc i)) Apart below rest
@@ -175,12 +182,14 @@ Counted n P [] = Unit {0}
 Counted n P (v ∷ vs) = (v.path ≡ to_element P n) × Counted (suc n) P vs
 
 none-of : (P : Path) (xs : List Visit) → AllByRecursion (λ x. is_item_of P x ≡ true → ⊥) xs → filter (is_item_of P) xs ≡ []
-none-of P xs h = none-left (is_item_of P) xs (all-map (λ x. is_item_of P x ≡ true → ⊥) (λ x. is_item_of P x ≡ false) xs (λ x f. false-by (is_item_of P x) f) h)
+none-of P xs h = none-left (is_item_of P) xs (all-map (λ x. is_item_of P x ≡ true → ⊥) (λ x. is_item_of P x
+    ≡ false) xs (λ x f. false-by (is_item_of P x) f) h)
 
 left-counted : (n : ℕ) (P : Path) (xs ys : List Visit) → filter (is_item_of P) ys ≡ [] → Counted n P (filter (is_item_of P) xs)
     → Counted n P (filter (is_item_of P) (xs ++ ys))
 left-counted n P xs ys e h =
-    subst (Counted n P) (sym (filter-append (is_item_of P) xs ys ∙ ap (λ zs. filter (is_item_of P) xs ++ zs) e ∙ append-nil (filter (is_item_of P) xs))) h
+    subst (Counted n P) (sym (filter-append (is_item_of P) xs ys ∙ ap (λ zs. filter (is_item_of P) xs ++ zs) e
+    ∙ append-nil (filter (is_item_of P) xs))) h
 
 right-counted : (n : ℕ) (P : Path) (xs ys : List Visit) → filter (is_item_of P) xs ≡ [] → Counted n P (filter (is_item_of P) ys)
     → Counted n P (filter (is_item_of P) (xs ++ ys))
@@ -203,38 +212,46 @@ start_at b i = if b then i else 0
 -- what one element and those below and after it make
 item-counted : (P p : Path) (i : ℕ) (v : Visit) (ss : Slots) (below rest : List Visit) → v.path ≡ to_element p i → v.is_element ≡ true
     → AllByRecursion (InSlots (to_element p i) ss) below → AllByRecursion (InItems p (suc i)) rest
-    → Counted 0 P (filter (is_item_of P) below) → (b : Bool) → same_path P p ≡ b → Counted (start_at b (suc i)) P (filter (is_item_of P) rest)
+    → Counted 0 P (filter (is_item_of P) below) → (b : Bool) → same_path P p ≡ b
+    → Counted (start_at b (suc i)) P (filter (is_item_of P) rest)
     → Counted (start_at b i) P (filter (is_item_of P) (v ∷ (below ++ rest)))
 item-counted P p i v ss below rest e element in_below in_rest below_counted true same rest_counted =
     let here : P ≡ p = same_path-is P p same in
-    let mine : is_item_of P v ≡ true = ap (λ b. b && same_path P (parent v.path)) element ∙ ap (same_path P) (ap parent e ∙ parent-last p (at_element i)) ∙ same in
+    let mine : is_item_of P v ≡ true = ap (λ b. b && same_path P (parent v.path)) element
+    ∙ ap (same_path P) (ap parent e ∙ parent-last p (at_element i)) ∙ same in
     rw mine (
       e ∙ ap (λ q. to_element q i) (sym here),
       right-counted (suc i) P below rest
           (none-of P below (all-map (InSlots (to_element p i) ss) (λ x. is_item_of P x ≡ true → ⊥) below
-          (λ x h g. front-longer p (at_element i) [] (subst (λ q. is_front (to_element p i) q ≡ true) here (node-front P (to_element p i) x (in-slots-node (to_element p i) ss x h) g))) in_below))
+          (λ x h g. front-longer p (at_element i) [] (subst (λ q. is_front (to_element p i) q
+          ≡ true) here (node-front P (to_element p i) x (in-slots-node (to_element p i) ss x h) g))) in_below))
           rest_counted,
     )
 item-counted P p i v ss below rest e element in_below in_rest below_counted false same rest_counted =
-    let mine : is_item_of P v ≡ false = ap (λ b. b && same_path P (parent v.path)) element ∙ ap (same_path P) (ap parent e ∙ parent-last p (at_element i)) ∙ same in
+    let mine : is_item_of P v ≡ false = ap (λ b. b && same_path P (parent v.path)) element
+    ∙ ap (same_path P) (ap parent e ∙ parent-last p (at_element i)) ∙ same in
     rw mine (elim (cases_Bool (is_front (to_element p i) P)) [
       | inl x ↦ left-counted 0 P below rest
-          (none-of P rest (all-map (InItems p (suc i)) (λ y. is_item_of P y ≡ true → ⊥) rest (λ y h g. later y h g x) in_rest)) below_counted
+          (none-of P rest (all-map (InItems p (suc i)) (λ y. is_item_of P y ≡ true → ⊥) rest (λ y h g. later y h g x) in_rest))
+          below_counted
       | inr x ↦ right-counted 0 P below rest
           (none-of P below (all-map (InSlots (to_element p i) ss) (λ y. is_item_of P y ≡ true → ⊥) below
-          (λ y h g. true-false (is_front (to_element p i) P) (node-front P (to_element p i) y (in-slots-node (to_element p i) ss y h) g) x) in_below)) rest_counted
+          (λ y h g. true-false (is_front (to_element p i) P) (node-front P (to_element p i) y (in-slots-node (to_element p i) ss y h) g) x)
+          in_below)) rest_counted
     ])
   where
     later : (y : Visit) → InItems p (suc i) y → is_item_of P y ≡ true → is_front (to_element p i) P ≡ true → ⊥
     later y h g x = elim (h.3 (item-element P y g)) [
       | inl o ↦ true-false (same_path P p)
           (subst (λ q. same_path P q ≡ true) (item-parent P y g ∙ ap parent o ∙ parent-last p (at_element h.0)) (same_path-refl P)) same
-      | inr o ↦ (let equal : i ≡ h.0 = front-elements p P i h.0 x (subst (λ q. is_front (to_element p h.0) q ≡ true) (sym (item-parent P y g)) o) in
+      | inr o ↦ (let equal : i ≡ h.0 = front-elements p P i h.0 x (subst (λ q. is_front (to_element p h.0) q
+          ≡ true) (sym (item-parent P y g)) o) in
           let le : suc i ≤ h.0 = h.1 in absurd (omega arith))
     ]
 
 mutual
-  pub node-counted : (P : Path) (n : Node) (p : Path) (ks : List Key) → IsWellMade n → Counted 0 P (filter (is_item_of P) (node_walk n p ks false))
+  pub node-counted : (P : Path) (n : Node) (p : Path) (ks : List Key) → IsWellMade n
+      → Counted 0 P (filter (is_item_of P) (node_walk n p ks false))
   node-counted P (table f ss) p ks made = slots-counted P ss p ks made
   node-counted P (tables e xs) p ks made =
       subst (λ n. Counted n P (filter (is_item_of P) (items_walk xs p ks 0))) (zero-start (same_path P p)) (items-counted P xs p ks 0 made)
@@ -252,7 +269,8 @@ mutual
   items-counted P no_items p ks i made = tt
   items-counted P (item (table f ss) xs) p ks i made =
       let q = to_element p i in
-      item-counted P p i (visit_of q ks true f ss) ss (slots_walk ss q ks) (items_walk xs p ks (suc i)) refl refl (slots-in ss q ks) (items-in xs p ks (suc i))
+      item-counted P p i (visit_of q ks true f ss) ss (slots_walk ss q ks) (items_walk xs p ks (suc i)) refl refl (slots-in ss q ks)
+      (items-in xs p ks (suc i))
       (slots-counted P ss q ks made.0) (same_path P p) refl (items-counted P xs p ks (suc i) made.1)
   items-counted P (item (tables e us) xs) p ks i made = items-counted P xs p ks i made.1
   items-counted P (item (leaf s x y) xs) p ks i made = items-counted P xs p ks i made.1
@@ -260,7 +278,8 @@ mutual
   items-counted P (item (inline f us) xs) p ks i made = items-counted P xs p ks i made.1
   items-counted P (item nothing xs) p ks i made = items-counted P xs p ks i made.1
 
-  pub slots-counted : (P : Path) (ss : Slots) (p : Path) (ks : List Key) → SlotsAreWellMade ss → Counted 0 P (filter (is_item_of P) (slots_walk ss p ks))
+  pub slots-counted : (P : Path) (ss : Slots) (p : Path) (ks : List Key) → SlotsAreWellMade ss
+      → Counted 0 P (filter (is_item_of P) (slots_walk ss p ks))
   slots-counted P no_slots p ks made = tt
   slots-counted P (slot k n ss) p ks made =
       let q = to_key p k.name in

@@ -3,10 +3,12 @@ use Rattle.std.proofs.Common.{◌≡◌, refl, ◌∙◌, ap, ℕ, suc, ◌+◌,
 use Rattle.std.specs.Prelude.{if◌then◌else◌}
 use Rattle.std.specs.List.{AllByRecursion}
 use Rattle.toml_edit_model.specs.Paths.{at_key, at_element, Path, to_key, to_element}
-use Rattle.toml_edit_model.specs.Tree.{Key, TableFields, Node, nothing, leaf, list, inline, table, tables, Items, no_items, item, Slots, no_slots, slot, Tree, IsWellMade, ItemsAreWellMade, SlotsAreWellMade}
+use Rattle.toml_edit_model.specs.Tree.{Key, TableFields, Node, nothing, leaf, list, inline, table, tables, Items, no_items, item, Slots}
+use Rattle.toml_edit_model.specs.Tree.{no_slots, slot, Tree, IsWellMade, ItemsAreWellMade, SlotsAreWellMade}
 use Rattle.toml_edit_model.specs.HeaderOrder.{Visit, visit_of, node_walk, items_walk, slots_walk, walk}
 use Rattle.toml_edit_laws.proofs.common.Members.{Among, among-left, among-right}
-use Rattle.toml_edit_laws.proofs.accepted_prints.Spots.{Spot, dotted, headed, arrayed, slots_spot, tree_spot, suits, Sees, SeesNode, SeesItems, sees-first, sees-rest, sees-here, tree-sees}
+use Rattle.toml_edit_laws.proofs.accepted_prints.Spots.{Spot, dotted, headed, arrayed, slots_spot, tree_spot, suits, Sees, SeesNode}
+use Rattle.toml_edit_laws.proofs.accepted_prints.Spots.{SeesItems, sees-first, sees-rest, sees-here, tree-sees}
 use Rattle.toml_edit_laws.proofs.common.Each.{all-append}
 use Rattle.toml_edit_model.specs.Roles.{implied_role}
 
@@ -75,10 +77,13 @@ module _ (K : Path → Spot) (W : List Visit) where
   undotted-headed : (p : Path) (f : TableFields) (ss : Slots) (d : ℕ) → SeesNode K p (table f ss) d → f.is_dotted ≡ false → K p ≡ headed
   undotted-headed p f ss d h e = sees-here K p (table f ss) d h ∙ ap (λ b. if b then dotted else headed) e
 
-  items-rest : (p : Path) (f : TableFields) (ss : Slots) (xs : Items) (i : ℕ) → SeesItems K p (item (table f ss) xs) i → SeesItems K p xs (suc i)
-  items-rest p f ss xs i h m q = ap (λ j. K (p ++ (at_element j ∷ q))) (let same : suc i + m ≡ i + suc m = omega arith in same) ∙ h (suc m) q
+  items-rest : (p : Path) (f : TableFields) (ss : Slots) (xs : Items) (i : ℕ) → SeesItems K p (item (table f ss) xs) i
+      → SeesItems K p xs (suc i)
+  items-rest p f ss xs i h m q = ap (λ j. K (p ++ (at_element j ∷ q))) (let same : suc i + m ≡ i + suc m = omega arith in same)
+      ∙ h (suc m) q
 
-  items-first : (p : Path) (f : TableFields) (ss : Slots) (xs : Items) (i : ℕ) → SeesItems K p (item (table f ss) xs) i → SeesNode K (to_element p i) (table f ss) 0
+  items-first : (p : Path) (f : TableFields) (ss : Slots) (xs : Items) (i : ℕ) → SeesItems K p (item (table f ss) xs) i
+      → SeesNode K (to_element p i) (table f ss) 0
   items-first p f ss xs i h q =
       ap K (append_assoc p (at_element i ∷ []) q)
       ∙ ap (λ m. K (p ++ (at_element m ∷ q))) (let same : i ≡ i + 0 = omega arith in same) ∙ h 0 q
@@ -102,7 +107,8 @@ module _ (K : Path → Spot) (W : List Visit) where
         )
     node-at (tables e xs) r k d made led sees within =
         let p = to_key (trail_path r) k.name in
-        items-at xs r k 0 made led (sees-here K p (tables e xs) d sees) (λ m q. ap (λ j. K (p ++ (at_element j ∷ q))) (let same : 0 + m ≡ m = omega arith in same) ∙ sees (at_element m ∷ q)) within
+        items-at xs r k 0 made led (sees-here K p (tables e xs) d sees) (λ m q. ap (λ j. K (p ++ (at_element j ∷ q))) (let same : 0 + m
+        ≡ m = omega arith in same) ∙ sees (at_element m ∷ q)) within
     node-at (leaf s x y) r k d made led sees within = tt
     node-at (list f xs) r k d made led sees within = tt
     node-at (inline f ss) r k d made led sees within = tt
@@ -131,7 +137,8 @@ module _ (K : Path → Spot) (W : List Visit) where
             sees = λ e. undotted-sees (to_element p i) f ss 0 node e;
           },
           all-append IsAt below rest
-              (slots-at ss (to_item r k i) (if f.is_dotted then 0 else 0) made.0 here (λ l q g. node (at_key l ∷ q)) (λ v a. within v (inr (among-left v below rest a))))
+              (slots-at ss (to_item r k i) (if f.is_dotted then 0
+              else 0) made.0 here (λ l q g. node (at_key l ∷ q)) (λ v a. within v (inr (among-left v below rest a))))
               (items-at xs r k (suc i) made.1 led array (items-rest p f ss xs i sees) (λ v a. within v (inr (among-right v below rest a)))),
         )
     items-at (item (tables e us) xs) r k i made led array sees within = items-at xs r k i made.1 led array sees within

@@ -44,9 +44,11 @@ module _ (form : Form) where
   GoesInside change here ns _ = Unit {0}
 
   -- the item of a key: a table, or at an element an array of tables
-  node-changed : (p : Path) (change : Slots → Option Slots) (here ns : List (Mention Source)) (j : Mention Source) (n o : Node) → own ns ≡ []
+  node-changed : (p : Path) (change : Slots → Option Slots) (here ns : List (Mention Source)) (j : Mention Source) (n o : Node) → own ns
+      ≡ []
       → GoesTo (change_at p change) here (below p ns)
-      → GoesInside change here ns p → IsNodeOf form here j n → change_below_node p change n ≡ Some o → IsNodeOf form (here ++ below p ns) j o
+      → GoesInside change here ns p → IsNodeOf form here j n → change_below_node p change n ≡ Some o
+      → IsNodeOf form (here ++ below p ns) j o
   node-changed p change here ns j (table f ss) o none goes each h e =
       let (us, is, slots) = table-changed p change here (below p ns) f ss o goes h.2 e in
       subst (IsNodeOf form (here ++ below p ns) j) (sym is)
@@ -54,7 +56,8 @@ module _ (form : Form) where
   node-changed (at_element i ∷ q) change here ns j (tables x xs) o none goes each h e =
       let (ys, changed, made) = map_some (change_item i (change_below_node q change) xs) (tables x) o e in
       let all = here ++ all_deeper (at_element i) (below q ns) in
-      let same : array_headers all ≡ array_headers here = arrays-more here (all_deeper (at_element i) (below q ns)) (own-deeper (at_element i) (below q ns)) in
+      let same : array_headers all ≡ array_headers here =
+      arrays-more here (all_deeper (at_element i) (below q ns)) (own-deeper (at_element i) (below q ns)) in
       let goes_on : ChangesTable form (change_below_node q change) (under (at_element i) here) (under (at_element i) all) =
       λ ss slots f n g.
       subst (λ ms. (us : Slots) × (n ≡ table f us) × AreAllSlots form ms us) (sym (under-more (at_element i) here (below q ns)))
@@ -89,7 +92,9 @@ module _ (form : Form) where
       → AreAllSlots form ms ss → change_under k (change_below_node p change) ss ≡ Some us
       → AreAllSlots form (ms ++ all_deeper (at_key k) (below p ns)) us
   slot-changed k p change ms ns ss us named one_header none goes h e =
-      let (n, at, f_changed) = bind_some (node_at k ss) (λ (n : Node). option_map (λ (changed : Node). with_node k changed ss) (change_below_node p change n)) us e in
+      let (n, at, f_changed) =
+      bind_some (node_at k ss) (λ (n : Node). option_map (λ (changed : Node). with_node k changed ss) (change_below_node p change n)) us
+      e in
       let (o, changed, made) = map_some (change_below_node p change n) (λ (changed : Node). with_node k changed ss) us f_changed in
       subst (AreAllSlots form all) made
       (by_first (first_of_key k (kept ms)) refl n o changed
@@ -107,12 +112,14 @@ module _ (form : Form) where
           let after : IsNodeOf form (under (at_key k) all) j o =
           subst (λ xs. IsNodeOf form xs j o) (sym (under-more (at_key k) ms (below p ns))) (goes j n o node changed) in
           let slots : AreSlotsOf form all (kept ms) (with_node k o ss) =
-          slots-change form ms all (kept ms) k j o ss (λ l apart. under-else (at_key k) (at_key l) ms (below p ns) apart) (one_slot ms named one_header) is
+          slots-change form ms all (kept ms) k j o ss (λ l apart. under-else (at_key k) (at_key l) ms (below p ns) apart)
+          (one_slot ms named one_header) is
           (subst (λ l. IsNodeOf form (under (at_key l) all) j o) key after) h in
           subst (λ ks. AreSlotsOf form all ks (with_node k o ss)) (sym (kept-more ms (at_key k) (below p ns) (own-below p ns none))) slots
 
   -- A change of the slots at a block's path, to those of more mentions there, is one of the slots above.
-  pub block_changed : (p : Path) (change : Slots → Option Slots) (ms ns : List (Mention Source)) → AreNamed ms → HaveOneHeader ms → own ns ≡ []
+  pub block_changed : (p : Path) (change : Slots → Option Slots) (ms ns : List (Mention Source)) → AreNamed ms → HaveOneHeader ms → own ns
+      ≡ []
       → GoesTo change (under_path p ms) ns → GoesTo (change_at p change) ms (below p ns)
   block_changed [] change ms ns named one_header none goes ss us h e = goes ss us h e
   block_changed (at_element i ∷ p) change ms ns named one_header none goes ss us h e = absurd cc
@@ -121,13 +128,17 @@ module _ (form : Form) where
       slot-changed k [] change ms ns ss us named one_header none (λ j n o. node-changed [] change here ns j n o none goes tt) h e
   block_changed (at_key k ∷ at_key l ∷ p) change ms ns named one_header none goes ss us h e =
       let here = under (at_key k) ms in
-      let on = block_changed (at_key l ∷ p) change here ns (under-named (at_key k) ms named) (under-header (at_key k) ms one_header) none goes in
-      slot-changed k (at_key l ∷ p) change ms ns ss us named one_header none (λ j n o. node-changed (at_key l ∷ p) change here ns j n o none on tt) h e
+      let on = block_changed (at_key l ∷ p) change here ns (under-named (at_key k) ms named) (under-header (at_key k) ms one_header) none
+      goes in
+      slot-changed k (at_key l ∷ p) change ms ns ss us named one_header none (λ j n o. node-changed (at_key l
+      ∷ p) change here ns j n o none on tt) h e
   block_changed (at_key k ∷ at_element i ∷ p) change ms ns named one_header none goes ss us h e =
       let here = under (at_key k) ms in
       let here_named = under-named (at_key k) ms named in
       let here_header = under-header (at_key k) ms one_header in
       let on = block_changed (at_element i ∷ p) change here ns here_named here_header none goes in
       let each =
-      block_changed p change (under (at_element i) here) ns (under-named (at_element i) here here_named) (under-header (at_element i) here here_header) none goes in
-      slot-changed k (at_element i ∷ p) change ms ns ss us named one_header none (λ j n o. node-changed (at_element i ∷ p) change here ns j n o none on each) h e
+      block_changed p change (under (at_element i) here) ns (under-named (at_element i) here here_named)
+      (under-header (at_element i) here here_header) none goes in
+      slot-changed k (at_element i ∷ p) change ms ns ss us named one_header none (λ j n o. node-changed (at_element i
+      ∷ p) change here ns j n o none on each) h e

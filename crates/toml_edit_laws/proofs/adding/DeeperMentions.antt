@@ -5,7 +5,8 @@ use Rattle.std.specs.List.{list_any}
 use Rattle.std.proofs.Math.Bool.{and-false}
 use Rattle.toml_edit_model.specs.Text.{Text, is_empty}
 use Rattle.toml_edit_model.specs.Syntax.{Segment, Frame, Value, key_line}
-use Rattle.toml_edit_model.specs.Paths.{Step, at_key, at_element, Path, same_step, same_path, Mention, Source, Context, line_mentions, source_of, mentions_of, path_start}
+use Rattle.toml_edit_model.specs.Paths.{Step, at_key, at_element, Path, same_step, same_path, Mention, Source, Context, line_mentions}
+use Rattle.toml_edit_model.specs.Paths.{source_of, mentions_of, path_start}
 use Rattle.toml_edit_model.specs.TreeOf.{Form, made_by_path, key_extent, fields_of}
 use Rattle.toml_edit_laws.specs.TableTree.{own_mentions}
 use Rattle.toml_edit_laws.proofs.common.Tests.{append-nil, or-false}
@@ -62,12 +63,14 @@ none-single {S} test s p (n ∷ ns) h e =
     longer (at_key k ∷ t ∷ p) q e f = absurd cc
     longer (at_element i ∷ t ∷ p) q e f = absurd cc
 
-slot-same : {S : Type 0} (before : List (Mention S)) (m : Mention S) (after : List (Mention S)) (s : Step) (ns : List (Mention S)) → own ns ≡ []
+slot-same : {S : Type 0} (before : List (Mention S)) (m : Mention S) (after : List (Mention S)) (s : Step) (ns : List (Mention S)) → own ns
+    ≡ []
     → is_slot before m (after ++ all_deeper s ns) ≡ is_slot before m after
 slot-same {S} before m after s ns h = by_single (is_single m.path) refl
   where
     by_single : (b : Bool) → is_single m.path ≡ b
-        → (b && (is_header_role m.role || (not (some_at any_role m.path before) && not (some_at is_header_role m.path (after ++ all_deeper s ns)))))
+        → (b && (is_header_role m.role || (not (some_at any_role m.path before)
+        && not (some_at is_header_role m.path (after ++ all_deeper s ns)))))
         ≡ (b && (is_header_role m.role || (not (some_at any_role m.path before) && not (some_at is_header_role m.path after))))
     by_single false e = refl
     by_single true e =
@@ -80,12 +83,14 @@ kept_from-more : {S : Type 0} (before ms : List (Mention S)) (s : Step) (ns : Li
     → kept_from before (ms ++ all_deeper s ns) ≡ kept_from before ms
 kept_from-more before [] s ns h = kept_from-deeper before s ns h
 kept_from-more before (m ∷ ms) s ns h =
-    ap (λ b. if b then m ∷ kept_from (before ++ (m ∷ [])) (ms ++ all_deeper s ns) else kept_from (before ++ (m ∷ [])) (ms ++ all_deeper s ns))
+    ap (λ b. if b then m ∷ kept_from (before ++ (m ∷ [])) (ms ++ all_deeper s ns)
+    else kept_from (before ++ (m ∷ [])) (ms ++ all_deeper s ns))
     (slot-same before m ms s ns h)
     ∙ ap (λ us. if is_slot before m ms then m ∷ us else us) (kept_from-more (before ++ (m ∷ [])) ms s ns h)
 
 -- Deeper mentions, headers too, change no slot.
-pub kept-more : {S : Type 0} (ms : List (Mention S)) (s : Step) (ns : List (Mention S)) → own ns ≡ [] → kept (ms ++ all_deeper s ns) ≡ kept ms
+pub kept-more : {S : Type 0} (ms : List (Mention S)) (s : Step) (ns : List (Mention S)) → own ns ≡ [] → kept (ms ++ all_deeper s ns)
+    ≡ kept ms
 kept-more ms s ns h = kept_from-more [] ms s ns h
 
 -- ---- they change no fields of the table above
@@ -100,6 +105,7 @@ roles-more {S} ms ns h = ap (λ us. map (λ (m : Mention S). m.role) us) (own-mo
 pub arrays-more : {S : Type 0} (ms ns : List (Mention S)) → own ns ≡ [] → array_headers (ms ++ ns) ≡ array_headers ms
 arrays-more {S} ms ns h = ap (λ us. filter (λ (m : Mention S). is_array_role m.role) us) (own-more ms ns h)
 
-pub fields-more : (form : Form) (ms ns : List (Mention Source)) (m : Mention Source) (r : Role) → own ns ≡ [] → fields_of form (ms ++ ns) m r ≡ fields_of form ms m r
+pub fields-more : (form : Form) (ms ns : List (Mention Source)) (m : Mention Source) (r : Role) → own ns ≡ []
+    → fields_of form (ms ++ ns) m r ≡ fields_of form ms m r
 fields-more form ms ns m header_role h = refl
 fields-more form ms ns m r h = ap (λ rs. made_by_path form (list_any is_dotted_role rs) (key_extent form m)) (roles-more ms ns h)

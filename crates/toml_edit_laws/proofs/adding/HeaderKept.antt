@@ -3,7 +3,8 @@ use Rattle.std.proofs.Common.{◌≡◌, refl, sym, ◌∙◌, ap, subst, Bool, 
 use Rattle.std.specs.Prelude.{◌&&◌, ◌||◌, not, if◌then◌else◌, filter, find}
 use Rattle.toml_edit_model.specs.Text.{Text, same_text}
 use Rattle.toml_edit_model.specs.Paths.{at_key, at_element, Path, same_path, Mention}
-use Rattle.toml_edit_laws.proofs.common.Tests.{and_left, and-true, or-false, or-true, or-left, or-right, same_text-refl, same_text-swap, append-nil}
+use Rattle.toml_edit_laws.proofs.common.Tests.{and_left, and-true, or-false, or-true, or-left, or-right, same_text-refl, same_text-swap}
+use Rattle.toml_edit_laws.proofs.common.Tests.{append-nil}
 use Rattle.toml_edit_laws.proofs.mentions.GatherLaws.{is_of_key, first_of_key, first_at}
 use Rattle.toml_edit_laws.proofs.common.PathLaws.{same_path-is}
 use Rattle.toml_edit_laws.proofs.mentions.SomeAt.{some_at-append}
@@ -39,9 +40,11 @@ kept_from-after : {S : Type 0} (before xs ys : List (Mention S)) → HaveNoHeads
     → kept_from before (xs ++ ys) ≡ kept_from before xs ++ kept_from (before ++ xs) ys
 kept_from-after before [] ys h = ap (λ ms. kept_from ms ys) (sym (append-nil before))
 kept_from-after before (m ∷ xs) ys h =
-    ap (λ b. if b then m ∷ kept_from (before ++ (m ∷ [])) (xs ++ ys) else kept_from (before ++ (m ∷ [])) (xs ++ ys)) (slot-later before m xs ys h)
+    ap (λ b. if b then m ∷ kept_from (before ++ (m ∷ [])) (xs ++ ys)
+    else kept_from (before ++ (m ∷ [])) (xs ++ ys)) (slot-later before m xs ys h)
     ∙ ap (λ ms. if is_slot before m xs then m ∷ ms else ms)
-    (kept_from-after (before ++ (m ∷ [])) xs ys h ∙ ap (λ ms. kept_from (before ++ (m ∷ [])) xs ++ kept_from ms ys) (append_assoc before (m ∷ []) xs))
+    (kept_from-after (before ++ (m ∷ [])) xs ys h ∙ ap (λ ms. kept_from (before ++ (m ∷ [])) xs
+    ++ kept_from ms ys) (append_assoc before (m ∷ []) xs))
     ∙ by_test (is_slot before m xs)
   where
     by_test : (b : Bool)
@@ -83,7 +86,8 @@ others-none k (m ∷ ms) h = by_test (is_of_key k m) h (others-none k ms)
     by_test false h ih = ap (λ ys. m ∷ ys) (ih h)
 
 -- a header at another key takes no slot away
-slot-elsewhere : {S : Type 0} (before : List (Mention S)) (x : Mention S) (xs : List (Mention S)) (m : Mention S) (k : Text) → m.path ≡ at_key k ∷ []
+slot-elsewhere : {S : Type 0} (before : List (Mention S)) (x : Mention S) (xs : List (Mention S)) (m : Mention S) (k : Text) → m.path
+    ≡ at_key k ∷ []
     → same_path x.path (at_key k ∷ []) ≡ false → is_slot before x (xs ++ (m ∷ [])) ≡ is_slot before x xs
 slot-elsewhere before x xs m k at e = by_path x.path e
   where
@@ -95,17 +99,20 @@ slot-elsewhere before x xs m k at e = by_path x.path e
         ap (λ b. is_header_role x.role || (not (some_at any_role (at_key l ∷ []) before) && not b))
         (some_at-append is_header_role (at_key l ∷ []) xs (m ∷ [])
         ∙ ap (λ p. some_at is_header_role (at_key l ∷ []) xs || ((same_path p (at_key l ∷ []) && is_header_role m.role) || false)) at
-        ∙ ap (λ b. some_at is_header_role (at_key l ∷ []) xs || (((b && true) && is_header_role m.role) || false)) (same_text-swap k l ∙ sym (and-true (same_text l k)) ∙ e)
+        ∙ ap (λ b. some_at is_header_role (at_key l ∷ []) xs || (((b && true) && is_header_role m.role) || false)) (same_text-swap k l
+        ∙ sym (and-true (same_text l k)) ∙ e)
         ∙ or-false (some_at is_header_role (at_key l ∷ []) xs))
     by_path (at_key l ∷ t ∷ p) e = refl
     by_path (at_element n ∷ []) e = refl
     by_path (at_element n ∷ t ∷ p) e = refl
 
 -- a header at this key takes the slot of a mention before it
-slot-headed : {S : Type 0} (before : List (Mention S)) (x : Mention S) (xs : List (Mention S)) (m : Mention S) (k : Text) → m.path ≡ at_key k ∷ []
+slot-headed : {S : Type 0} (before : List (Mention S)) (x : Mention S) (xs : List (Mention S)) (m : Mention S) (k : Text) → m.path
+    ≡ at_key k ∷ []
     → is_header_role m.role ≡ true → x.path ≡ at_key k ∷ [] → is_header_role x.role ≡ false → is_slot before x (xs ++ (m ∷ [])) ≡ false
 slot-headed before x xs m k at heads here plain =
-    ap (λ p. is_single p && (is_header_role x.role || (not (some_at any_role p before) && not (some_at is_header_role p (xs ++ (m ∷ [])))))) here
+    ap (λ p. is_single p && (is_header_role x.role || (not (some_at any_role p before) && not (some_at is_header_role p (xs ++ (m ∷ []))))))
+    here
     ∙ ap (λ b. b || (not (some_at any_role (at_key k ∷ []) before) && not (some_at is_header_role (at_key k ∷ []) (xs ++ (m ∷ []))))) plain
     ∙ ap (λ b. not (some_at any_role (at_key k ∷ []) before) && not b)
     (some_at-append is_header_role (at_key k ∷ []) xs (m ∷ [])
@@ -119,14 +126,16 @@ slot-headed before x xs m k at heads here plain =
     by_test true = refl
     by_test false = refl
 
-kept_from-headed : {S : Type 0} (before xs : List (Mention S)) (m : Mention S) (k : Text) → m.path ≡ at_key k ∷ [] → is_header_role m.role ≡ true → AreNamed xs
+kept_from-headed : {S : Type 0} (before xs : List (Mention S)) (m : Mention S) (k : Text) → m.path ≡ at_key k ∷ [] → is_header_role m.role
+    ≡ true → AreNamed xs
     → some_at is_header_role (at_key k ∷ []) xs ≡ false → kept_from before (xs ++ (m ∷ [])) ≡ others k (kept_from before xs) ++ (m ∷ [])
 kept_from-headed before [] m k at heads n none =
     ap (λ p. if is_single p && (is_header_role m.role || (not (some_at any_role p before) && true)) then m ∷ [] else []) at
     ∙ ap (λ b. if b || (not (some_at any_role (at_key k ∷ []) before) && true) then m ∷ [] else []) heads
 kept_from-headed {S} before (x ∷ xs) m k at heads n none =
     by_here (same_path x.path (at_key k ∷ [])) refl
-    (kept_from-headed (before ++ (x ∷ [])) xs m k at heads n.1 (or-right (same_path x.path (at_key k ∷ []) && is_header_role x.role) (some_at is_header_role (at_key k ∷ []) xs) none))
+    (kept_from-headed (before ++ (x ∷ [])) xs m k at heads n.1 (or-right (same_path x.path (at_key k ∷ [])
+    && is_header_role x.role) (some_at is_header_role (at_key k ∷ []) xs) none))
   where
     later : List (Mention S)
     later = kept_from (before ++ (x ∷ [])) xs
@@ -144,21 +153,26 @@ kept_from-headed {S} before (x ∷ xs) m k at heads n none =
     left false e = refl
 
     by_here : (b : Bool) → same_path x.path (at_key k ∷ []) ≡ b → after ≡ others k later ++ (m ∷ [])
-        → (if is_slot before x (xs ++ (m ∷ [])) then x ∷ after else after) ≡ others k (if is_slot before x xs then x ∷ later else later) ++ (m ∷ [])
+        → (if is_slot before x (xs ++ (m ∷ [])) then x ∷ after else after) ≡ others k (if is_slot before x xs then x ∷ later else later)
+        ++ (m ∷ [])
     by_here true e ih =
         let here = same_path-is x.path (at_key k ∷ []) e in
         let plain : is_header_role x.role ≡ false =
-        ap (λ b. b && is_header_role x.role) (sym e) ∙ or-left (same_path x.path (at_key k ∷ []) && is_header_role x.role) (some_at is_header_role (at_key k ∷ []) xs) none in
+        ap (λ b. b && is_header_role x.role) (sym e) ∙ or-left (same_path x.path (at_key k ∷ [])
+        && is_header_role x.role) (some_at is_header_role (at_key k ∷ []) xs) none in
         ap (λ b. if b then x ∷ after else after) (slot-headed before x xs m k at heads here plain)
-        ∙ ih ∙ ap (λ ys. ys ++ (m ∷ [])) (taken (is_slot before x xs) (subst (λ y. same_text k y ≡ true) (named-at x.path x.segment.key k n.0 here) (same_text-refl k)))
+        ∙ ih ∙ ap (λ ys. ys ++ (m ∷ [])) (taken (is_slot before x xs) (subst (λ y. same_text k y
+        ≡ true) (named-at x.path x.segment.key k n.0 here) (same_text-refl k)))
     by_here false e ih =
         ap (λ b. if b then x ∷ after else after) (slot-elsewhere before x xs m k at e)
         ∙ ap (λ ys. if is_slot before x xs then x ∷ ys else ys) ih
         ∙ left (is_slot before x xs) (λ s.
         other-key x.path x.segment.key k n.0
-        (and_left (is_single x.path) (is_header_role x.role || (not (some_at any_role x.path before) && not (some_at is_header_role x.path xs))) s) e)
+        (and_left (is_single x.path) (is_header_role x.role
+        || (not (some_at any_role x.path before) && not (some_at is_header_role x.path xs))) s) e)
 
 -- A plain header takes the slot of its key, and stands last.
-pub kept-headed : {S : Type 0} (xs : List (Mention S)) (m : Mention S) (k : Text) → m.path ≡ at_key k ∷ [] → is_header_role m.role ≡ true → AreNamed xs
+pub kept-headed : {S : Type 0} (xs : List (Mention S)) (m : Mention S) (k : Text) → m.path ≡ at_key k ∷ [] → is_header_role m.role ≡ true
+    → AreNamed xs
     → some_at is_header_role (at_key k ∷ []) xs ≡ false → kept (xs ++ (m ∷ [])) ≡ others k (kept xs) ++ (m ∷ [])
 kept-headed xs m k at heads n none = kept_from-headed [] xs m k at heads n none

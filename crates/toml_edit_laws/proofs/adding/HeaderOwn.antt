@@ -1,5 +1,6 @@
 -- One mention more of a table itself: its slots are as they were, and a header may still come after it.
-use Rattle.std.proofs.Common.{◌≡◌, ◌≤◌, refl, sym, ◌∙◌, ap, subst, ℕ, ◌+◌, arith, Bool, true, false, List, [], ◌∷◌, ◌++◌, length, length-append, Some, inl}
+use Rattle.std.proofs.Common.{◌≡◌, ◌≤◌, refl, sym, ◌∙◌, ap, subst, ℕ, ◌+◌, arith, Bool, true, false, List, [], ◌∷◌, ◌++◌, length}
+use Rattle.std.proofs.Common.{length-append, Some, inl}
 use Rattle.std.specs.Prelude.{◌&&◌, ◌||◌, if◌then◌else◌, filter, map}
 use Rattle.std.specs.List.{list_any}
 use Rattle.std.proofs.lemmas.Bool.{or_from}
@@ -51,11 +52,14 @@ pub header-last : {S : Type 0} (ms : List (Mention S)) (o : Mention S) → HaveO
     → (is_header_role o.role ≡ true → some_at is_header_role o.path ms ≡ false) → HaveOneHeader (ms ++ (o ∷ []))
 header-last [] o h none = (λ is. refl, tt)
 header-last {S} (m ∷ ms) o h none = (
-  λ is. some_at-append is_header_role m.path ms (o ∷ []) ∙ or_from (some_at is_header_role m.path ms) (some_at is_header_role m.path (o ∷ [])) (h.0 is) (by_tests (same_path o.path m.path) (is_header_role o.role) refl refl is),
+  λ is. some_at-append is_header_role m.path ms (o ∷ [])
+      ∙ or_from (some_at is_header_role m.path ms) (some_at is_header_role m.path (o ∷ [])) (h.0 is)
+      (by_tests (same_path o.path m.path) (is_header_role o.role) refl refl is),
   header-last ms o h.1 (λ is. or-right (same_path m.path o.path && is_header_role m.role) (some_at is_header_role o.path ms) (none is)),
 )
   where
-    by_tests : (a b : Bool) → same_path o.path m.path ≡ a → is_header_role o.role ≡ b → is_header_role m.role ≡ true → ((a && b) || false) ≡ false
+    by_tests : (a b : Bool) → same_path o.path m.path ≡ a → is_header_role o.role ≡ b → is_header_role m.role ≡ true → ((a && b) || false)
+        ≡ false
     by_tests false b e g is = refl
     by_tests true false e g is = refl
     by_tests true true e g is =
@@ -70,7 +74,8 @@ module _ (mode : Mode) where
   -- ---- the table's own mention
 
   -- it gets no slot
-  pub own-slots : (source : Source) (start : ℕ) (role : Role) (g : Segment) (us : List (Mention Source)) (ss : Slots) → AreAllSlots mode us ss
+  pub own-slots : (source : Source) (start : ℕ) (role : Role) (g : Segment) (us : List (Mention Source)) (ss : Slots)
+      → AreAllSlots mode us ss
       → AreAllSlots mode (us ++ (own_mention source start role g ∷ [])) ss
   own-slots source start role g us ss h =
       let o = own_mention source start role g in
@@ -80,7 +85,8 @@ module _ (mode : Mode) where
 
 -- The conditions hold with it, where it has one element more if it is of a header in double brackets.
 pub paths-own : (source : Source) (start : ℕ) (role : Role) (g : Segment) (paths after : List Path) (us : List (Mention Source))
-    → ((s : Step) → paths_under s paths ≡ paths_under s after) → elements_at after [] ≡ length (array_headers (us ++ (own_mention source start role g ∷ [])))
+    → ((s : Step) → paths_under s paths ≡ paths_under s after) → elements_at after []
+    ≡ length (array_headers (us ++ (own_mention source start role g ∷ [])))
     → AreArrayed (roles us ++ (role ∷ [])) → ArePassed (roles us ++ (role ∷ [])) → AreReadyPaths paths us
     → AreReadyPaths after (us ++ (own_mention source start role g ∷ []))
 paths-own source start role g paths after us below count arrayed passed h = at_path
@@ -109,10 +115,12 @@ paths-own source start role g paths after us below count arrayed passed h = at_p
         (subst (λ xs. IsReadyAt (paths_from p (paths_under s paths)) (under_path p xs)) (same s) (h (s ∷ p)))
 
 -- roles that head nothing and add no element
-pub arrayed-passed : (rs more : List Role) → list_any is_header_role more ≡ false → list_any is_array_role more ≡ false → AreArrayed rs → AreArrayed (rs ++ more)
+pub arrayed-passed : (rs more : List Role) → list_any is_header_role more ≡ false → list_any is_array_role more ≡ false → AreArrayed rs
+    → AreArrayed (rs ++ more)
 arrayed-passed rs more no_header no_array h e =
     let before : list_any is_array_role rs ≡ true =
-    sym (list_any-append is_array_role rs more ∙ ap (λ b. list_any is_array_role rs || b) no_array ∙ or-false (list_any is_array_role rs)) ∙ e in
+    sym (list_any-append is_array_role rs more ∙ ap (λ b. list_any is_array_role rs || b) no_array ∙ or-false (list_any is_array_role rs))
+    ∙ e in
     let was = h before in (
       first-more rs more array_role was.0,
       list_any-append is_header_role rs more ∙ or_from (list_any is_header_role rs) (list_any is_header_role more) was.1 no_header,
@@ -121,16 +129,19 @@ arrayed-passed rs more no_header no_array h e =
 pub passed-more : (rs more : List Role) → list_any is_through_role more ≡ false → ArePassed rs → ArePassed (rs ++ more)
 passed-more rs more none h e =
     let before : list_any is_through_role rs ≡ true =
-    sym (list_any-append is_through_role rs more ∙ ap (λ b. list_any is_through_role rs || b) none ∙ or-false (list_any is_through_role rs)) ∙ e in
+    sym (list_any-append is_through_role rs more ∙ ap (λ b. list_any is_through_role rs || b) none ∙ or-false (list_any is_through_role rs))
+    ∙ e in
     list_any-append is_array_role rs more ∙ ap (λ b. b || list_any is_array_role more) (h before)
 
 -- no header in double brackets more
 pub count-passed : (source : Source) (start : ℕ) (role : Role) (g : Segment) (paths : List Path) (us : List (Mention Source))
-    → is_array_role role ≡ false → AreReadyPaths paths us → elements_at paths [] ≡ length (array_headers (us ++ (own_mention source start role g ∷ [])))
+    → is_array_role role ≡ false → AreReadyPaths paths us → elements_at paths []
+    ≡ length (array_headers (us ++ (own_mention source start role g ∷ [])))
 count-passed source start role g paths us no_array h =
     let o = own_mention source start role g in
     (h []).counted
-    ∙ ap length (sym (arrays-append us (o ∷ []) ∙ ap (λ b. array_headers us ++ (if b then o ∷ [] else [])) no_array ∙ append-nil (array_headers us)))
+    ∙ ap length (sym (arrays-append us (o ∷ []) ∙ ap (λ b. array_headers us ++ (if b then o ∷ [] else [])) no_array
+    ∙ append-nil (array_headers us)))
 
 pub ready-implied : (source : Source) (start : ℕ) (g : Segment) (paths : List Path) (us : List (Mention Source)) → AreReady paths us
     → AreReady paths (us ++ (own_mention source start implied_role g ∷ []))

@@ -4,7 +4,8 @@ use Rattle.std.specs.Prelude.{if◌then◌else◌}
 use Rattle.std.proofs.lemmas.Bool.{cases_Bool}
 use Rattle.toml_edit_model.specs.Mode.{Mode}
 use Rattle.toml_edit_model.specs.Syntax.{Segment}
-use Rattle.toml_edit_model.specs.Paths.{Step, at_key, at_element, Path, same_step, same_path, to_key, Mention, Source, mention_of, next_start, elements_at, in_last, passing_role, header_mentions, header_path}
+use Rattle.toml_edit_model.specs.Paths.{Step, at_key, at_element, Path, same_step, same_path, to_key, Mention, Source, mention_of}
+use Rattle.toml_edit_model.specs.Paths.{next_start, elements_at, in_last, passing_role, header_mentions, header_path}
 use Rattle.toml_edit_model.specs.Tree.{Slots}
 use Rattle.toml_edit_laws.specs.TableTree.{pass_below, add_header}
 use Rattle.toml_edit_laws.specs.InlineTree.{node_at}
@@ -45,12 +46,14 @@ elements-under s p (q ∷ paths) = by_path q (elements-under s p paths)
 -- ---- a header's mentions from one step on
 
 pub header-deeper : {S : Type 0} (source : S) (paths : List Path) (role : Role) (start : ℕ) (s : Step) (p : Path) (segments : List Segment)
-    → header_mentions source paths role start (s ∷ p) segments ≡ all_deeper s (header_mentions source (paths_under s paths) role start p segments)
+    → header_mentions source paths role start (s ∷ p) segments
+    ≡ all_deeper s (header_mentions source (paths_under s paths) role start p segments)
 header-deeper source paths role start s p [] = refl
 header-deeper source paths role start s p (g ∷ []) = refl
 header-deeper {S} source paths role start s p (g ∷ h ∷ rest) =
     ap from_count (sym (elements-under s (to_key p g.key) paths))
-    ∙ by_count (elements_at (paths_under s paths) (to_key p g.key)) (λ q. header-deeper source paths role (next_start start g) s q (h ∷ rest))
+    ∙ by_count (elements_at (paths_under s paths) (to_key p g.key)) (λ q. header-deeper source paths role (next_start start g) s q (h
+    ∷ rest))
   where
     from_count : ℕ → List (Mention S)
     from_count n =
@@ -68,7 +71,8 @@ header-deeper {S} source paths role start s p (g ∷ h ∷ rest) =
         ap (λ ms. mention_of source start (s ∷ to_key p g.key) (passing_role (suc n)) g ∷ ms) (ih (in_last (suc n) (to_key p g.key)))
 
 -- nor does its path differ
-pub path-deeper : (paths : List Path) (s : Step) (p : Path) (segments : List Segment) → header_path paths (s ∷ p) segments ≡ s ∷ header_path (paths_under s paths) p segments
+pub path-deeper : (paths : List Path) (s : Step) (p : Path) (segments : List Segment) → header_path paths (s ∷ p) segments ≡ s
+    ∷ header_path (paths_under s paths) p segments
 path-deeper paths s p [] = refl
 path-deeper paths s p (g ∷ []) = refl
 path-deeper paths s p (g ∷ h ∷ rest) =
@@ -96,7 +100,8 @@ own-header {S} source paths role start (g ∷ h ∷ rest) = by_count (elements_a
         ∙ own-deeper (at_key g.key) (header_mentions source (paths_under (at_key g.key) paths) role (next_start start g) [] (h ∷ rest))
     by_count (suc n) =
         ap own (header-deeper source paths role (next_start start g) (at_key g.key) (at_element n ∷ []) (h ∷ rest))
-        ∙ own-deeper (at_key g.key) (header_mentions source (paths_under (at_key g.key) paths) role (next_start start g) (at_element n ∷ []) (h ∷ rest))
+        ∙ own-deeper (at_key g.key) (header_mentions source (paths_under (at_key g.key) paths) role (next_start start g) (at_element n
+        ∷ []) (h ∷ rest))
 
 -- ---- a header is added by its keys and not by its path
 
@@ -104,9 +109,11 @@ same_functions : {A B : Type 0} (f g : A → B) → ((x : A) → f x ≡ g x) �
 same_functions f g h = λ i. λ x. h x i
 
 module _ (mode : Mode) where
-  pub add-deeper : (is_array : Bool) (s : Step) (ms : List (Mention Source)) → add_header mode is_array (all_deeper s ms) ≡ add_header mode is_array ms
+  pub add-deeper : (is_array : Bool) (s : Step) (ms : List (Mention Source)) → add_header mode is_array (all_deeper s ms)
+      ≡ add_header mode is_array ms
   add-deeper is_array s [] = refl
   add-deeper is_array s (m ∷ []) = refl
   add-deeper is_array s (m ∷ r ∷ rest) =
       same_functions (add_header mode is_array (all_deeper s (m ∷ r ∷ rest))) (add_header mode is_array (m ∷ r ∷ rest))
-      (λ ss. ap (λ (change : Slots → Option Slots). pass_below mode m change ss (node_at m.segment.key ss)) (add-deeper is_array s (r ∷ rest)))
+      (λ ss. ap (λ (change : Slots → Option Slots). pass_below mode m change ss (node_at m.segment.key ss)) (add-deeper is_array s (r
+      ∷ rest)))

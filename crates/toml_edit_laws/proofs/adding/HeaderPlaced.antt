@@ -3,7 +3,8 @@ use Rattle.std.proofs.Common.{◌≡◌, refl, ◌+◌, true, List, [], ◌∷�
 use Rattle.toml_edit_model.specs.Mode.{Mode}
 use Rattle.toml_edit_model.specs.Text.{Text}
 use Rattle.toml_edit_model.specs.Syntax.{Statement, key_line, header, Header, Document}
-use Rattle.toml_edit_model.specs.Paths.{Path, Mention, Source, Context, line_mentions, header_mentions, header_role_of, path_start, start_context, source_of, mentions_of, context_after}
+use Rattle.toml_edit_model.specs.Paths.{Path, Mention, Source, Context, line_mentions, header_mentions, header_role_of, path_start}
+use Rattle.toml_edit_model.specs.Paths.{start_context, source_of, mentions_of, context_after}
 use Rattle.toml_edit_model.specs.Accepted.{agree}
 use Rattle.toml_edit_model.specs.Tree.{Node, Slots}
 use Rattle.toml_edit_model.specs.TreeOf.{spanned_in, AreSlotsOf}
@@ -37,7 +38,8 @@ pub ready_first : (d : Document) → IsReadyIn (start_context d) []
 ready_first d = record { ready = record { named = tt; headed = tt; sourced = tt; at = none-at }; block = tt }
 
 -- after each statement that agrees
-pub ready_next : (c : Context) (s : Statement) (ms : List (Mention Source)) → HasKey s → IsReadyIn c ms → agree may_meet ms (mentions_of c s) ≡ true
+pub ready_next : (c : Context) (s : Statement) (ms : List (Mention Source)) → HasKey s → IsReadyIn c ms
+    → agree may_meet ms (mentions_of c s) ≡ true
     → IsReadyIn (context_after c s) (ms ++ mentions_of c s)
 ready_next c (key_line f v end) ms keyed h e =
     let source = source_of c (key_line f v end) in

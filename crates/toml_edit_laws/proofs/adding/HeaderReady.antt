@@ -1,5 +1,6 @@
 -- What the statements before a header have to be like, as each table below the root sees them.
-use Rattle.std.proofs.Common.{◌≡◌, ◌≤◌, refl, sym, ◌∙◌, ap, subst, ℕ, Bool, true, false, List, [], ◌∷◌, ◌++◌, length, inl, inr, Option, Some, None}
+use Rattle.std.proofs.Common.{◌≡◌, ◌≤◌, refl, sym, ◌∙◌, ap, subst, ℕ, Bool, true, false, List, [], ◌∷◌, ◌++◌, length, inl, inr, Option}
+use Rattle.std.proofs.Common.{Some, None}
 use Rattle.std.specs.Prelude.{◌⊎◌, ◌&&◌, ◌||◌, if◌then◌else◌, filter, map, find, is_some, option_map}
 use Rattle.std.specs.List.{AllByRecursion, list_any}
 use Rattle.toml_edit_model.specs.Mode.{Mode}
@@ -59,7 +60,8 @@ pub record AreReady (paths : List Path) (ms : List (Mention Source)) : Type 0 wh
 
 -- ---- one step down
 
-pub all-under : {S : Type 0} (P : Mention S → Type 0) → ((m : Mention S) (t : Step) (p : Path) → m.path ≡ t ∷ p → P m → P (record m { path = p }))
+pub all-under : {S : Type 0} (P : Mention S → Type 0)
+    → ((m : Mention S) (t : Step) (p : Path) → m.path ≡ t ∷ p → P m → P (record m { path = p }))
     → (s : Step) (ms : List (Mention S)) → AllByRecursion P ms → AllByRecursion P (under s ms)
 all-under P f s [] h = tt
 all-under {S} P f s (m ∷ ms) h = by_path m.path refl (all-under P f s ms h.1)
@@ -72,7 +74,8 @@ all-under {S} P f s (m ∷ ms) h = by_path m.path refl (all-under P f s ms h.1)
         by_step true = (f m t p e h.0, ih)
         by_step false = ih
 
-pub ready-under : (s : Step) (paths : List Path) (ms : List (Mention Source)) → AreReady paths ms → AreReady (paths_under s paths) (under s ms)
+pub ready-under : (s : Step) (paths : List Path) (ms : List (Mention Source)) → AreReady paths ms
+    → AreReady (paths_under s paths) (under s ms)
 ready-under s paths ms h =
     record {
       named = under-named s ms h.named;
@@ -88,16 +91,19 @@ some_at-own test [] = refl
 some_at-own test (m ∷ us) = by_path m.path (some_at-own test us)
   where
     by_path : (p : Path) → some_at test [] us ≡ list_any test (roles us)
-        → ((same_path p [] && test m.role) || some_at test [] us) ≡ list_any test (map (λ k. k.role) (if is_empty p then m ∷ own us else own us))
+        → ((same_path p [] && test m.role) || some_at test [] us)
+        ≡ list_any test (map (λ k. k.role) (if is_empty p then m ∷ own us else own us))
     by_path [] ih = ap (λ b. test m.role || b) ih
     by_path (s ∷ p) ih = ih
 
-pub first-role : {S : Type 0} (s : Step) (ms : List (Mention S)) → option_map (λ m. m.role) (first_at (s ∷ []) ms) ≡ first_of_list (roles (under s ms))
+pub first-role : {S : Type 0} (s : Step) (ms : List (Mention S)) → option_map (λ m. m.role) (first_at (s ∷ []) ms)
+    ≡ first_of_list (roles (under s ms))
 first-role s [] = refl
 first-role {S} s (m ∷ ms) = by_path m.path (first-role s ms)
   where
     by_path : (p : Path) → option_map (λ (k : Mention S). k.role) (first_at (s ∷ []) ms) ≡ first_of_list (roles (under s ms))
-        → option_map (λ (k : Mention S). k.role) (if same_path p (s ∷ []) then Some m else first_at (s ∷ []) ms) ≡ first_of_list (roles (inside s m p ++ under s ms))
+        → option_map (λ (k : Mention S). k.role) (if same_path p (s ∷ []) then Some m else first_at (s ∷ []) ms)
+        ≡ first_of_list (roles (inside s m p ++ under s ms))
     by_path [] ih = ih
     by_path (t ∷ []) ih = by_step (same_step t s)
       where
@@ -118,7 +124,8 @@ no-roles : {S : Type 0} (xs : List (Mention S)) → first_of_list (map (λ m. m.
 no-roles [] h = refl
 no-roles (m ∷ xs) h = absurd cc
 
-pub no-arrays : {S : Type 0} (xs : List (Mention S)) → list_any is_array_role (map (λ m. m.role) xs) ≡ false → filter (λ m. is_array_role m.role) xs ≡ []
+pub no-arrays : {S : Type 0} (xs : List (Mention S)) → list_any is_array_role (map (λ m. m.role) xs) ≡ false
+    → filter (λ m. is_array_role m.role) xs ≡ []
 no-arrays [] h = refl
 no-arrays (m ∷ xs) h = by_test (is_array_role m.role) h (no-arrays xs)
   where
@@ -132,8 +139,12 @@ some-array : {S : Type 0} (xs : List (Mention S)) → first_of_list (map (λ m. 
     → (a : Mention S) × (more : List (Mention S)) × (filter (λ m. is_array_role m.role) xs ≡ a ∷ more)
 some-array [] h = absurd cc
 some-array (m ∷ xs) h =
-    let role : m.role ≡ array_role = cc in
-    (m, filter (λ k. is_array_role k.role) xs, ap (λ r. if is_array_role r then m ∷ filter (λ k. is_array_role k.role) xs else filter (λ k. is_array_role k.role) xs) role)
+    let role : m.role ≡ array_role = cc in (
+      m,
+      filter (λ k. is_array_role k.role) xs,
+      ap (λ r. if is_array_role r then m ∷ filter (λ k. is_array_role k.role) xs
+          else filter (λ k. is_array_role k.role) xs) role,
+    )
 
 -- ---- what the slot of a key says of what is mentioned there
 
@@ -156,7 +167,8 @@ key-unmentioned k ms n h =
       no-roles (own (under (at_key k) ms)) (sym (first-role (at_key k) ms) ∙ ap (option_map (λ (m : Mention Source). m.role)) both.1),
     )
 
-pub key-empty : (paths : List Path) (k : Text) (ms : List (Mention Source)) → AreReady paths ms → first_of_key k (kept ms) ≡ None → under (at_key k) ms ≡ []
+pub key-empty : (paths : List Path) (k : Text) (ms : List (Mention Source)) → AreReady paths ms → first_of_key k (kept ms) ≡ None
+    → under (at_key k) ms ≡ []
 key-empty paths k ms h new = (h.at []).keyed k (key-unmentioned k ms h.named new).2
 
 -- one with a slot is
@@ -169,7 +181,8 @@ is_some-first {S} p (m ∷ ms) = by_tests (same_path m.path p) (is_header_role m
     either (Some x) = refl
 
     by_tests : (a b : Bool) → is_some (leader_at p ms) ≡ some_at any_role p ms
-        → is_some (option_or (if a && b then Some m else head_at p ms) (if a then Some m else first_at p ms)) ≡ ((a && true) || some_at any_role p ms)
+        → is_some (option_or (if a && b then Some m else head_at p ms) (if a then Some m else first_at p ms))
+        ≡ ((a && true) || some_at any_role p ms)
     by_tests true true ih = refl
     by_tests true false ih = either (head_at p ms)
     by_tests false b ih = ih
@@ -178,11 +191,13 @@ pub key-mentioned : (k : Text) (ms : List (Mention Source)) (j : Mention Source)
     → some_at any_role (at_key k ∷ []) ms ≡ true
 key-mentioned k ms j n h = sym (is_some-first (at_key k ∷ []) ms) ∙ ap is_some (sym (kept-lead k ms n) ∙ h)
 
-pub all-find : {A : Type 0} (P : A → Type 0) (test : A → Bool) (xs : List A) (a : A) → AllByRecursion P xs → find test xs ≡ Some a → P a × (test a ≡ true)
+pub all-find : {A : Type 0} (P : A → Type 0) (test : A → Bool) (xs : List A) (a : A) → AllByRecursion P xs → find test xs ≡ Some a → P a
+    × (test a ≡ true)
 all-find P test [] a h e = absurd cc
 all-find {A} P test (x ∷ xs) a h e = by_test (test x) refl e (all-find P test xs a h.1)
   where
-    by_test : (b : Bool) → test x ≡ b → (if b then Some x else find test xs) ≡ Some a → (find test xs ≡ Some a → P a × (test a ≡ true)) → P a × (test a ≡ true)
+    by_test : (b : Bool) → test x ≡ b → (if b then Some x else find test xs) ≡ Some a → (find test xs ≡ Some a → P a × (test a ≡ true))
+        → P a × (test a ≡ true)
     by_test true t e ih =
         let same : x ≡ a = cc in
         (subst P same h.0, subst (λ y. test y ≡ true) same t)
@@ -193,7 +208,8 @@ abbrev pub IsLeader : List Role → Role → Type 0
 IsLeader rs r =
     ((is_header_role r ≡ true) × (list_any is_header_role rs ≡ true)) ⊎ ((list_any is_header_role rs ≡ false) × (first_of_list rs ≡ Some r))
 
-pub key-leader : (k : Text) (ms : List (Mention Source)) (j : Mention Source) → AreNamed ms → AllByRecursion IsHeaded ms → first_of_key k (kept ms) ≡ Some j
+pub key-leader : (k : Text) (ms : List (Mention Source)) (j : Mention Source) → AreNamed ms → AllByRecursion IsHeaded ms
+    → first_of_key k (kept ms) ≡ Some j
     → IsHeaded j × IsLeader (roles (under (at_key k) ms)) j.role
 key-leader k ms j n s h = by_head (head_at p ms) refl (sym (kept-lead k ms n) ∙ h)
   where
@@ -211,12 +227,15 @@ key-leader k ms j n s h = by_head (head_at p ms) refl (sym (kept-lead k ms n) �
     by_head (Some x) e f =
         let found = all-find IsHeaded (is_head_at p) ms j s (e ∙ f) in
         (found.0, inl (and_right (same_path j.path p) (is_header_role j.role) found.1, heads ∙ ap is_some e))
-    by_head None e f =
-        ((all-find IsHeaded (λ m. same_path m.path p) ms j s f).0, inr (heads ∙ ap is_some e, sym (first-role (at_key k) ms) ∙ ap (option_map (λ (m : Mention Source). m.role)) f))
+    by_head None e f = (
+      (all-find IsHeaded (λ m. same_path m.path p) ms j s f).0,
+      inr (heads ∙ ap is_some e, sym (first-role (at_key k) ms) ∙ ap (option_map (λ (m : Mention Source). m.role)) f),
+    )
 
 module _ (mode : Mode) where
   -- at a table's key stands no array
-  pub table-unnumbered : (paths : List Path) (k : Text) (ms : List (Mention Source)) (j : Mention Source) → AreReady paths ms → first_of_key k (kept ms) ≡ Some j
+  pub table-unnumbered : (paths : List Path) (k : Text) (ms : List (Mention Source)) (j : Mention Source) → AreReady paths ms
+      → first_of_key k (kept ms) ≡ Some j
       → IsTableRole (spanned_in mode) j.role → array_headers (under (at_key k) ms) ≡ []
   table-unnumbered paths k ms j h old is_table = by_array (list_any is_array_role (roles us)) refl
     where
@@ -235,7 +254,8 @@ module _ (mode : Mode) where
           ]
 
 -- at an array's key stands one
-pub array-numbered : (k : Text) (ms : List (Mention Source)) (j : Mention Source) → AreNamed ms → AllByRecursion IsHeaded ms → first_of_key k (kept ms) ≡ Some j
+pub array-numbered : (k : Text) (ms : List (Mention Source)) (j : Mention Source) → AreNamed ms → AllByRecursion IsHeaded ms
+    → first_of_key k (kept ms) ≡ Some j
     → j.role ≡ array_role → (a : Mention Source) × (more : List (Mention Source)) × (array_headers (under (at_key k) ms) ≡ a ∷ more)
 array-numbered k ms j n s old is_array =
     elim (key-leader k ms j n s old).1 [

@@ -1,5 +1,6 @@
 -- The slots of a table and the elements of an array of tables, as headers change them.
-use Rattle.std.proofs.Common.{◌≡◌, ◌<◌, refl, sym, ap, subst, ℕ, suc, ◌+◌, arith, Bool, true, false, List, [], ◌∷◌, ◌++◌, length, Option, Some, None}
+use Rattle.std.proofs.Common.{◌≡◌, ◌<◌, refl, sym, ap, subst, ℕ, suc, ◌+◌, arith, Bool, true, false, List, [], ◌∷◌, ◌++◌, length, Option}
+use Rattle.std.proofs.Common.{Some, None}
 use Rattle.std.specs.Prelude.{not, if◌then◌else◌, fold}
 use Rattle.toml_edit_model.specs.Mode.{Mode}
 use Rattle.toml_edit_model.specs.Text.{Text, same_text}
@@ -10,7 +11,8 @@ use Rattle.toml_edit_laws.specs.InlineTree.{node_at, with_node}
 use Rattle.toml_edit_laws.specs.TableTree.{without_slot, with_item, change_last, reaching, headed_table}
 use Rattle.toml_edit_laws.proofs.common.Tests.{same_text-is}
 use Rattle.toml_edit_laws.proofs.mentions.GatherLaws.{first_of_key, first_of_key-is, AreDistinct}
-use Rattle.toml_edit_laws.proofs.adding.TableSlots.{without_key, IsFound as IsFoundBySlot, slots-find as key-find, slots-change as key-change, slots-without as key-without}
+use Rattle.toml_edit_laws.proofs.adding.TableSlots.{without_key, IsFound as IsFoundBySlot, slots-find as key-find}
+use Rattle.toml_edit_laws.proofs.adding.TableSlots.{slots-change as key-change, slots-without as key-without}
 use Rattle.toml_edit_laws.proofs.common.OptionSteps.{map_some}
 use Rattle.toml_edit_laws.proofs.adding.HeaderKept.{others, others-none}
 use Rattle.toml_edit_model.specs.TableMentions.{under, kept}
@@ -20,7 +22,8 @@ others-without : (k : Text) (ks : List (Mention Source)) → AreDistinct ks → 
 others-without k [] d = refl
 others-without k (j ∷ ks) d = by_test (same_text k j.segment.key) refl (others-without k ks d.1)
   where
-    by_test : (b : Bool) → same_text k j.segment.key ≡ b → without_key k ks ≡ others k ks → (if b then ks else j ∷ without_key k ks) ≡ (if not b then j ∷ others k ks else others k ks)
+    by_test : (b : Bool) → same_text k j.segment.key ≡ b → without_key k ks ≡ others k ks → (if b then ks else j ∷ without_key k ks)
+        ≡ (if not b then j ∷ others k ks else others k ks)
     by_test true g ih = sym (others-none k ks (subst (λ x. first_of_key x ks ≡ None) (sym (same_text-is k j.segment.key g)) d.0))
     by_test false g ih = ap (λ us. j ∷ us) ih
 
@@ -44,10 +47,12 @@ module _ (mode : Mode) where
   IsFound ms k (Some m) (Some n) = IsNode (under (at_key k) ms) m n
   IsFound ms k _ _ = ⊥
 
-  pub slots-find : (ms ks : List (Mention Source)) (k : Text) (ss : Slots) → AreSlots ms ks ss → IsFound ms k (first_of_key k ks) (node_at k ss)
+  pub slots-find : (ms ks : List (Mention Source)) (k : Text) (ss : Slots) → AreSlots ms ks ss
+      → IsFound ms k (first_of_key k ks) (node_at k ss)
   slots-find ms ks k ss h = by_first (first_of_key k ks) refl (node_at k ss) (key-find (spanned_in mode) ms ks k ss h)
     where
-      by_first : (o : Option (Mention Source)) → first_of_key k ks ≡ o → (n : Option Node) → IsFoundBySlot (spanned_in mode) ms o n → IsFound ms k o n
+      by_first : (o : Option (Mention Source)) → first_of_key k ks ≡ o → (n : Option Node) → IsFoundBySlot (spanned_in mode) ms o n
+          → IsFound ms k o n
       by_first None e None g = tt
       by_first None e (Some n) g = absurd g
       by_first (Some m) e None g = absurd g
@@ -73,9 +78,11 @@ module _ (mode : Mode) where
   AreElements ns i hs xs = AreElementsOf (spanned_in mode) ns i hs xs
 
   -- A change of the last element's slots.
-  pub elements-last : (us all : List (Mention Source)) (n : ℕ) (change : Slots → Option Slots) (i : ℕ) (hs : List (Mention Source)) (xs changed : Items)
+  pub elements-last : (us all : List (Mention Source)) (n : ℕ) (change : Slots
+      → Option Slots) (i : ℕ) (hs : List (Mention Source)) (xs changed : Items)
       → ((j : ℕ) → j < n → under (at_element j) us ≡ under (at_element j) all)
-      → ((inner next : Slots) → AreAllSlots (under (at_element n) us) inner → change inner ≡ Some next → AreAllSlots (under (at_element n) all) next)
+      → ((inner next : Slots) → AreAllSlots (under (at_element n) us) inner → change inner ≡ Some next
+      → AreAllSlots (under (at_element n) all) next)
       → i + length hs ≡ suc n → AreElements us i hs xs → change_last change xs ≡ Some changed → AreElements all i hs changed
   elements-last us all n change i [] no_items changed same on count h e = absurd cc
   elements-last us all n change i [] (item x xs) changed same on count h e = absurd h
@@ -90,7 +97,8 @@ module _ (mode : Mode) where
       let (next, added, made) = map_some (change inner) (λ (ss : Slots). item (table f ss) no_items) changed e in
       subst (AreElements all i (a ∷ [])) made (
         h.0,
-        subst (λ j. AreAllSlots (under (at_element j) all) next) here (on inner next (subst (λ j. AreAllSlots (under (at_element j) us) inner) (sym here) h.1) added),
+        subst (λ j. AreAllSlots (under (at_element j) all) next) here
+            (on inner next (subst (λ j. AreAllSlots (under (at_element j) us) inner) (sym here) h.1) added),
         tt,
       )
   elements-last us all n change i (a ∷ []) (item (table f inner) (item y ys)) changed same on count h e = absurd h.2
@@ -107,7 +115,8 @@ module _ (mode : Mode) where
 
   -- One element more, below which nothing is mentioned.
   pub elements-add : (us all : List (Mention Source)) (n i : ℕ) (hs : List (Mention Source)) (a : Mention Source) (xs : Items)
-      → ((j : ℕ) → under (at_element j) us ≡ under (at_element j) all) → under (at_element n) all ≡ [] → i + length hs ≡ n → AreElements us i hs xs
+      → ((j : ℕ) → under (at_element j) us ≡ under (at_element j) all) → under (at_element n) all ≡ [] → i + length hs ≡ n
+      → AreElements us i hs xs
       → AreElements all i (hs ++ (a ∷ [])) (with_item xs (headed_table mode a no_slots))
   elements-add us all n i [] a no_items same none count h =
       let here : n ≡ i = omega arith in
@@ -125,12 +134,14 @@ module _ (mode : Mode) where
 
   -- the extent of an array of tables reaches to its last header
   reaches : (to : ℕ) (hs : List (Mention Source)) (b : Mention Source)
-      → fold (λ last (k : Mention Source). brackets_to (spanned_in mode) k.source k.source.statement) to (hs ++ (b ∷ [])) ≡ brackets_to (spanned_in mode) b.source b.source.statement
+      → fold (λ last (k : Mention Source). brackets_to (spanned_in mode) k.source k.source.statement) to (hs ++ (b ∷ []))
+      ≡ brackets_to (spanned_in mode) b.source b.source.statement
   reaches to [] b = refl
   reaches to (a ∷ hs) b = reaches (brackets_to (spanned_in mode) a.source a.source.statement) hs b
 
   pub extent-more : (a : Mention Source) (hs : List (Mention Source)) (b : Mention Source)
-      → reaching (tables_extent (spanned_in mode) (a ∷ hs)) (brackets_to (spanned_in mode) b.source b.source.statement) ≡ tables_extent (spanned_in mode) ((a ∷ hs) ++ (b ∷ []))
+      → reaching (tables_extent (spanned_in mode) (a ∷ hs)) (brackets_to (spanned_in mode) b.source b.source.statement)
+      ≡ tables_extent (spanned_in mode) ((a ∷ hs) ++ (b ∷ []))
   extent-more a hs b = ap extent_to (sym (reaches (brackets_to (spanned_in mode) a.source a.source.statement) hs b))
     where
       extent_to : ℕ → Extent

@@ -1,12 +1,14 @@
 -- The conditions for a header hold of a table where they hold of what is mentioned below one of its keys or elements.
-use Rattle.std.proofs.Common.{◌≡◌, ◌≤◌, ◌<◌, refl, sym, ◌∙◌, ap, subst, ℕ, ◌+◌, arith, Bool, true, false, List, [], ◌∷◌, ◌++◌, append_assoc, length, length-append, inl, inr}
+use Rattle.std.proofs.Common.{◌≡◌, ◌≤◌, ◌<◌, refl, sym, ◌∙◌, ap, subst, ℕ, ◌+◌, arith, Bool, true, false, List, [], ◌∷◌, ◌++◌, append_assoc}
+use Rattle.std.proofs.Common.{length, length-append, inl, inr}
 use Rattle.std.specs.Prelude.{◌&&◌, ◌||◌, not, filter, map, find}
 use Rattle.std.specs.List.{list_all}
 use Rattle.std.proofs.lemmas.Bool.{cases_Bool}
 use Rattle.std.proofs.lemmas.List.Elements.{filter-append}
 use Rattle.toml_edit_model.specs.Text.{is_empty}
 use Rattle.toml_edit_model.specs.Syntax.{Segment}
-use Rattle.toml_edit_model.specs.Paths.{Step, at_key, at_element, Path, same_step, same_path, to_key, Mention, Source, mention_of, line_mentions, next_start, elements_at}
+use Rattle.toml_edit_model.specs.Paths.{Step, at_key, at_element, Path, same_step, same_path, to_key, Mention, Source, mention_of}
+use Rattle.toml_edit_model.specs.Paths.{line_mentions, next_start, elements_at}
 use Rattle.toml_edit_model.specs.Accepted.{agree}
 use Rattle.toml_edit_model.specs.Faults.{clash, first_clash}
 use Rattle.toml_edit_laws.proofs.common.Tests.{append-nil, and_right}
@@ -58,7 +60,8 @@ open-more (s ∷ p) us more h =
     (has-more s us more h.0, subst (IsOpen p) (sym (under-append s us more)) (open-more p (under s us) (under s more) h.1))
 
 -- a key is there once it is mentioned
-pub has-path : (source : Source) (start : ℕ) (role : Role) (g : Segment) (below ms : List (Mention Source)) → HasStep (at_key g.key) (ms ++ path_of source start role g below)
+pub has-path : (source : Source) (start : ℕ) (role : Role) (g : Segment) (below ms : List (Mention Source))
+    → HasStep (at_key g.key) (ms ++ path_of source start role g below)
 has-path source start role g below ms =
     λ e.
     let us = under (at_key g.key) ms in
@@ -82,7 +85,8 @@ lift-step s paths after us below has away count h deep = at_path
     there = sym (under-append s us (all_deeper s below) ∙ ap (λ xs. under s us ++ xs) (under-deeper s below))
 
     apart : (t : Step) → same_step s t ≡ false → under t us ≡ under t all
-    apart t e = sym (under-append t us (all_deeper s below) ∙ ap (λ xs. under t us ++ xs) (under-other s t below e) ∙ append-nil (under t us))
+    apart t e = sym (under-append t us (all_deeper s below) ∙ ap (λ xs. under t us ++ xs) (under-other s t below e)
+        ∙ append-nil (under t us))
 
     owns : own us ≡ own all
     owns = sym (own-append us (all_deeper s below) ∙ ap (λ xs. own us ++ xs) (own-deeper s below) ∙ append-nil (own us))
@@ -104,7 +108,8 @@ lift-step s paths after us below has away count h deep = at_path
               ];
           numbered = λ n e.
               elim (cases_Bool (same_step s (at_element n))) [
-                | inl i ↦ (let here : n < length (array_headers all) = subst (λ t. HasStep t all) (same_step-is s (at_element n) i) has in absurd (omega arith))
+                | inl i ↦ (let here : n < length (array_headers all) = subst (λ t. HasStep t all) (same_step-is s (at_element n) i) has in
+                    absurd (omega arith))
                 | inr i ↦ sym (apart (at_element n) i) ∙ (h []).numbered n (subst (λ xs. length xs ≤ n) (sym headers) e)
               ];
           arrayed = subst AreArrayed given (h []).arrayed;
@@ -123,16 +128,19 @@ lift-step s paths after us below has away count h deep = at_path
 -- ---- a key line keeps them
 
 -- in its own table
-line-here : (source : Source) (start : ℕ) (segments : List Segment) (paths : List Path) (ms : List (Mention Source)) → AreReadyPaths paths ms
+line-here : (source : Source) (start : ℕ) (segments : List Segment) (paths : List Path) (ms : List (Mention Source))
+    → AreReadyPaths paths ms
     → AreReadyPaths paths (ms ++ line_mentions source start [] segments)
 line-here source start [] paths ms h = subst (AreReadyPaths paths) (sym (append-nil ms)) h
 line-here source start (g ∷ []) paths ms h =
     let deeper = paths_under (at_key g.key) paths in
     let us = under (at_key g.key) ms in
     let inside : AreReadyPaths deeper us = λ p. h (at_key g.key ∷ p) in
-    lift-step (at_key g.key) paths paths ms (own_mention source start value_role g ∷ []) (has-path source start value_role g [] ms) (λ t e. refl) refl h
+    lift-step (at_key g.key) paths paths ms (own_mention source start value_role g
+    ∷ []) (has-path source start value_role g [] ms) (λ t e. refl) refl h
     (paths-own source start value_role g deeper deeper us (λ s. refl) (count-passed source start value_role g deeper us refl inside)
-    (arrayed-passed (roles us) (value_role ∷ []) refl refl (inside []).arrayed) (passed-more (roles us) (value_role ∷ []) refl (inside []).passed) inside)
+    (arrayed-passed (roles us) (value_role ∷ []) refl refl (inside []).arrayed) (passed-more (roles us) (value_role
+    ∷ []) refl (inside []).passed) inside)
 line-here source start (g ∷ h ∷ rest) paths ms ready =
     let deeper = paths_under (at_key g.key) paths in
     let us = under (at_key g.key) ms in
@@ -141,11 +149,13 @@ line-here source start (g ∷ h ∷ rest) paths ms ready =
     let inside : AreReadyPaths deeper us = λ p. ready (at_key g.key ∷ p) in
     let with_own : AreReadyPaths deeper (us ++ (o ∷ [])) =
     paths-own source start dotted_role g deeper deeper us (λ s. refl) (count-passed source start dotted_role g deeper us refl inside)
-    (arrayed-passed (roles us) (dotted_role ∷ []) refl refl (inside []).arrayed) (passed-more (roles us) (dotted_role ∷ []) refl (inside []).passed) inside in
+    (arrayed-passed (roles us) (dotted_role ∷ []) refl refl (inside []).arrayed) (passed-more (roles us) (dotted_role
+    ∷ []) refl (inside []).passed) inside in
     subst (λ xs. AreReadyPaths paths (ms ++ (mention_of source start (to_key [] g.key) dotted_role g ∷ xs)))
     (sym (lines-deeper source (next_start start g) (at_key g.key) [] (h ∷ rest)))
     (lift-step (at_key g.key) paths paths ms (o ∷ below) (has-path source start dotted_role g below ms) (λ t e. refl) refl ready
-    (subst (AreReadyPaths deeper) (append_assoc us (o ∷ []) below) (line-here source (next_start start g) (h ∷ rest) deeper (us ++ (o ∷ [])) with_own)))
+    (subst (AreReadyPaths deeper) (append_assoc us (o ∷ []) below) (line-here source (next_start start g) (h ∷ rest) deeper (us
+    ++ (o ∷ [])) with_own)))
 
 -- in a table that is there
 pub line-keeps : (source : Source) (start : ℕ) (block : Path) (segments : List Segment) (paths : List Path) (ms : List (Mention Source))
@@ -153,19 +163,22 @@ pub line-keeps : (source : Source) (start : ℕ) (block : Path) (segments : List
 line-keeps source start [] segments paths ms h is_open = line-here source start segments paths ms h
 line-keeps source start (s ∷ p) segments paths ms h is_open =
     subst (λ xs. AreReadyPaths paths (ms ++ xs)) (sym (lines-deeper source start s p segments))
-    (lift-step s paths paths ms (line_mentions source start p segments) (has-more s ms (all_deeper s (line_mentions source start p segments)) is_open.0) (λ t e. refl) refl h
+    (lift-step s paths paths ms (line_mentions source start p segments)
+    (has-more s ms (all_deeper s (line_mentions source start p segments)) is_open.0) (λ t e. refl) refl h
     (line-keeps source start p segments (paths_under s paths) (under s ms) (λ q. h (s ∷ q)) is_open.1))
 
 -- ---- what agrees
 
-pub agree-under : {S : Type 0} (may : Role → Role → Bool) (s : Step) (ms below : List (Mention S)) → agree may ms (all_deeper s below) ≡ agree may (under s ms) below
+pub agree-under : {S : Type 0} (may : Role → Role → Bool) (s : Step) (ms below : List (Mention S)) → agree may ms (all_deeper s below)
+    ≡ agree may (under s ms) below
 agree-under may s ms below =
     agree-clash may ms (all_deeper s below)
     ∙ ap is_none (clash-deeper may s ms below)
     ∙ is_none-map (both_deeper s) (first_clash may (under s ms) below)
     ∙ sym (agree-clash may (under s ms) below)
 
-pub agree-rest : {S : Type 0} (may : Role → Role → Bool) (ms : List (Mention S)) (m : Mention S) (rest : List (Mention S)) → agree may ms (m ∷ rest) ≡ true → agree may ms rest ≡ true
+pub agree-rest : {S : Type 0} (may : Role → Role → Bool) (ms : List (Mention S)) (m : Mention S) (rest : List (Mention S))
+    → agree may ms (m ∷ rest) ≡ true → agree may ms rest ≡ true
 agree-rest may ms m rest h = and_right (is_none (find (clash may m) ms)) (agree may ms rest) (sym (agree-first may ms m rest) ∙ h)
 
 -- a table's own mention meets none below it
@@ -179,7 +192,8 @@ off-own {S} may r (n ∷ below) h = by_path n.path (own-first n below h).0 (off-
     by_path [] e ih = absurd cc
     by_path (s ∷ p) e ih = ih
 
-pub agree-own : (may : Role → Role → Bool) (source : Source) (start : ℕ) (role : Role) (g : Segment) (us below : List (Mention Source)) → own below ≡ []
+pub agree-own : (may : Role → Role → Bool) (source : Source) (start : ℕ) (role : Role) (g : Segment) (us below : List (Mention Source))
+    → own below ≡ []
     → agree may us below ≡ true → agree may (us ++ (own_mention source start role g ∷ [])) below ≡ true
 agree-own may source start role g us below none h =
     agree-append may us (own_mention source start role g ∷ []) below

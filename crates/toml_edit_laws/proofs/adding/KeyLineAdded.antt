@@ -33,4 +33,5 @@ module _ (mode : Mode) where
       let line = own_mentions c (key_line f v end) in
       subst (λ ns. AreSlots mode (ms ++ ns) next) (sym (mentions_below c f v end))
       (block_changed (spanned_in mode) c.block (add_line mode line n) ms line are.named are.one_header (own-line source start f.path)
-      (λ us others h g. line_added mode source f v end start (under_path c.block ms) n us others refl value (of_path c.block ms are) h g) ss next slots e)
+      (λ us others h g. line_added mode source f v end start (under_path c.block ms) n us others refl value (of_path c.block ms are) h g) ss
+      next slots e)

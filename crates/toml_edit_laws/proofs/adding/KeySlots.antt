@@ -1,5 +1,6 @@
 -- One key of a path that is no header's, after others: the slot that it gets or goes through, and what the key's own table sees.
-use Rattle.std.proofs.Common.{◌≡◌, refl, sym, ◌∙◌, ap, subst, ℕ, true, false, List, [], ◌∷◌, ◌++◌, append_assoc, Option, Some, None, inl, inr}
+use Rattle.std.proofs.Common.{◌≡◌, refl, sym, ◌∙◌, ap, subst, ℕ, true, false, List, [], ◌∷◌, ◌++◌, append_assoc, Option, Some, None, inl}
+use Rattle.std.proofs.Common.{inr}
 use Rattle.std.specs.Prelude.{◌&&◌, ◌||◌, not, if◌then◌else◌, is_some}
 use Rattle.std.proofs.Math.Bool.{and-false}
 use Rattle.toml_edit_model.specs.Mode.{Mode}
@@ -24,9 +25,11 @@ use Rattle.toml_edit_model.specs.TableMentions.{under, own, some_at, kept}
 
 -- one mention that is no header's
 headless-one : {S : Type 0} (m : Mention S) → is_header_role m.role ≡ false → AreHeadless (m ∷ [])
-headless-one m h p = ap (λ b. (same_path m.path p && b) || false) h ∙ or-false (same_path m.path p && false) ∙ and-false (same_path m.path p)
+headless-one m h p = ap (λ b. (same_path m.path p && b) || false) h ∙ or-false (same_path m.path p && false)
+    ∙ and-false (same_path m.path p)
 
-pub kept-passed : {S : Type 0} (source : S) (start : ℕ) (role : Role) (g : Segment) (below ms : List (Mention S)) → is_header_role role ≡ false → own below ≡ []
+pub kept-passed : {S : Type 0} (source : S) (start : ℕ) (role : Role) (g : Segment) (below ms : List (Mention S)) → is_header_role role
+    ≡ false → own below ≡ []
     → kept (ms ++ path_of source start role g below)
     ≡ kept ms ++ (if not (some_at any_role (at_key g.key ∷ []) ms) then mention_of source start (to_key [] g.key) role g ∷ [] else [])
 kept-passed source start role g below ms plain none =
@@ -62,7 +65,8 @@ kept-own source start role g ms plain =
     kept-append ms (own_mention source start role g ∷ []) (headless-one (own_mention source start role g) plain) ∙ append-nil (kept ms)
 
 -- what a key's own table sees of a path that goes through it, and of what was before
-pub of_own : (source : Source) (start : ℕ) (role : Role) (g : Segment) (ms : List (Mention Source)) → is_header_role role ≡ false → AreOfTable ms
+pub of_own : (source : Source) (start : ℕ) (role : Role) (g : Segment) (ms : List (Mention Source)) → is_header_role role ≡ false
+    → AreOfTable ms
     → AreOfTable (under (at_key g.key) ms ++ (own_mention source start role g ∷ []))
 of_own source start role g ms plain are =
     let here = under (at_key g.key) ms in
@@ -85,10 +89,12 @@ module _ (mode : Mode) where
 
   -- how the rest of a path is added, to any slots of mentions
   abbrev pub GoesOn : (Slots → Option Slots) → List (Mention Source) → Type 0
-  GoesOn add below = (xs : List (Mention Source)) (ss next : Slots) → AreOfTable xs → AreSlots xs ss → add ss ≡ Some next → AreSlots (xs ++ below) next
+  GoesOn add below = (xs : List (Mention Source)) (ss next : Slots) → AreOfTable xs → AreSlots xs ss → add ss ≡ Some next
+      → AreSlots (xs ++ below) next
 
   -- its slots, once what is further on is added to those of what was before
-  pub slots-through : (source : Source) (start : ℕ) (role : Role) (g : Segment) (below ms : List (Mention Source)) (add : Slots → Option Slots) (inner next : Slots)
+  pub slots-through : (source : Source) (start : ℕ) (role : Role) (g : Segment) (below ms : List (Mention Source)) (add : Slots
+      → Option Slots) (inner next : Slots)
       → is_header_role role ≡ false → AreOfTable ms → AreSlots (under (at_key g.key) ms) inner → GoesOn add below → add inner ≡ Some next
       → AreSlots (under (at_key g.key) (ms ++ path_of source start role g below)) next
   slots-through source start role g below ms add inner next plain are slots on e =
@@ -104,19 +110,25 @@ module _ (mode : Mode) where
   pub new-slot : (source : Source) (start : ℕ) (role : Role) (g : Segment) (below ms : List (Mention Source)) (n : Node) (ss : Slots)
       → is_header_role role ≡ false → AreOfTable ms → own below ≡ [] → first_of_key g.key (kept ms) ≡ None → AreSlots ms ss
       → IsSlotNode (spanned_in mode) (ms ++ path_of source start role g below) (mention_of source start (to_key [] g.key) role g) n
-      → AreSlots (ms ++ path_of source start role g below) (with_slot ss (key_at (spanned_in mode) (mention_of source start (to_key [] g.key) role g)) n)
+      → AreSlots (ms ++ path_of source start role g below)
+      (with_slot ss (key_at (spanned_in mode) (mention_of source start (to_key [] g.key) role g)) n)
   new-slot source start role g below ms n ss plain are none new slots node =
       let m = mention_of source start (to_key [] g.key) role g in
       let all = ms ++ path_of source start role g below in
-      subst (λ ks. AreSlotsOf (spanned_in mode) all ks (with_slot ss (key_at (spanned_in mode) m) n)) (sym (kept-new source start role g below ms are.named plain none new))
-      (slots-add (spanned_in mode) all (kept ms) m n ss (slots-same (spanned_in mode) ms all (kept ms) g.key ss (under-others source start role g below ms) new slots) node)
+      subst (λ ks. AreSlotsOf (spanned_in mode) all ks (with_slot ss (key_at (spanned_in mode) m) n))
+      (sym (kept-new source start role g below ms are.named plain none new))
+      (slots-add (spanned_in mode) all (kept ms) m n ss (slots-same (spanned_in mode) ms all (kept ms) g.key ss
+      (under-others source start role g below ms) new slots) node)
 
   -- a slot that is there gets another item
-  pub old-slot : (source : Source) (start : ℕ) (role : Role) (g : Segment) (below ms : List (Mention Source)) (j : Mention Source) (n : Node) (ss : Slots)
+  pub old-slot : (source : Source) (start : ℕ) (role : Role) (g : Segment) (below ms : List (Mention Source)) (j : Mention Source)
+      (n : Node) (ss : Slots)
       → is_header_role role ≡ false → AreOfTable ms → own below ≡ [] → first_of_key g.key (kept ms) ≡ Some j → AreSlots ms ss
       → IsSlotNode (spanned_in mode) (ms ++ path_of source start role g below) j n
       → AreSlots (ms ++ path_of source start role g below) (with_node g.key n ss)
   old-slot source start role g below ms j n ss plain are none old slots node =
       let all = ms ++ path_of source start role g below in
-      subst (λ ks. AreSlotsOf (spanned_in mode) all ks (with_node g.key n ss)) (sym (kept-old source start role g below ms j are.named plain none old))
-      (slots-change (spanned_in mode) ms all (kept ms) g.key j n ss (under-others source start role g below ms) (one_slot ms are.named are.one_header) old node slots)
+      subst (λ ks. AreSlotsOf (spanned_in mode) all ks (with_node g.key n ss))
+      (sym (kept-old source start role g below ms j are.named plain none old))
+      (slots-change (spanned_in mode) ms all (kept ms) g.key j n ss (under-others source start role g below ms)
+      (one_slot ms are.named are.one_header) old node slots)

@@ -1,12 +1,15 @@
 -- What holds of the mentions that a table sees holds of those of statements, each of which agrees with the ones before it.
-use Rattle.std.proofs.Common.{◌≡◌, refl, sym, ◌∙◌, ap, subst, ℕ, zero, suc, ◌+◌, Bool, true, false, List, [], ◌∷◌, ◌++◌, append_assoc, inl, inr}
+use Rattle.std.proofs.Common.{◌≡◌, refl, sym, ◌∙◌, ap, subst, ℕ, zero, suc, ◌+◌, Bool, true, false, List, [], ◌∷◌, ◌++◌, append_assoc, inl}
+use Rattle.std.proofs.Common.{inr}
 use Rattle.std.specs.Prelude.{◌&&◌, ◌||◌, not, if◌then◌else◌}
 use Rattle.std.specs.List.{list_all}
 use Rattle.std.proofs.lemmas.Bool.{or_from}
 use Rattle.std.proofs.lemmas.Grind.{flat_map-append}
 use Rattle.toml_edit_model.specs.Text.{one}
 use Rattle.toml_edit_model.specs.Syntax.{Segment, Statement, key_line, header, Document}
-use Rattle.toml_edit_model.specs.Paths.{at_key, at_element, Path, same_path, to_key, to_element, Mention, next_start, line_mentions, elements_at, in_last, header_mentions, header_path, header_role_of, path_start, Source, Placed, Context, source_of, mentions_of, context_after, placed_from, start_context, all_mentions}
+use Rattle.toml_edit_model.specs.Paths.{at_key, at_element, Path, same_path, to_key, to_element, Mention, next_start, line_mentions}
+use Rattle.toml_edit_model.specs.Paths.{elements_at, in_last, header_mentions, header_path, header_role_of, path_start, Source, Placed}
+use Rattle.toml_edit_model.specs.Paths.{Context, source_of, mentions_of, context_after, placed_from, start_context, all_mentions}
 use Rattle.toml_edit_model.specs.Accepted.{agree, is_accepted}
 use Rattle.toml_edit_laws.specs.OneByOne.{is_right_after, all_right_after}
 use Rattle.toml_edit_laws.proofs.common.Tests.{append-nil, and_left, and_right, or-true}
@@ -36,7 +39,8 @@ among-some m (n ∷ ms) (inr h) =
     ap (λ b. (same_path n.path m.path && true) || b) (among-some m ms h) ∙ or-true (same_path n.path m.path && true)
 
 -- one key further, where that is mentioned, and one element further
-pub reached-key : {S : Type 0} (p : Path) (m : Mention S) (all : List (Mention S)) → IsReached p all → some_at any_role (to_key p m.segment.key) all ≡ true
+pub reached-key : {S : Type 0} (p : Path) (m : Mention S) (all : List (Mention S)) → IsReached p all
+    → some_at any_role (to_key p m.segment.key) all ≡ true
     → IsReached (to_key p m.segment.key) all
 reached-key [] m all h e = (e, tt)
 reached-key (at_key l ∷ p) m all h e =
@@ -57,12 +61,14 @@ abbrev AreIn : {S : Type 0} → List (Mention S) → List (Mention S) → Type 0
 AreIn {S} all ms = (m : Mention S) → Among m ms → Among m all
 
 -- where a mention of a key at the end of a path is one of all
-reached-mention : {S : Type 0} (p : Path) (m : Mention S) (all : List (Mention S)) → IsReached p all → Among m all → m.path ≡ to_key p m.segment.key
+reached-mention : {S : Type 0} (p : Path) (m : Mention S) (all : List (Mention S)) → IsReached p all → Among m all → m.path
+    ≡ to_key p m.segment.key
     → IsReached m.path all
 reached-mention p m all h a e =
     subst (λ q. IsReached q all) (sym e) (reached-key p m all h (subst (λ q. some_at any_role q all ≡ true) e (among-some m all a)))
 
-first-reached : {S : Type 0} (p : Path) (m n : Mention S) (all : List (Mention S)) → IsReached p all → Among n all → n.path ≡ to_key p n.segment.key → m ≡ n
+first-reached : {S : Type 0} (p : Path) (m n : Mention S) (all : List (Mention S)) → IsReached p all → Among n all → n.path
+    ≡ to_key p n.segment.key → m ≡ n
     → IsReached m.path all
 first-reached p m n all h a e is = subst (λ (x : Mention _). IsReached x.path all) (sym is) (reached-mention p n all h a e)
 
@@ -76,8 +82,10 @@ line-reached all source start p (s ∷ r ∷ rest) h inside m (inr a) =
     line-reached all source (next_start start s) (to_key p s.key) (r ∷ rest) (reached-mention p _ all h (inside _ (inl refl)) refl)
     (λ n b. inside n (inr b)) m a
 
-pub header-reached : {S : Type 0} (all : List (Mention S)) (source : S) (arrays : List Path) (role : Role) (start : ℕ) (p : Path) (ss : List Segment)
-    → IsReached p all → AreIn all (header_mentions source arrays role start p ss) → AreReachedIn all (header_mentions source arrays role start p ss)
+pub header-reached : {S : Type 0} (all : List (Mention S)) (source : S) (arrays : List Path) (role : Role) (start : ℕ) (p : Path)
+    (ss : List Segment)
+    → IsReached p all → AreIn all (header_mentions source arrays role start p ss)
+    → AreReachedIn all (header_mentions source arrays role start p ss)
 header-reached all source arrays role start p [] h inside m a = elim a [ ]
 header-reached all source arrays role start p (s ∷ []) h inside m (inl e) = first-reached p m _ all h (inside _ (inl refl)) refl e
 header-reached all source arrays role start p (s ∷ []) h inside m (inr a) = elim a [ ]
@@ -90,7 +98,8 @@ header-reached all source arrays role start p (s ∷ r ∷ rest) h inside m (inr
     (λ n b. inside n (inr b)) m a
 
 -- so is the path of a header
-path-reached : {S : Type 0} (all : List (Mention S)) (source : S) (arrays : List Path) (role : Role) (start : ℕ) (p : Path) (ss : List Segment)
+path-reached : {S : Type 0} (all : List (Mention S)) (source : S) (arrays : List Path) (role : Role) (start : ℕ) (p : Path)
+    (ss : List Segment)
     → IsReached p all → AreIn all (header_mentions source arrays role start p ss) → IsReached (header_path arrays p ss) all
 path-reached all source arrays role start p [] h inside = h
 path-reached all source arrays role start p (s ∷ []) h inside = reached-mention p _ all h (inside _ (inl refl)) refl
@@ -116,22 +125,26 @@ two-headers header_role header_role h g = refl
 two-headers header_role q h g = absurd cc
 two-headers r q h g = absurd cc
 
-pub header-join : {S : Type 0} (xs ys : List (Mention S)) → HaveOneHeader xs → HaveOneHeader ys → agree may_meet xs ys ≡ true → HaveOneHeader (xs ++ ys)
+pub header-join : {S : Type 0} (xs ys : List (Mention S)) → HaveOneHeader xs → HaveOneHeader ys → agree may_meet xs ys ≡ true
+    → HaveOneHeader (xs ++ ys)
 header-join [] ys g h a = h
 header-join {S} (m ∷ xs) ys g h a = (
   λ is.
       let here : some_at is_header_role m.path (m ∷ xs) ≡ true =
-      ap (λ b. (b && is_header_role m.role) || some_at is_header_role m.path xs) (same_path-refl m.path) ∙ ap (λ b. b || some_at is_header_role m.path xs) is in
+      ap (λ b. (b && is_header_role m.role) || some_at is_header_role m.path xs) (same_path-refl m.path)
+      ∙ ap (λ b. b || some_at is_header_role m.path xs) is in
       some_at-append is_header_role m.path xs ys
       ∙ or_from (some_at is_header_role m.path xs) (some_at is_header_role m.path ys) (g.0 is)
       (agree-apart may_meet is_header_role is_header_role m.path (m ∷ xs) ys two-headers a here),
-  header-join xs ys g.1 h (and_right (list_all (λ (n : Mention S). not (same_path m.path n.path) || may_meet m.role n.role) ys) (agree may_meet xs ys) a),
+  header-join xs ys g.1 h (and_right (list_all (λ (n : Mention S). not (same_path m.path n.path) || may_meet m.role n.role) ys)
+      (agree may_meet xs ys) a),
 )
 
 -- ---- one statement
 
 statement-headers : (c : Context) (s : Statement) → HaveHeaders (mentions_of c s)
-statement-headers c (key_line f v end) m a is = line-headers (source_of c (key_line f v end)) (c.start + path_start (key_line f v end)) c.block f.path m a is
+statement-headers c (key_line f v end) m a is =
+    line-headers (source_of c (key_line f v end)) (c.start + path_start (key_line f v end)) c.block f.path m a is
 statement-headers c (header h end) m a is =
     ap (λ (x : Source). is_header x.statement)
     (header-source (source_of c (header h end)) c.arrays (header_role_of h) (c.start + path_start (header h end)) [] h.path m a)
@@ -192,7 +205,8 @@ pub record AreOfTableBefore (c : Context) (ms : List (Mention Source)) : Type 0 
 pub table_start : (d : Document) → AreOfTableBefore (start_context d) []
 table_start d = record { table = of_nothing; block = tt }
 
-pub table_next : (c : Context) (s : Statement) (ms : List (Mention Source)) → AreOfTableBefore c ms → agree may_meet ms (mentions_of c s) ≡ true
+pub table_next : (c : Context) (s : Statement) (ms : List (Mention Source)) → AreOfTableBefore c ms → agree may_meet ms (mentions_of c s)
+    ≡ true
     → AreOfTableBefore (context_after c s) (ms ++ mentions_of c s)
 table_next c s ms are h = record { table = of_statement c s ms are.table are.block h; block = block_after c s ms are.block }
 
@@ -210,8 +224,10 @@ of_places c (s ∷ ss) earlier are h =
     flat_map-append (λ (x : Placed). x.mentions) earlier (one here) ∙ ap (λ ns. mentions_in earlier ++ ns) (append-nil (mentions_of c s)) in
     let next =
     of_places (context_after c s) ss (earlier ++ one here)
-    (subst (AreOfTableBefore (context_after c s)) (sym all) (table_next c s (mentions_in earlier) are (right-agrees earlier here right))) rest in
-    subst AreOfTable (ap (λ ms. ms ++ mentions_in later) all ∙ append_assoc (mentions_in earlier) (mentions_of c s) (mentions_in later)) next
+    (subst (AreOfTableBefore (context_after c s)) (sym all) (table_next c s (mentions_in earlier) are (right-agrees earlier here right)))
+    rest in
+    subst AreOfTable (ap (λ ms. ms ++ mentions_in later) all
+    ∙ append_assoc (mentions_in earlier) (mentions_of c s) (mentions_in later)) next
 
 -- What holds of the mentions that a table sees holds of those of an accepted document.
 pub document_table : (d : Document) → is_accepted d ≡ true → AreOfTable (all_mentions d)

@@ -87,7 +87,8 @@ header-later (m ∷ xs) ys h none g = (
 )
 
 -- a statement with no plain header, each of whose paths is reached, comes after others
-pub of_later : (ms ns : List (Mention Source)) → AreOfTable ms → AreNamed ns → AreHeadless ns → HaveOneHeader ns → AreReachedIn (ms ++ ns) ns
+pub of_later : (ms ns : List (Mention Source)) → AreOfTable ms → AreNamed ns → AreHeadless ns → HaveOneHeader ns
+    → AreReachedIn (ms ++ ns) ns
     → HaveHeaders ns → AreOfTable (ms ++ ns)
 of_later ms ns are named none one_header reached headers =
     record {
@@ -111,7 +112,8 @@ of_later ms ns are named none one_header reached headers =
 -- any mention of the key comes later
 some-step : {S : Type 0} (k : Text) (m : Mention S) (later : List (Mention S)) (slot seen here head heads more : Bool)
     → is_some (first_of_key k later) ≡ (heads || (not (seen || ((here && true) || false)) && more))
-    → (here ≡ true → (slot ≡ (head || (not seen && not heads))) × (is_of_key k m ≡ true)) → (here ≡ false → slot ≡ true → is_of_key k m ≡ false)
+    → (here ≡ true → (slot ≡ (head || (not seen && not heads))) × (is_of_key k m ≡ true))
+    → (here ≡ false → slot ≡ true → is_of_key k m ≡ false)
     → is_some (first_of_key k (if slot then m ∷ later else later)) ≡ (((here && head) || heads) || (not seen && ((here && true) || more)))
 some-step k m later true seen true true heads more h at off = rw ((at refl).1) refl
 some-step k m later true true true false heads more h at off = let e = (at refl).0 in absurd cc
@@ -134,17 +136,20 @@ kept_from-some k before [] n = by_test (some_at any_role (at_key k ∷ []) befor
     by_test true = refl
     by_test false = refl
 kept_from-some k before (m ∷ ms) n =
-    some-step k m (kept_from (before ++ (m ∷ [])) ms) (is_slot before m ms) (some_at any_role (at_key k ∷ []) before) (same_path m.path (at_key k ∷ []))
+    some-step k m (kept_from (before ++ (m ∷ [])) ms) (is_slot before m ms) (some_at any_role (at_key k ∷ []) before)
+    (same_path m.path (at_key k ∷ []))
     (is_header_role m.role) (some_at is_header_role (at_key k ∷ []) ms) (some_at any_role (at_key k ∷ []) ms)
     (kept_from-some k (before ++ (m ∷ [])) ms n.1
-    ∙ ap (λ b. some_at is_header_role (at_key k ∷ []) ms || (not b && some_at any_role (at_key k ∷ []) ms)) (some_at-append any_role (at_key k ∷ []) before (m ∷ [])))
+    ∙ ap (λ b. some_at is_header_role (at_key k ∷ []) ms
+    || (not b && some_at any_role (at_key k ∷ []) ms)) (some_at-append any_role (at_key k ∷ []) before (m ∷ [])))
     (λ e. let here = same_path-is m.path (at_key k ∷ []) e in (
       ap (λ p. is_single p && (is_header_role m.role || (not (some_at any_role p before) && not (some_at is_header_role p ms)))) here,
       subst (λ x. same_text k x ≡ true) (named-at m.path m.segment.key k n.0 here) (same_text-refl k),
     ))
     (λ e s.
     other-key m.path m.segment.key k n.0
-    (and_left (is_single m.path) (is_header_role m.role || (not (some_at any_role m.path before) && not (some_at is_header_role m.path ms))) s) e)
+    (and_left (is_single m.path) (is_header_role m.role
+    || (not (some_at any_role m.path before) && not (some_at is_header_role m.path ms))) s) e)
 
 some-less : {S : Type 0} (p : Path) (ms : List (Mention S)) → (some_at is_header_role p ms || some_at any_role p ms) ≡ some_at any_role p ms
 some-less p [] = refl
@@ -156,7 +161,8 @@ some-less p (m ∷ ms) =
     by_test false r x y h = h
 
 -- A key has a slot exactly where it is mentioned.
-pub kept-some : {S : Type 0} (k : Text) (ms : List (Mention S)) → AreNamed ms → is_some (first_of_key k (kept ms)) ≡ some_at any_role (at_key k ∷ []) ms
+pub kept-some : {S : Type 0} (k : Text) (ms : List (Mention S)) → AreNamed ms → is_some (first_of_key k (kept ms))
+    ≡ some_at any_role (at_key k ∷ []) ms
 kept-some k ms n = kept_from-some k [] ms n ∙ some-less (at_key k ∷ []) ms
 
 -- Each slot has another key.

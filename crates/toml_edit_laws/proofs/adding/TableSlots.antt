@@ -1,5 +1,6 @@
 -- The slots of a table, by the mentions that their keys are kept from, and the elements of an array of tables.
-use Rattle.std.proofs.Common.{◌≡◌, ◌≤◌, refl, sym, subst, arith, ℕ, zero, suc, ◌+◌, Bool, true, false, List, [], ◌∷◌, ◌++◌, length, Option, Some, None}
+use Rattle.std.proofs.Common.{◌≡◌, ◌≤◌, refl, sym, subst, arith, ℕ, zero, suc, ◌+◌, Bool, true, false, List, [], ◌∷◌, ◌++◌, length, Option}
+use Rattle.std.proofs.Common.{Some, None}
 use Rattle.std.specs.Prelude.{if◌then◌else◌}
 use Rattle.std.proofs.lemmas.Bool.{eqb-true}
 use Rattle.toml_edit_model.specs.Text.{Text, same_text}
@@ -57,7 +58,8 @@ module _ (form : Form) where
       (h.0, subst (λ us. IsNodeOf form us m n) (e m.segment.key) h.1, slots-kept ms others ks ss e h.2)
 
   -- one slot more at the end
-  pub slots-add : (ms ks : List (Mention Source)) (m : Mention Source) (n : Node) (ss : Slots) → AreSlotsOf form ms ks ss → IsSlotNode ms m n
+  pub slots-add : (ms ks : List (Mention Source)) (m : Mention Source) (n : Node) (ss : Slots) → AreSlotsOf form ms ks ss
+      → IsSlotNode ms m n
       → AreSlotsOf form ms (ks ++ (m ∷ [])) (with_slot ss (key_at form m) n)
   slots-add ms [] m n no_slots h i = (refl, i, tt)
   slots-add ms [] m n (slot l o ss) h i = absurd h
@@ -70,7 +72,8 @@ module _ (form : Form) where
   IsFound ms (Some m) (Some n) = IsSlotNode ms m n
   IsFound ms _ _ = ⊥
 
-  pub slots-find : (ms ks : List (Mention Source)) (k : Text) (ss : Slots) → AreSlotsOf form ms ks ss → IsFound ms (first_of_key k ks) (node_at k ss)
+  pub slots-find : (ms ks : List (Mention Source)) (k : Text) (ss : Slots) → AreSlotsOf form ms ks ss
+      → IsFound ms (first_of_key k ks) (node_at k ss)
   slots-find ms [] k no_slots h = tt
   slots-find ms [] k (slot l n ss) h = absurd h
   slots-find ms (m ∷ ks) k no_slots h = absurd h
@@ -92,7 +95,8 @@ module _ (form : Form) where
   slots-change ms others [] k m n (slot l o ss) e d f i h = absurd h
   slots-change ms others (j ∷ ks) k m n no_slots e d f i h = absurd h
   slots-change ms others (j ∷ ks) k m n (slot l o ss) e d f i h =
-      subst (λ (x : Key). AreSlotsOf form others (j ∷ ks) (if same_text k x.name then slot l n ss else slot l o (with_node k n ss))) (sym h.0)
+      subst (λ (x : Key). AreSlotsOf form others (j ∷ ks) (if same_text k x.name then slot l n ss else slot l o (with_node k n ss)))
+      (sym h.0)
       (by_test (same_text k j.segment.key) refl f (λ g. slots-change ms others ks k m n ss e d.1 g i h.2))
     where
       by_test : (b : Bool) → same_text k j.segment.key ≡ b → (if b then Some j else first_of_key k ks) ≡ Some m
@@ -113,7 +117,8 @@ module _ (form : Form) where
   slots-remove ms [] k (slot l n ss) h = absurd h
   slots-remove ms (m ∷ ks) k no_slots h = absurd h
   slots-remove ms (m ∷ ks) k (slot l n ss) h =
-      subst (λ (x : Key). AreSlotsOf form ms (without_key k (m ∷ ks)) (if same_text k x.name then ss else slot l n (without_slot k ss))) (sym h.0)
+      subst (λ (x : Key). AreSlotsOf form ms (without_key k (m ∷ ks)) (if same_text k x.name then ss else slot l n (without_slot k ss)))
+      (sym h.0)
       (by_test (same_text k m.segment.key) (slots-remove ms ks k ss h.2))
     where
       by_test : (b : Bool) → AreSlotsOf form ms (without_key k ks) (without_slot k ss)
@@ -158,7 +163,8 @@ module _ (form : Form) where
       → (l : ℕ) → suc t ≤ l → under (at_element l) ns ≡ under (at_element l) others
   same-after t ns others e l h = e l (apart-elements t l (λ g. absurd (omega arith)))
 
-  same-before : (t i : ℕ) (ns others : List (Mention Source)) → AreSameBut t ns others → suc i ≤ t → under (at_element i) ns ≡ under (at_element i) others
+  same-before : (t i : ℕ) (ns others : List (Mention Source)) → AreSameBut t ns others → suc i ≤ t → under (at_element i) ns
+      ≡ under (at_element i) others
   same-before t i ns others e h = e i (apart-elements t i (λ g. absurd (omega arith)))
 
   -- a change takes each table with the slots of these mentions to one with its fields and the slots of those
@@ -168,7 +174,8 @@ module _ (form : Form) where
       → (us : Slots) × (n ≡ table f us) × AreAllSlots others us
 
   -- one element changed
-  pub elements-change : (ns others : List (Mention Source)) (i j t : ℕ) (change : Node → Option Node) (more : List (Mention Source)) (xs ys : Items)
+  pub elements-change : (ns others : List (Mention Source)) (i j t : ℕ) (change : Node
+      → Option Node) (more : List (Mention Source)) (xs ys : Items)
       → t ≡ i + j → AreSameBut t ns others → ChangesTable change (under (at_element t) ns) (under (at_element t) others)
       → AreElementsOf form ns i more xs → change_item j change xs ≡ Some ys → AreElementsOf form others i more ys
   elements-change ns others i j t change more no_items ys is same goes h e = absurd cc
@@ -213,7 +220,8 @@ module _ (form : Form) where
   abbrev pub ChangesSlots : (Slots → Option Slots) → List (Mention Source) → List (Mention Source) → Type 0
   ChangesSlots change ms others = (ss us : Slots) → AreAllSlots ms ss → change ss ≡ Some us → AreAllSlots others us
 
-  pub elements-last : (ns others : List (Mention Source)) (i t : ℕ) (change : Slots → Option Slots) (more : List (Mention Source)) (xs ys : Items)
+  pub elements-last : (ns others : List (Mention Source)) (i t : ℕ) (change : Slots
+      → Option Slots) (more : List (Mention Source)) (xs ys : Items)
       → suc t ≡ i + length more → AreSameBut t ns others → ChangesSlots change (under (at_element t) ns) (under (at_element t) others)
       → AreElementsOf form ns i more xs → change_last change xs ≡ Some ys → AreElementsOf form others i more ys
   elements-last ns others i t change more no_items ys is same goes h e = absurd cc

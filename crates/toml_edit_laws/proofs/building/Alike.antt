@@ -4,14 +4,16 @@ use Rattle.std.specs.Prelude.{not, ◌&&◌, if◌then◌else◌, find, option_m
 use Rattle.toml_edit_model.specs.Mode.{Mode}
 use Rattle.toml_edit_model.specs.Text.{Text}
 use Rattle.toml_edit_model.specs.Syntax.{Segment, Frame, Value, Header, key_line, header}
-use Rattle.toml_edit_model.specs.Paths.{Path, same_path, to_key, Mention, Source, mention_of, next_start, line_mentions, elements_at, in_last, passing_role, header_mentions}
+use Rattle.toml_edit_model.specs.Paths.{Path, same_path, to_key, Mention, Source, mention_of, next_start, line_mentions, elements_at}
+use Rattle.toml_edit_model.specs.Paths.{in_last, passing_role, header_mentions}
 use Rattle.toml_edit_model.specs.Faults.{clash, first_clash}
 use Rattle.toml_edit_model.specs.Tree.{Node, nothing, leaf, list, inline, table, tables, Items, no_items, item, Slots, no_slots}
 use Rattle.toml_edit_model.specs.TreeOf.{spanned_in, key_at, key_extent, made_by_path}
 use Rattle.toml_edit_laws.specs.FlatTree.{with_slot}
 use Rattle.toml_edit_laws.specs.InlineTree.{node_at, with_node}
 use Rattle.toml_edit_laws.specs.TableTree.{change_last, extend_below, add_line, pass_below, open_table, open_element, add_header}
-use Rattle.toml_edit_laws.specs.TableClash.{extend_clash, line_clash, clash_in_last, pass_clash, table_clash, element_clash, header_clash, table_way_fault, table_way_faults}
+use Rattle.toml_edit_laws.specs.TableClash.{extend_clash, line_clash, clash_in_last, pass_clash, table_clash, element_clash, header_clash}
+use Rattle.toml_edit_laws.specs.TableClash.{table_way_fault, table_way_faults}
 use Rattle.toml_edit_laws.proofs.common.Tests.{and_right}
 use Rattle.toml_edit_laws.proofs.clashes.TableClash.{in_way, IsSameClash}
 use Rattle.toml_edit_laws.proofs.mentions.RoleTests.{is_through_role}
@@ -29,15 +31,18 @@ line_source path at headers f v end = record { start = at; headers = headers; pa
 abbrev pub header_source : Path → ℕ → ℕ → Header → Text → Source
 header_source path at headers h end = record { start = at; headers = headers; path = path; statement = header h end }
 
-header-clash-on : (is_array : Bool) (m : Mention Source) (source : Source) (arrays : List Path) (role : Role) (start : ℕ) (p : Path) (x : Segment) (rest : List Segment) (ss : Slots)
+header-clash-on : (is_array : Bool) (m : Mention Source) (source : Source) (arrays : List Path) (role : Role) (start : ℕ) (p : Path)
+    (x : Segment) (rest : List Segment) (ss : Slots)
     → header_clash is_array (m ∷ header_mentions source arrays role start p (x ∷ rest)) ss
     ≡ pass_clash m (header_clash is_array (header_mentions source arrays role start p (x ∷ rest))) (node_at m.segment.key ss)
 header-clash-on is_array m source arrays role start p x [] ss = refl
 header-clash-on is_array m source arrays role start p x (y ∷ rest) ss = refl
 
-change_last-same : (left right : Slots → Option Slots) (xs : Items) → ((us : Slots) → left us ≡ right us) → change_last left xs ≡ change_last right xs
+change_last-same : (left right : Slots → Option Slots) (xs : Items) → ((us : Slots) → left us ≡ right us) → change_last left xs
+    ≡ change_last right xs
 change_last-same left right no_items h = refl
-change_last-same left right (item (table f inner) no_items) h = ap (option_map (λ (changed : Slots). item (table f changed) no_items)) (h inner)
+change_last-same left right (item (table f inner) no_items) h =
+    ap (option_map (λ (changed : Slots). item (table f changed) no_items)) (h inner)
 change_last-same left right (item nothing no_items) h = refl
 change_last-same left right (item (leaf s x d) no_items) h = refl
 change_last-same left right (item (list f us) no_items) h = refl
@@ -79,7 +84,8 @@ off-through r header_role h = refl
 off-through r array_role h = refl
 off-through r value_role h = refl
 
-find-clash : (m : Mention Source) (ms : List (Mention Source)) (e : Mention Source) → find (clash may_meet m) ms ≡ Some e → is_through_role m.role ≡ false
+find-clash : (m : Mention Source) (ms : List (Mention Source)) (e : Mention Source) → find (clash may_meet m) ms ≡ Some e
+    → is_through_role m.role ≡ false
 find-clash m [] e h = absurd cc
 find-clash m (x ∷ ms) e h = by_clash (clash may_meet m x) refl h (find-clash m ms e)
   where
@@ -96,7 +102,8 @@ first-plain : (ms ns : List (Mention Source)) → IsPlainClash (first_clash may_
 first-plain ms [] = tt
 first-plain ms (m ∷ ns) = by_find (find (clash may_meet m) ms) refl (first-plain ms ns)
   where
-    by_find : (o : Option (Mention Source)) → find (clash may_meet m) ms ≡ o → IsPlainClash (first_clash may_meet ms ns) → IsPlainClash (first_clash may_meet ms (m ∷ ns))
+    by_find : (o : Option (Mention Source)) → find (clash may_meet m) ms ≡ o → IsPlainClash (first_clash may_meet ms ns)
+        → IsPlainClash (first_clash may_meet ms (m ∷ ns))
     by_find None h ih = rw h ih
     by_find (Some e) h ih = rw h (find-clash m ms e h)
 
@@ -130,10 +137,13 @@ module _ (mode : Mode) where
         right : Slots → Option Slots
         right = add_line mode (line_mentions plain (next_start start g) (to_key q g.key) (x ∷ rest)) n
 
-        by_node : (node : Option Node) → ((us : Slots) → left us ≡ right us) → extend_below mode m left ss node ≡ extend_below mode o right ss node
-        by_node None h = ap (option_map (λ (inner : Slots). with_slot ss (key_at (spanned_in mode) o) (table (made_by_path (spanned_in mode) true (key_extent (spanned_in mode) o)) inner))) (h no_slots)
+        by_node : (node : Option Node) → ((us : Slots) → left us ≡ right us) → extend_below mode m left ss node
+            ≡ extend_below mode o right ss node
+        by_node None h = ap (option_map (λ (inner : Slots). with_slot ss (key_at (spanned_in mode) o)
+            (table (made_by_path (spanned_in mode) true (key_extent (spanned_in mode) o)) inner))) (h no_slots)
         by_node (Some (table t inner)) h =
-            ap (λ us. if t.is_implicit then option_map (λ (changed : Slots). with_node g.key (table (record t { is_dotted = true }) changed) ss) us else None) (h inner)
+            ap (λ us. if t.is_implicit then option_map (λ (changed : Slots). with_node g.key (table (record t { is_dotted = true }) changed)
+            ss) us else None) (h inner)
         by_node (Some nothing) h = refl
         by_node (Some (leaf s y d)) h = refl
         by_node (Some (list t xs)) h = refl
@@ -185,7 +195,8 @@ module _ (mode : Mode) where
 
   -- ---- headers
 
-  header-on : (is_array : Bool) (m : Mention Source) (source : Source) (arrays : List Path) (role : Role) (start : ℕ) (p : Path) (x : Segment) (rest : List Segment) (ss : Slots)
+  header-on : (is_array : Bool) (m : Mention Source) (source : Source) (arrays : List Path) (role : Role) (start : ℕ) (p : Path)
+      (x : Segment) (rest : List Segment) (ss : Slots)
       → add_header mode is_array (m ∷ header_mentions source arrays role start p (x ∷ rest)) ss
       ≡ pass_below mode m (add_header mode is_array (header_mentions source arrays role start p (x ∷ rest))) ss (node_at m.segment.key ss)
   header-on is_array m source arrays role start p x [] ss = refl
@@ -241,12 +252,16 @@ module _ (mode : Mode) where
         right : Slots → Option Slots
         right = add_header mode is_array (header_mentions plain_header [] role (next_start start g) (to_key q g.key) (x ∷ rest))
 
-        by_node : (m : Mention Source) (left : Slots → Option Slots) → m.segment ≡ g → key_at (spanned_in mode) m ≡ key_at (spanned_in mode) o → m.start ≡ o.start
+        by_node : (m : Mention Source) (left : Slots → Option Slots) → m.segment ≡ g → key_at (spanned_in mode) m
+            ≡ key_at (spanned_in mode) o → m.start ≡ o.start
             → ((us : Slots) → left us ≡ right us) → (node : Option Node) → pass_below mode m left ss node ≡ pass_below mode o right ss node
         by_node m left e k t h None =
-            ap (option_map (λ (inner : Slots). with_slot ss (key_at (spanned_in mode) m) (table (made_by_path (spanned_in mode) false (key_extent (spanned_in mode) m)) inner))) (h no_slots)
-            ∙ ap (λ y. option_map (λ (inner : Slots). with_slot ss y (table (made_by_path (spanned_in mode) false (key_extent (spanned_in mode) m)) inner)) (right no_slots)) k
-            ∙ ap (λ y. option_map (λ (inner : Slots). with_slot ss (key_at (spanned_in mode) o) (table (made_by_path (spanned_in mode) false y) inner)) (right no_slots)) extents
+            ap (option_map (λ (inner : Slots). with_slot ss (key_at (spanned_in mode) m)
+            (table (made_by_path (spanned_in mode) false (key_extent (spanned_in mode) m)) inner))) (h no_slots)
+            ∙ ap (λ y. option_map (λ (inner : Slots). with_slot ss y
+            (table (made_by_path (spanned_in mode) false (key_extent (spanned_in mode) m)) inner)) (right no_slots)) k
+            ∙ ap (λ y. option_map (λ (inner : Slots). with_slot ss (key_at (spanned_in mode) o)
+            (table (made_by_path (spanned_in mode) false y) inner)) (right no_slots)) extents
           where
             extents : key_extent (spanned_in mode) m ≡ key_extent (spanned_in mode) o
             extents = cc
@@ -267,19 +282,23 @@ module _ (mode : Mode) where
             ∷ header_mentions a_header arrays role (next_start start g) (in_last n (to_key p g.key)) (x ∷ rest)
 
         by_count : (n : ℕ)
-            → ((r : Path) (us : Slots) → add_header mode is_array (header_mentions a_header arrays role (next_start start g) r (x ∷ rest)) us ≡ right us)
-            → add_header mode is_array (from_count n) ss ≡ add_header mode is_array (o ∷ header_mentions plain_header [] role (next_start start g) (to_key q g.key) (x ∷ rest)) ss
+            → ((r : Path) (us : Slots) → add_header mode is_array (header_mentions a_header arrays role (next_start start g) r (x ∷ rest))
+            us ≡ right us)
+            → add_header mode is_array (from_count n) ss ≡ add_header mode is_array (o
+            ∷ header_mentions plain_header [] role (next_start start g) (to_key q g.key) (x ∷ rest)) ss
         by_count zero ih =
             let m = mention_of a_header start (to_key p g.key) implied_role g in
             header-on is_array m a_header arrays role (next_start start g) (to_key p g.key) x rest ss
-            ∙ by_node m (add_header mode is_array (header_mentions a_header arrays role (next_start start g) (to_key p g.key) (x ∷ rest))) refl refl refl
+            ∙ by_node m (add_header mode is_array (header_mentions a_header arrays role (next_start start g) (to_key p g.key) (x ∷ rest)))
+            refl refl refl
             (ih (to_key p g.key)) (node_at g.key ss)
             ∙ sym (header-on is_array o plain_header [] role (next_start start g) (to_key q g.key) x rest ss)
         by_count (suc n) ih =
             let m = mention_of a_header start (to_key p g.key) continued_role g in
             let deeper = in_last (suc n) (to_key p g.key) in
             header-on is_array m a_header arrays role (next_start start g) deeper x rest ss
-            ∙ by_node m (add_header mode is_array (header_mentions a_header arrays role (next_start start g) deeper (x ∷ rest))) refl refl refl
+            ∙ by_node m (add_header mode is_array (header_mentions a_header arrays role (next_start start g) deeper (x ∷ rest))) refl refl
+            refl
             (ih deeper) (node_at g.key ss)
             ∙ sym (header-on is_array o plain_header [] role (next_start start g) (to_key q g.key) x rest ss)
 
@@ -313,7 +332,8 @@ module _ (mode : Mode) where
         by_table (Some (tables y xs)) = λ e. refl
         by_table (Some (table t us)) = by_plain (t.is_implicit && not t.is_dotted)
           where
-            by_plain : (b : Bool) → IsLikeClash (if b then None else Some (in_way m (table t us))) (if b then None else Some (in_way o (table t us)))
+            by_plain : (b : Bool) → IsLikeClash (if b then None else Some (in_way m (table t us))) (if b then None
+                else Some (in_way o (table t us)))
             by_plain true = tt
             by_plain false = λ e. refl
 
@@ -322,7 +342,8 @@ module _ (mode : Mode) where
         by_array true = by_element (node_at g.key ss)
         by_array false = by_table (node_at g.key ss)
     header_clash_alike arrays start p q (g ∷ x ∷ rest) ss =
-        by_count (elements_at arrays (to_key p g.key)) (λ r us. header_clash_alike arrays (next_start start g) r (to_key q g.key) (x ∷ rest) us)
+        by_count (elements_at arrays (to_key p g.key)) (λ r us. header_clash_alike arrays (next_start start g) r (to_key q g.key) (x
+        ∷ rest) us)
       where
         o : Mention Source
         o = mention_of plain_header start (to_key q g.key) implied_role g
@@ -332,10 +353,12 @@ module _ (mode : Mode) where
 
         by_node : (m : Mention Source) (left : Slots → Option (Mention Source × Node))
             → ((n : Node) → is_through_role m.role ≡ false → table_way_fault (in_way m n) ≡ table_way_fault (in_way o n))
-            → ((us : Slots) → IsLikeClash (left us) (right us)) → (node : Option Node) → IsLikeClash (pass_clash m left node) (pass_clash o right node)
+            → ((us : Slots) → IsLikeClash (left us) (right us)) → (node : Option Node)
+            → IsLikeClash (pass_clash m left node) (pass_clash o right node)
         by_node m left same h None = tt
         by_node m left same h (Some (table f inner)) = h inner
-        by_node m left same h (Some (tables y xs)) = last-like (in_way m (tables y xs)) (in_way o (tables y xs)) left right xs (same (tables y xs)) h
+        by_node m left same h (Some (tables y xs)) =
+            last-like (in_way m (tables y xs)) (in_way o (tables y xs)) left right xs (same (tables y xs)) h
         by_node m left same h (Some nothing) = same nothing
         by_node m left same h (Some (leaf s y d)) = same (leaf s y d)
         by_node m left same h (Some (list f xs)) = same (list f xs)
@@ -353,12 +376,14 @@ module _ (mode : Mode) where
         both l k r s e f h = subst (λ z. IsLikeClash z r) (sym e) (subst (IsLikeClash k) (sym f) h)
 
         by_count : (n : ℕ)
-            → ((r : Path) (us : Slots) → IsLikeClash (header_clash is_array (header_mentions a_header arrays role (next_start start g) r (x ∷ rest)) us) (right us))
+            → ((r : Path) (us : Slots) → IsLikeClash (header_clash is_array (header_mentions a_header arrays role (next_start start g) r (x
+            ∷ rest)) us) (right us))
             → IsLikeClash (header_clash is_array (from_count n) ss) (header_clash is_array plainly ss)
         by_count zero ih =
             let m = mention_of a_header start (to_key p g.key) implied_role g in
             let left = header_clash is_array (header_mentions a_header arrays role (next_start start g) (to_key p g.key) (x ∷ rest)) in
-            both (header_clash is_array (from_count zero) ss) (pass_clash m left (node_at g.key ss)) (header_clash is_array plainly ss) (pass_clash o right (node_at g.key ss))
+            both (header_clash is_array (from_count zero) ss) (pass_clash m left (node_at g.key ss)) (header_clash is_array plainly ss)
+            (pass_clash o right (node_at g.key ss))
             (header-clash-on is_array m a_header arrays role (next_start start g) (to_key p g.key) x rest ss)
             (header-clash-on is_array o plain_header [] role (next_start start g) (to_key q g.key) x rest ss)
             (by_node m left (λ n e. refl) (ih (to_key p g.key)) (node_at g.key ss))
@@ -366,7 +391,8 @@ module _ (mode : Mode) where
             let m = mention_of a_header start (to_key p g.key) continued_role g in
             let deeper = in_last (suc n) (to_key p g.key) in
             let left = header_clash is_array (header_mentions a_header arrays role (next_start start g) deeper (x ∷ rest)) in
-            both (header_clash is_array (from_count (suc n)) ss) (pass_clash m left (node_at g.key ss)) (header_clash is_array plainly ss) (pass_clash o right (node_at g.key ss))
+            both (header_clash is_array (from_count (suc n)) ss) (pass_clash m left (node_at g.key ss)) (header_clash is_array plainly ss)
+            (pass_clash o right (node_at g.key ss))
             (header-clash-on is_array m a_header arrays role (next_start start g) deeper x rest ss)
             (header-clash-on is_array o plain_header [] role (next_start start g) (to_key q g.key) x rest ss)
             (by_node m left (λ n e. absurd cc) (ih deeper) (node_at g.key ss))
@@ -374,11 +400,13 @@ module _ (mode : Mode) where
   -- ---- no clash is where a header goes on in an element
 
   -- Of clashes that are alike, one of which is with mentions, the faults are the same.
-  pub like_fault : (ms ns : List (Mention Source)) (o c : Option (Mention Source × Node)) → IsSameClash mode o (first_clash may_meet ms ns) → IsLikeClash o c
+  pub like_fault : (ms ns : List (Mention Source)) (o c : Option (Mention Source × Node)) → IsSameClash mode o (first_clash may_meet ms ns)
+      → IsLikeClash o c
       → table_way_faults o ≡ table_way_faults c
   like_fault ms ns o c same like = by_clash o c (first_clash may_meet ms ns) (first-plain ms ns) same like
     where
-      by_clash : (o c : Option (Mention Source × Node)) (d : Option (Mention Source × Mention Source)) → IsPlainClash d → IsSameClash mode o d → IsLikeClash o c
+      by_clash : (o c : Option (Mention Source × Node)) (d : Option (Mention Source × Mention Source)) → IsPlainClash d
+          → IsSameClash mode o d → IsLikeClash o c
           → table_way_faults o ≡ table_way_faults c
       by_clash None None d off same like = refl
       by_clash None (Some x) d off same like = absurd like

@@ -61,7 +61,8 @@ put-some put (tables e us) no_items = (tables e us, no_items, refl)
 put-some put (table f inner) no_items = (table f (put inner), no_items, refl)
 put-some put m (item x xs) = (m, put_last put (item x xs), refl)
 
-last-put-put : (one other both : Slots → Slots) → ((us : Slots) → one (other us) ≡ both us) → (xs : Items) → put_last one (put_last other xs) ≡ put_last both xs
+last-put-put : (one other both : Slots → Slots) → ((us : Slots) → one (other us) ≡ both us) → (xs : Items)
+    → put_last one (put_last other xs) ≡ put_last both xs
 last-put-put one other both h no_items = refl
 last-put-put one other both h (item nothing no_items) = refl
 last-put-put one other both h (item (leaf s x d) no_items) = refl
@@ -99,7 +100,8 @@ last-put-same put (item n (item m xs)) us h e = ap (item n) (last-put-same put (
 
 -- ---- an item
 
-in-put-put : (one other both : Slots → Slots) → ((us : Slots) → one (other us) ≡ both us) → (n : Node) → put_in one (put_in other n) ≡ put_in both n
+in-put-put : (one other both : Slots → Slots) → ((us : Slots) → one (other us) ≡ both us) → (n : Node) → put_in one (put_in other n)
+    ≡ put_in both n
 in-put-put one other both h nothing = refl
 in-put-put one other both h (leaf s x d) = refl
 in-put-put one other both h (list f us) = refl
@@ -130,9 +132,11 @@ in-put-same put (table f inner) us h e =
 -- The last slots that were put there stay.
 pub put_put : (ks : List Text) (x y ss : Slots) → put_along ks y (put_along ks x ss) ≡ put_along ks y ss
 put_put [] x y ss = refl
-put_put (k ∷ ks) x y ss = by_node (node_at k ss) refl (λ (n : Node). in-put-put (put_along ks y) (put_along ks x) (put_along ks y) (put_put ks x y) n)
+put_put (k ∷ ks) x y ss =
+    by_node (node_at k ss) refl (λ (n : Node). in-put-put (put_along ks y) (put_along ks x) (put_along ks y) (put_put ks x y) n)
   where
-    by_node : (o : Option Node) → node_at k ss ≡ o → ((n : Node) → put_in (put_along ks y) (put_in (put_along ks x) n) ≡ put_in (put_along ks y) n)
+    by_node : (o : Option Node) → node_at k ss ≡ o → ((n : Node) → put_in (put_along ks y) (put_in (put_along ks x) n)
+        ≡ put_in (put_along ks y) n)
         → put_along (k ∷ ks) y (put_under k (put_along ks x) ss o) ≡ put_under k (put_along ks y) ss o
     by_node None e h = ap (put_under k (put_along ks y) ss) e
     by_node (Some n) e h =

@@ -21,7 +21,8 @@ pub done_first : (d : Document) → AreDone (start_context d) []
 done_first d = record { table = table_start d; ready = ready_first d; clash = before_none d; block = tt }
 
 -- One more that agrees.
-pub done_next : (c : Context) (s : Statement) (ms : List (Mention Source)) → HasKey s → AreDone c ms → agree may_meet ms (mentions_of c s) ≡ true
+pub done_next : (c : Context) (s : Statement) (ms : List (Mention Source)) → HasKey s → AreDone c ms → agree may_meet ms (mentions_of c s)
+    ≡ true
     → AreDone (context_after c s) (ms ++ mentions_of c s)
 done_next c s ms keyed h e =
     record {

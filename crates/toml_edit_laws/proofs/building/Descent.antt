@@ -11,7 +11,8 @@ use Rattle.toml_edit_laws.proofs.common.OptionSteps.{bind_some, some-is, is_some
 
 -- ---- the last element
 
-pub last-change : (change : Slots → Option Slots) (put : Slots → Slots) (xs : Items) (us : Slots) → last_slots xs ≡ Some us → change us ≡ Some (put us)
+pub last-change : (change : Slots → Option Slots) (put : Slots → Slots) (xs : Items) (us : Slots) → last_slots xs ≡ Some us → change us
+    ≡ Some (put us)
     → change_last change xs ≡ Some (put_last put xs)
 last-change change put no_items us e h = absurd cc
 last-change change put (item (table f inner) no_items) us e h =
@@ -24,7 +25,8 @@ last-change change put (item (inline f ss) no_items) us e h = absurd cc
 last-change change put (item (tables f ss) no_items) us e h = absurd cc
 last-change change put (item n (item m xs)) us e h = ap (option_map (item n)) (last-change change put (item m xs) us e h)
 
-last-none : (change : Slots → Option Slots) (xs : Items) (us : Slots) → last_slots xs ≡ Some us → change us ≡ None → change_last change xs ≡ None
+last-none : (change : Slots → Option Slots) (xs : Items) (us : Slots) → last_slots xs ≡ Some us → change us ≡ None → change_last change xs
+    ≡ None
 last-none change no_items us e h = absurd cc
 last-none change (item (table f inner) no_items) us e h =
     let same : inner ≡ us = some-is inner us e in
@@ -38,7 +40,8 @@ last-none change (item n (item m xs)) us e h = ap (option_map (item n)) (last-no
 
 -- ---- an item
 
-in-change : (change : Slots → Option Slots) (put : Slots → Slots) (n : Node) (us : Slots) → block_slots n ≡ Some us → change us ≡ Some (put us)
+in-change : (change : Slots → Option Slots) (put : Slots → Slots) (n : Node) (us : Slots) → block_slots n ≡ Some us → change us
+    ≡ Some (put us)
     → change_in change n ≡ Some (put_in put n)
 in-change change put (table f inner) us e h =
     let same : inner ≡ us = some-is inner us e in
@@ -61,7 +64,8 @@ in-none change (inline f ss) us e h = absurd cc
 
 -- ---- a whole path
 
-pub along-some : (ks : List Text) (change : Slots → Option Slots) (new ss inner : Slots) → slots_along ks ss ≡ Some inner → change inner ≡ Some new
+pub along-some : (ks : List Text) (change : Slots → Option Slots) (new ss inner : Slots) → slots_along ks ss ≡ Some inner → change inner
+    ≡ Some new
     → change_along ks change ss ≡ Some (put_along ks new ss)
 along-some [] change new ss inner e h =
     let same : ss ≡ inner = some-is ss inner e in
@@ -70,7 +74,8 @@ along-some (k ∷ ks) change new ss inner e h =
     let (us, there, further) = bind_some (option_and_then block_slots (node_at k ss)) (slots_along ks) inner e in
     let (n, at, within) = bind_some (node_at k ss) block_slots us there in
     ap (option_and_then (λ (x : Node). option_map (λ (changed : Node). with_node k changed ss) (change_in (change_along ks change) x))) at
-    ∙ ap (option_map (λ (changed : Node). with_node k changed ss)) (in-change (change_along ks change) (put_along ks new) n us within (along-some ks change new us inner further h))
+    ∙ ap (option_map (λ (changed : Node). with_node k changed ss))
+    (in-change (change_along ks change) (put_along ks new) n us within (along-some ks change new us inner further h))
     ∙ sym (ap (λ (o : Option Node). Some (put_under k (put_along ks new) ss o)) at)
 
 along-none : (ks : List Text) (change : Slots → Option Slots) (ss inner : Slots) → slots_along ks ss ≡ Some inner → change inner ≡ None
@@ -82,7 +87,8 @@ along-none (k ∷ ks) change ss inner e h =
     let (us, there, further) = bind_some (option_and_then block_slots (node_at k ss)) (slots_along ks) inner e in
     let (n, at, within) = bind_some (node_at k ss) block_slots us there in
     ap (option_and_then (λ (x : Node). option_map (λ (changed : Node). with_node k changed ss) (change_in (change_along ks change) x))) at
-    ∙ ap (option_map (λ (changed : Node). with_node k changed ss)) (in-none (change_along ks change) n us within (along-none ks change us inner further h))
+    ∙ ap (option_map (λ (changed : Node). with_node k changed ss))
+    (in-none (change_along ks change) n us within (along-none ks change us inner further h))
 
 -- A change of the slots at some keys is the change of what is there, put back.
 pub along_lens : (ks : List Text) (change : Slots → Option Slots) (ss inner : Slots) → slots_along ks ss ≡ Some inner
@@ -95,4 +101,5 @@ along_lens ks change ss inner e = by_change (change inner) refl
 
 pub along_goes : (ks : List Text) (change : Slots → Option Slots) (ss inner : Slots) → slots_along ks ss ≡ Some inner
     → is_some (change_along ks change ss) ≡ is_some (change inner)
-along_goes ks change ss inner e = ap is_some (along_lens ks change ss inner e) ∙ is_some-map (λ (new : Slots). put_along ks new ss) (change inner)
+along_goes ks change ss inner e = ap is_some (along_lens ks change ss inner e)
+    ∙ is_some-map (λ (new : Slots). put_along ks new ss) (change inner)

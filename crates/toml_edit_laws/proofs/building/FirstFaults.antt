@@ -29,7 +29,8 @@ faultless earlier s none =
     let clash = first_clash may_meet (mentions_in earlier) s.mentions in
     and_both (is_sound s.source.statement) (list_all (λ (e : Placed). agree may_meet e.mentions s.mentions) earlier)
     (sound-of-none s.source.start s.source.statement (left-empty own (statement_clash clash) none))
-    (agree-each earlier s.mentions ∙ agree-clash may_meet (mentions_in earlier) s.mentions ∙ no-clash clash (right-empty own (statement_clash clash) none))
+    (agree-each earlier s.mentions ∙ agree-clash may_meet (mentions_in earlier) s.mentions
+    ∙ no-clash clash (right-empty own (statement_clash clash) none))
   where
     no-clash : (o : Option (Mention Source × Mention Source)) → statement_clash o ≡ [] → is_none o ≡ true
     no-clash None h = refl
@@ -43,10 +44,12 @@ has-fault earlier s wrong = by_faults (faults_in earlier s) refl
     by_faults [] e = true-false (is_right_after earlier s) (faultless earlier s e) wrong
     by_faults (f ∷ fs) e = (f, fs, e)
 
-some-fault : (d : Document) (earlier : List Placed) (s : Placed) → IsFirstFaulty d earlier s → (f : Fault) × (fs : List Fault) × (faults_in earlier s ≡ f ∷ fs)
+some-fault : (d : Document) (earlier : List Placed) (s : Placed) → IsFirstFaulty d earlier s → (f : Fault) × (fs : List Fault)
+    × (faults_in earlier s ≡ f ∷ fs)
 some-fault d earlier s first = has-fault earlier s (wrong_here v1_1 earlier s first.right first.faulty)
 
-faults-are : (d : Document) (earlier : List Placed) (s : Placed) → IsFirstFaulty d earlier s → first_faults [] (placed d) ≡ faults_in earlier s
+faults-are : (d : Document) (earlier : List Placed) (s : Placed) → IsFirstFaulty d earlier s → first_faults [] (placed d)
+    ≡ faults_in earlier s
 faults-are d earlier s first =
     let (f, fs, e) = some-fault d earlier s first in
     ap (first_faults []) first.split
@@ -67,7 +70,13 @@ named-to d f has =
       | inl e ↦ elim (subst (Among f) (none-first d e) (from-contained f (first_faults [] (placed d)) has)) [ ]
       | inr e ↦
           let (earlier, s, first) = (first_faulty_laws v1_1 d).some e in
-          record { earlier = earlier; statement = s; first = first; stands = subst (λ fs. Contains fs f) (faults-are d earlier s first) has }
+          record {
+            earlier = earlier;
+            statement = s;
+            first = first;
+            stands =
+                subst (λ fs. Contains fs f) (faults-are d earlier s first) has;
+          }
     ]
 
 named-of : (d : Document) (f : Fault) → IsFirstFault d f → Contains (first_faults [] (placed d)) f
@@ -78,6 +87,7 @@ pub faults_of_first : FaultsOfFirst
 faults_of_first d =
     record {
       faults = faults-are d;
-      some = λ earlier s first. let (f, fs, e) = some-fault d earlier s first in (f, to-contained f (faults_in earlier s) (subst (Among f) (sym e) (inl refl)));
+      some = λ earlier s first. let (f, fs, e) = some-fault d earlier s first in
+          (f, to-contained f (faults_in earlier s) (subst (Among f) (sym e) (inl refl)));
       named = λ f. (named-to d f, named-of d f);
     }

@@ -13,7 +13,8 @@ use Rattle.toml_edit_model.specs.TreeOf.{spanned_in, IsTreeOf}
 use Rattle.toml_edit_laws.specs.OneByOne.{is_right_after, all_right_after}
 use Rattle.toml_edit_laws.specs.TableTree.{add_statement}
 use Rattle.toml_edit_laws.specs.TableClash.{table_way_fault, table_way_faults}
-use Rattle.toml_edit_laws.specs.Building.{slots_along, context_behind, done_places, next_place, Builder, added, clash_at, faults_at, behind, built_tree, IsStatementNode, IsBehind, Stops, IsStep, Building}
+use Rattle.toml_edit_laws.specs.Building.{slots_along, context_behind, done_places, next_place, Builder, added, clash_at, faults_at, behind}
+use Rattle.toml_edit_laws.specs.Building.{built_tree, IsStatementNode, IsBehind, Stops, IsStep, Building}
 use Rattle.toml_edit_laws.proofs.common.Tests.{and_both, and-true}
 use Rattle.std.proofs.Math.Bool.{and-false}
 use Rattle.toml_edit_laws.proofs.common.Members.{Among, among-left, among-right, from-contained, to-contained}
@@ -42,7 +43,8 @@ keyed-back (x ∷ xs) ys h = keyed-back xs ys h.1
 
 -- ---- one step
 
-key-of : (d : Document) (done : List Statement) (s : Statement) (rest : List Statement) → AllByRecursion HasKey d.statements → d.statements ≡ done ++ (s ∷ rest) → HasKey s
+key-of : (d : Document) (done : List Statement) (s : Statement) (rest : List Statement) → AllByRecursion HasKey d.statements → d.statements
+    ≡ done ++ (s ∷ rest) → HasKey s
 key-of d done s rest keyed is = (keyed-back done (s ∷ rest) (subst (AllByRecursion HasKey) is keyed)).0
 
 none-not : {A : Type 0} (o : Option A) → is_none o ≡ not (is_some o)
@@ -61,7 +63,8 @@ unsound start s f among = by_sound (is_sound s) refl
     by_sound false e = refl
 
 module _ (mode : Mode) where
-  conditions : (d : Document) (done : List Statement) (s : Statement) (rest : List Statement) → AllByRecursion HasKey d.statements → d.statements ≡ done ++ (s ∷ rest)
+  conditions : (d : Document) (done : List Statement) (s : Statement) (rest : List Statement) → AllByRecursion HasKey d.statements
+      → d.statements ≡ done ++ (s ∷ rest)
       → (b : Builder) → IsBehind mode d done b → AreDone (context_behind d done) (mentions_in (done_places d done))
   conditions d done s rest keyed is b h = done_all d done (keyed-front done (s ∷ rest) (subst (AllByRecursion HasKey) is keyed)) h.right
 
@@ -74,11 +77,13 @@ module _ (mode : Mode) where
       → is_right_after (done_places d done) (next_place d done s)
       ≡ (is_sound s && agree may_meet (mentions_in (done_places d done)) (mentions_of (context_behind d done) s))
   right-is d done s =
-      ap (λ t. is_sound t && list_all (λ (e : Placed). agree may_meet e.mentions (mentions_of (context_behind d done) s)) (done_places d done))
+      ap (λ t. is_sound t && list_all (λ (e : Placed). agree may_meet e.mentions (mentions_of (context_behind d done) s))
+      (done_places d done))
       (its-statement (context_behind d done) s)
       ∙ ap (λ b. is_sound s && b) (agree-each (done_places d done) (mentions_of (context_behind d done) s))
 
-  module _ (d : Document) (done : List Statement) (s : Statement) (rest : List Statement) (keyed : AllByRecursion HasKey d.statements) (is : d.statements ≡ done ++ (s ∷ rest)) (b : Builder) (behind_done : IsBehind mode d done b) where
+  module _ (d : Document) (done : List Statement) (s : Statement) (rest : List Statement) (keyed : AllByRecursion HasKey d.statements)
+      (is : d.statements ≡ done ++ (s ∷ rest)) (b : Builder) (behind_done : IsBehind mode d done b) where
     -- the context, and the mentions up to here
     abbrev c : Context
     c = context_behind d done
@@ -104,10 +109,12 @@ module _ (mode : Mode) where
 
     here-agrees : agree may_meet ms (mentions_of c s) ≡ is_none (clash_at b s)
     here-agrees =
-        statement_agrees mode c s ms b.slots are-done behind_done.slots ∙ sym (none-by-faults (clash_at b s) (statement_clash c s b.slots) here-clash)
+        statement_agrees mode c s ms b.slots are-done behind_done.slots
+        ∙ sym (none-by-faults (clash_at b s) (statement_clash c s b.slots) here-clash)
 
     -- a wrong statement stops it
-    stopped : (f : Fault) → is_right_after (done_places d done) (next_place d done s) ≡ false → Among f (faults-here d done s b.slots) → Stops d done s f
+    stopped : (f : Fault) → is_right_after (done_places d done) (next_place d done s) ≡ false → Among f (faults-here d done s b.slots)
+        → Stops d done s f
     stopped f wrong among =
         let faults = statement_fault mode c s (done_places d done) b.slots are-done behind_done.slots in
         let found = stops d done s rest f is behind_done.right wrong (subst (Among f) (sym faults) among) in
@@ -124,7 +131,8 @@ module _ (mode : Mode) where
 
     own-stops : (f : Fault) → Contains (own_faults b.start s) f → Stops d done s f
     own-stops f has =
-        let among : Among f (own_faults c.start s) = subst (λ n. Among f (own_faults n s)) behind_done.start (from-contained f (own_faults b.start s) has) in
+        let among : Among f (own_faults c.start s) =
+        subst (λ n. Among f (own_faults n s)) behind_done.start (from-contained f (own_faults b.start s) has) in
         stopped f
         (right-is d done s ∙ ap (λ x. x && agree may_meet ms (mentions_of c s)) (unsound c.start s f among))
         (among-left f (own_faults c.start s) (table_way_faults (statement_clash c s b.slots)) among)
@@ -153,14 +161,18 @@ module _ (mode : Mode) where
     goes-on n =
         ap is_some (here-added n) ∙ statement_goes mode c s ms n b.slots has-key are-done behind_done.slots ∙ here-agrees
 
-    keeps-behind : (n : Node) (next : Slots) → own_faults b.start s ≡ [] → IsStatementNode mode b.start s n → added mode b s n ≡ Some next → IsBehind mode d (done ++ one s) (behind b s next)
+    keeps-behind : (n : Node) (next : Slots) → own_faults b.start s ≡ [] → IsStatementNode mode b.start s n → added mode b s n ≡ Some next
+        → IsBehind mode d (done ++ one s) (behind b s next)
     keeps-behind n next faultless value e =
         let sound : is_sound s ≡ true = sound-of-none b.start s faultless in
         let into : add_statement mode c s n b.slots ≡ Some next = sym (here-added n) ∙ e in
-        let agreed : agree may_meet ms (mentions_of c s) ≡ true = sym (statement_goes mode c s ms n b.slots has-key are-done behind_done.slots) ∙ ap is_some into in
-        let right : is_right_after (done_places d done) (next_place d done s) ≡ true = right-is d done s ∙ and_both (is_sound s) (agree may_meet ms (mentions_of c s)) sound agreed in
+        let agreed : agree may_meet ms (mentions_of c s) ≡ true =
+        sym (statement_goes mode c s ms n b.slots has-key are-done behind_done.slots) ∙ ap is_some into in
+        let right : is_right_after (done_places d done) (next_place d done s) ≡ true = right-is d done s
+        ∙ and_both (is_sound s) (agree may_meet ms (mentions_of c s)) sound agreed in
         let node = node-in mode c s n (subst (λ x. IsStatementNode mode x s n) behind_done.start value) in
-        let slots : AreAllSlots mode (ms ++ mentions_of c s) next = statement_added mode c s ms n b.slots next are-done node behind_done.slots into in
+        let slots : AreAllSlots mode (ms ++ mentions_of c s) next =
+        statement_added mode c s ms n b.slots next are-done node behind_done.slots into in
         let after : IsIn (context_behind d (done ++ one s)) (behind b s next) =
         subst (λ k. IsIn k (behind b s next)) (sym (context-more (start_context d) done s))
         (in-next c s b next (record { start = behind_done.start; headers = behind_done.headers; block = behind_done.block })) in
@@ -179,7 +191,9 @@ module _ (mode : Mode) where
 
   -- ---- a document
 
-  pub one-step : (d : Document) → AllByRecursion HasKey d.statements → (done : List Statement) (s : Statement) (rest : List Statement) (b : Builder) → d.statements ≡ done ++ (s ∷ rest) → IsBehind mode d done b
+  pub one-step : (d : Document) → AllByRecursion HasKey d.statements
+      → (done : List Statement) (s : Statement) (rest : List Statement) (b : Builder) → d.statements ≡ done ++ (s ∷ rest)
+      → IsBehind mode d done b
       → IsStep mode d done s b
   one-step d keyed done s rest b is h =
       record {
@@ -190,7 +204,8 @@ module _ (mode : Mode) where
         keeps = keeps-behind d done s rest keyed is b h;
       }
 
-  pub all-behind : (d : Document) (b : Builder) → IsBehind mode d d.statements b → (is_accepted d ≡ true) × IsTreeOf (spanned_in mode) d (built_tree mode d b)
+  pub all-behind : (d : Document) (b : Builder) → IsBehind mode d d.statements b → (is_accepted d ≡ true)
+      × IsTreeOf (spanned_in mode) d (built_tree mode d b)
   all-behind d b h = (right-accepted d h.right, record { root = refl; slots = h.slots; trailing = refl })
 
   -- Building stops exactly at the first faulty statement, and else gives the tree of the text.

@@ -9,13 +9,15 @@ use Rattle.toml_edit_laws.specs.AddPath.{AreMentionsOf}
 pub line-mentions : (s : Source) (start : ℕ) (above : Path) (p : List Segment) → AreMentionsOf s start p (line_mentions s start above p)
 line-mentions s start above [] = tt
 line-mentions s start above (g ∷ []) = ((refl, refl, refl), refl, refl)
-line-mentions s start above (g ∷ h ∷ p) = ((refl, refl, refl), refl, refl, line-mentions s (next_start start g) (to_key above g.key) (h ∷ p))
+line-mentions s start above (g ∷ h ∷ p) =
+    ((refl, refl, refl), refl, refl, line-mentions s (next_start start g) (to_key above g.key) (h ∷ p))
 
 last-role : (s : Source) (role : Role) (start : ℕ) (above : Path) (p : List Segment) → ends_path role ≡ true → extends role ≡ false
     → AreMentionsOf s start p (header_mentions s [] role start above p)
 last-role s role start above [] e f = tt
 last-role s role start above (g ∷ []) e f = ((refl, refl, refl), e, f)
-last-role s role start above (g ∷ h ∷ p) e f = ((refl, refl, refl), refl, refl, last-role s role (next_start start g) (to_key above g.key) (h ∷ p) e f)
+last-role s role start above (g ∷ h ∷ p) e f =
+    ((refl, refl, refl), refl, refl, last-role s role (next_start start g) (to_key above g.key) (h ∷ p) e f)
 
 -- those of a header without the numbers of elements in their paths
 pub header-mentions : (s : Source) (h : Header) (start : ℕ) (above : Path) (p : List Segment)

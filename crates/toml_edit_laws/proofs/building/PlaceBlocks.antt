@@ -1,4 +1,5 @@
--- The slots of the table of a block, taken out of slots that are put in order, and put into them; and what stands in the way of a path there.
+-- The slots of the table of a block, taken out of slots that are put in order, and put into them; and what stands in the way of a path
+-- there.
 use Rattle.std.proofs.Common.{◌≡◌, ℕ, Bool, true, false, refl, sym, ◌∙◌, ap, subst, List, [], ◌∷◌, Option, Some, None}
 use Rattle.std.specs.Prelude.{not, ◌&&◌, if◌then◌else◌, option_map, option_and_then}
 use Rattle.toml_edit_model.specs.Text.{Text}
@@ -8,7 +9,8 @@ use Rattle.toml_edit_model.specs.Tree.{Node, nothing, leaf, list, inline, table,
 use Rattle.toml_edit_laws.specs.InlineTree.{node_at, with_node}
 use Rattle.toml_edit_laws.specs.TableClash.{extend_clash, pass_clash, clash_in_last, line_clash, header_clash, table_way_fault}
 use Rattle.toml_edit_laws.specs.Building.{last_slots, block_slots, slots_along}
-use Rattle.toml_edit_laws.specs.AddPath.{Addition, a_value, a_table, an_element, path_clash, clash_inside, last_key_clash, put_last, put_in, put_under, put_along}
+use Rattle.toml_edit_laws.specs.AddPath.{Addition, a_value, a_table, an_element, path_clash, clash_inside, last_key_clash, put_last, put_in}
+use Rattle.toml_edit_laws.specs.AddPath.{put_under, put_along}
 use Rattle.toml_edit_laws.specs.PlaceOrder.{node_by_place, items_by_place, slots_by_place, NodeIsPlaced, ItemsArePlaced, ArePlaced}
 use Rattle.toml_edit_laws.proofs.common.OptionSteps.{bind_some, some-is}
 use Rattle.toml_edit_laws.proofs.building.OneKey.{last-clash, there-clash}
@@ -57,19 +59,22 @@ in-is-placed end (tables x xs) us e p = last-is-placed end xs us e p
 -- ---- along the keys of a block
 
 -- The slots at some keys, in order, are those there where all are put in order.
-pub along_in_order : (ks : List Text) (end : ℕ) (ss : Slots) → ArePlaced end ss → slots_along ks (slots_by_place ss) ≡ option_map slots_by_place (slots_along ks ss)
+pub along_in_order : (ks : List Text) (end : ℕ) (ss : Slots) → ArePlaced end ss → slots_along ks (slots_by_place ss)
+    ≡ option_map slots_by_place (slots_along ks ss)
 along_in_order [] end ss p = refl
 along_in_order (k ∷ ks) end ss p =
     ap (λ (o : Option Node). option_and_then (slots_along ks) (option_and_then block_slots o)) (node-order end k ss p)
     ∙ by_node (node_at k ss) (λ n at us e. along_in_order ks end us (in-is-placed end n us e (found-placed end k ss n at p)))
   where
-    by_slots : (o : Option Slots) → ((us : Slots) → o ≡ Some us → slots_along ks (slots_by_place us) ≡ option_map slots_by_place (slots_along ks us))
+    by_slots : (o : Option Slots) → ((us : Slots) → o ≡ Some us → slots_along ks (slots_by_place us)
+        ≡ option_map slots_by_place (slots_along ks us))
         → option_and_then (slots_along ks) (option_map slots_by_place o) ≡ option_map slots_by_place (option_and_then (slots_along ks) o)
     by_slots None h = refl
     by_slots (Some us) h = h us refl
 
     by_node : (o : Option Node)
-        → ((n : Node) → o ≡ Some n → (us : Slots) → block_slots n ≡ Some us → slots_along ks (slots_by_place us) ≡ option_map slots_by_place (slots_along ks us))
+        → ((n : Node) → o ≡ Some n → (us : Slots) → block_slots n ≡ Some us → slots_along ks (slots_by_place us)
+        ≡ option_map slots_by_place (slots_along ks us))
         → option_and_then (slots_along ks) (option_and_then block_slots (option_map node_by_place o))
         ≡ option_map slots_by_place (option_and_then (slots_along ks) (option_and_then block_slots o))
     by_node None h = refl
@@ -85,7 +90,8 @@ along_placed (k ∷ ks) end ss us e p =
 
 -- ---- others put there
 
-last-put-order : (moving put : Slots → Slots) (end : ℕ) (xs : Items) → ((us : Slots) → ArePlaced end us → moving (slots_by_place us) ≡ slots_by_place (put us))
+last-put-order : (moving put : Slots → Slots) (end : ℕ) (xs : Items)
+    → ((us : Slots) → ArePlaced end us → moving (slots_by_place us) ≡ slots_by_place (put us))
     → ItemsArePlaced end xs → put_last moving (items_by_place xs) ≡ items_by_place (put_last put xs)
 last-put-order moving put end no_items h p = refl
 last-put-order moving put end (item nothing no_items) h p = refl
@@ -96,7 +102,8 @@ last-put-order moving put end (item (tables e ys) no_items) h p = refl
 last-put-order moving put end (item (table f us) no_items) h p = ap (λ (vs : Slots). item (table f vs) no_items) (h us p.0)
 last-put-order moving put end (item n (item m xs)) h p = ap (item (node_by_place n)) (last-put-order moving put end (item m xs) h p.1)
 
-in-put-order : (moving put : Slots → Slots) (end : ℕ) (n : Node) → ((us : Slots) → ArePlaced end us → moving (slots_by_place us) ≡ slots_by_place (put us))
+in-put-order : (moving put : Slots → Slots) (end : ℕ) (n : Node)
+    → ((us : Slots) → ArePlaced end us → moving (slots_by_place us) ≡ slots_by_place (put us))
     → NodeIsPlaced end n → put_in moving (node_by_place n) ≡ node_by_place (put_in put n)
 in-put-order moving put end nothing h p = refl
 in-put-order moving put end (leaf s x d) h p = refl
@@ -105,7 +112,8 @@ in-put-order moving put end (inline f us) h p = refl
 in-put-order moving put end (table f us) h p = ap (table f) (h us p)
 in-put-order moving put end (tables e xs) h p = ap (tables e) (last-put-order moving put end xs h p)
 
-last-put-placed : (put : Slots → Slots) (end : ℕ) (xs : Items) → ((us : Slots) → ArePlaced end us → ArePlaced end (put us)) → ItemsArePlaced end xs
+last-put-placed : (put : Slots → Slots) (end : ℕ) (xs : Items) → ((us : Slots) → ArePlaced end us → ArePlaced end (put us))
+    → ItemsArePlaced end xs
     → ItemsArePlaced end (put_last put xs)
 last-put-placed put end no_items h p = tt
 last-put-placed put end (item nothing no_items) h p = p
@@ -135,7 +143,8 @@ put_in_order (k ∷ ks) end new ss p =
   where
     by_node : (o : Option Node) → node_at k ss ≡ o
         → ((us : Slots) → ArePlaced end us → put_along ks (slots_by_place new) (slots_by_place us) ≡ slots_by_place (put_along ks new us))
-        → put_under k (put_along ks (slots_by_place new)) (slots_by_place ss) (option_map node_by_place o) ≡ slots_by_place (put_under k (put_along ks new) ss o)
+        → put_under k (put_along ks (slots_by_place new)) (slots_by_place ss) (option_map node_by_place o)
+        ≡ slots_by_place (put_under k (put_along ks new) ss o)
     by_node None at h = refl
     by_node (Some n) at h =
         ap (λ (m : Node). with_node k m (slots_by_place ss))
@@ -168,13 +177,15 @@ way-same m (tables e xs) = refl
 some-way : (m : Mention Source) (n : Node) → fault_of (Some (m, node_by_place n)) ≡ fault_of (Some (m, n))
 some-way m n = ap (λ (f : Fault). Some f) (way-same m n)
 
-last-way : (a : Addition) (m : Mention Source) (o : Option Node) → fault_of (last_key_clash a m (option_map node_by_place o)) ≡ fault_of (last_key_clash a m o)
+last-way : (a : Addition) (m : Mention Source) (o : Option Node) → fault_of (last_key_clash a m (option_map node_by_place o))
+    ≡ fault_of (last_key_clash a m o)
 last-way (a_value x) m None = refl
 last-way (a_value x) m (Some n) = some-way m n
 last-way a_table m None = refl
 last-way a_table m (Some (table f us)) = by_role (f.is_implicit && not f.is_dotted)
   where
-    by_role : (b : Bool) → fault_of (if b then None else Some (m, table f (slots_by_place us))) ≡ fault_of (if b then None else Some (m, table f us))
+    by_role : (b : Bool) → fault_of (if b then None else Some (m, table f (slots_by_place us)))
+        ≡ fault_of (if b then None else Some (m, table f us))
     by_role true = refl
     by_role false = refl
 last-way a_table m (Some nothing) = refl
@@ -194,7 +205,8 @@ last-way an_element m (Some (table f us)) = refl
 abbrev HasSameFault : ℕ → (Slots → Option (Mention Source × Node)) → Type 0
 HasSameFault end further = (us : Slots) → ArePlaced end us → fault_of (further (slots_by_place us)) ≡ fault_of (further us)
 
-extend-way : (end : ℕ) (m : Mention Source) (further : Slots → Option (Mention Source × Node)) (n : Node) → HasSameFault end further → NodeIsPlaced end n
+extend-way : (end : ℕ) (m : Mention Source) (further : Slots → Option (Mention Source × Node)) (n : Node) → HasSameFault end further
+    → NodeIsPlaced end n
     → fault_of (extend_clash m further (Some (node_by_place n))) ≡ fault_of (extend_clash m further (Some n))
 extend-way end m further nothing h p = refl
 extend-way end m further (leaf s x d) h p = refl
@@ -203,12 +215,15 @@ extend-way end m further (inline f us) h p = refl
 extend-way end m further (tables e xs) h p = refl
 extend-way end m further (table f us) h p = by_implicit f.is_implicit
   where
-    by_implicit : (b : Bool) → fault_of (if b then further (slots_by_place us) else Some (m, table f (slots_by_place us))) ≡ fault_of (if b then further us else Some (m, table f us))
+    by_implicit : (b : Bool) → fault_of (if b then further (slots_by_place us) else Some (m, table f (slots_by_place us)))
+        ≡ fault_of (if b then further us else Some (m, table f us))
     by_implicit true = h us p
     by_implicit false = refl
 
-items-way : (end : ℕ) (way other : Mention Source × Node) (further : Slots → Option (Mention Source × Node)) (xs : Items) → table_way_fault way ≡ table_way_fault other
-    → HasSameFault end further → ItemsArePlaced end xs → fault_of (clash_in_last way further (items_by_place xs)) ≡ fault_of (clash_in_last other further xs)
+items-way : (end : ℕ) (way other : Mention Source × Node) (further : Slots → Option (Mention Source × Node)) (xs : Items)
+    → table_way_fault way ≡ table_way_fault other
+    → HasSameFault end further → ItemsArePlaced end xs → fault_of (clash_in_last way further (items_by_place xs))
+    ≡ fault_of (clash_in_last other further xs)
 items-way end way other further no_items e h p = ap (λ (f : Fault). Some f) e
 items-way end way other further (item nothing no_items) e h p = ap (λ (f : Fault). Some f) e
 items-way end way other further (item (leaf s x d) no_items) e h p = ap (λ (f : Fault). Some f) e
@@ -218,7 +233,8 @@ items-way end way other further (item (tables x ys) no_items) e h p = ap (λ (f 
 items-way end way other further (item (table f us) no_items) e h p = h us p.0
 items-way end way other further (item n (item m xs)) e h p = items-way end way other further (item m xs) e h p.1
 
-pass-way : (end : ℕ) (m : Mention Source) (further : Slots → Option (Mention Source × Node)) (n : Node) → HasSameFault end further → NodeIsPlaced end n
+pass-way : (end : ℕ) (m : Mention Source) (further : Slots → Option (Mention Source × Node)) (n : Node) → HasSameFault end further
+    → NodeIsPlaced end n
     → fault_of (pass_clash m further (Some (node_by_place n))) ≡ fault_of (pass_clash m further (Some n))
 pass-way end m further nothing h p = refl
 pass-way end m further (leaf s x d) h p = refl
@@ -227,14 +243,16 @@ pass-way end m further (inline f us) h p = refl
 pass-way end m further (table f us) h p = h us p
 pass-way end m further (tables e xs) h p = items-way end (m, tables e (items_by_place xs)) (m, tables e xs) further xs refl h p
 
-inside-way : (a : Addition) (end : ℕ) (m : Mention Source) (further : Slots → Option (Mention Source × Node)) (n : Node) → HasSameFault end further → NodeIsPlaced end n
+inside-way : (a : Addition) (end : ℕ) (m : Mention Source) (further : Slots → Option (Mention Source × Node)) (n : Node)
+    → HasSameFault end further → NodeIsPlaced end n
     → fault_of (clash_inside a m further (node_by_place n)) ≡ fault_of (clash_inside a m further n)
 inside-way (a_value x) end m further n h p = extend-way end m further n h p
 inside-way a_table end m further n h p = pass-way end m further n h p
 inside-way an_element end m further n h p = pass-way end m further n h p
 
 -- where the first key is new nothing is in the way
-none-clash : (a : Addition) (m r : Mention Source) (rest : List (Mention Source)) (ss : Slots) → node_at m.segment.key ss ≡ None → path_clash a (m ∷ r ∷ rest) ss ≡ None
+none-clash : (a : Addition) (m r : Mention Source) (rest : List (Mention Source)) (ss : Slots) → node_at m.segment.key ss ≡ None
+    → path_clash a (m ∷ r ∷ rest) ss ≡ None
 none-clash (a_value n) m r rest ss e = ap (extend_clash m (line_clash (r ∷ rest))) e
 none-clash a_table m r rest ss e = ap (pass_clash m (header_clash false (r ∷ rest))) e
 none-clash an_element m r rest ss e = ap (pass_clash m (header_clash true (r ∷ rest))) e
@@ -260,6 +278,7 @@ clashes_in_order a (m ∷ r ∷ rest) end ss p = by_node (node_at m.segment.key 
         ap fault_of (none-clash a m r rest (slots_by_place ss) (node-order end m.segment.key ss p ∙ ap (option_map node_by_place) at))
         ∙ sym (ap fault_of (none-clash a m r rest ss at))
     by_node (Some old) at h =
-        ap fault_of (there-clash a m r rest (slots_by_place ss) (node_by_place old) (node-order end m.segment.key ss p ∙ ap (option_map node_by_place) at))
+        ap fault_of (there-clash a m r rest (slots_by_place ss) (node_by_place old) (node-order end m.segment.key ss p
+        ∙ ap (option_map node_by_place) at))
         ∙ inside-way a end m (path_clash a (r ∷ rest)) old h (found-placed end m.segment.key ss old at p)
         ∙ sym (ap fault_of (there-clash a m r rest ss old at))

@@ -35,7 +35,8 @@ key-into : (t : Text) (k : Key) (n : Node) (ss : Slots) → has_key t (slot_by_p
 key-into t k n no_slots = refl
 key-into t k n (slot l m ss) =
     elim (cases_Bool (nat_lt (key_place l) (key_place k))) [
-      | inl less ↦ rw less (ap (λ (b : Bool). same_text t l.name || b) (key-into t k n ss) ∙ or-swap (same_text t l.name) (same_text t k.name) (has_key t ss))
+      | inl less ↦ rw less (ap (λ (b : Bool). same_text t l.name || b) (key-into t k n ss)
+          ∙ or-swap (same_text t l.name) (same_text t k.name) (has_key t ss))
       | inr more ↦ rw more refl
     ]
 
@@ -50,7 +51,8 @@ other-name t u v apart same = same_text-swap t u ∙ (ap (same_text u) (same_tex
 
 -- ---- the item of a key
 
-node-into : (t : Text) (k : Key) (n : Node) (ss : Slots) → has_key k.name ss ≡ false → node_at t (slot_by_place k n ss) ≡ node_at t (slot k n ss)
+node-into : (t : Text) (k : Key) (n : Node) (ss : Slots) → has_key k.name ss ≡ false → node_at t (slot_by_place k n ss)
+    ≡ node_at t (slot k n ss)
 node-into t k n no_slots apart = refl
 node-into t k n (slot l m ss) apart =
     elim (cases_Bool (nat_lt (key_place l) (key_place k))) [
@@ -61,7 +63,8 @@ node-into t k n (slot l m ss) apart =
       | inr more ↦ rw more refl
     ]
 
-pub node-order : (end : ℕ) (t : Text) (ss : Slots) → ArePlaced end ss → node_at t (slots_by_place ss) ≡ option_map node_by_place (node_at t ss)
+pub node-order : (end : ℕ) (t : Text) (ss : Slots) → ArePlaced end ss → node_at t (slots_by_place ss)
+    ≡ option_map node_by_place (node_at t ss)
 node-order end t no_slots p = refl
 node-order end t (slot k n ss) p =
     node-into t k (node_by_place n) (slots_by_place ss) (key-order k.name ss ∙ p.1)
@@ -112,7 +115,8 @@ put-order end t x (slot k n ss) p =
 
 -- ---- a slot behind all others
 
-into-append : (l k : Key) (m x : Node) (ss : Slots) → key_place l < key_place k → slot_by_place l m (with_slot ss k x) ≡ with_slot (slot_by_place l m ss) k x
+into-append : (l k : Key) (m x : Node) (ss : Slots) → key_place l < key_place k → slot_by_place l m (with_slot ss k x)
+    ≡ with_slot (slot_by_place l m ss) k x
 into-append l k m x no_slots h = rw (not-lt (key_place k) (key_place l) (omega arith)) refl
 into-append l k m x (slot i n ss) h =
     elim (cases_Bool (nat_lt (key_place i) (key_place l))) [
@@ -195,7 +199,8 @@ into-first k n no_slots a = refl
 into-first k n (slot l m ss) a = rw (not-lt (key_place l) (key_place k) a.0) refl
 
 -- the slot of the key, taken out again
-without-into : (t : Text) (k : Key) (n : Node) (ss : Slots) → same_text t k.name ≡ true → has_key t ss ≡ false → without_slot t (slot_by_place k n ss) ≡ ss
+without-into : (t : Text) (k : Key) (n : Node) (ss : Slots) → same_text t k.name ≡ true → has_key t ss ≡ false
+    → without_slot t (slot_by_place k n ss) ≡ ss
 without-into t k n no_slots same apart = rw same refl
 without-into t k n (slot l m ss) same apart =
     elim (cases_Bool (nat_lt (key_place l) (key_place k))) [
@@ -216,12 +221,14 @@ without-other t k n (slot l m ss) h a =
         | inr other ↦ rw (less, other, less) (ap (slot l m) (without-other t k n ss h a.1))
       ]
       | inr more ↦ elim (cases_Bool (same_text t l.name)) [
-        | inl same ↦ rw (more, h, same) (sym (into-first k n ss (from-less (key_place k) (key_place l) ss (lt-false (key_place l) (key_place k) more) a.0)))
+        | inl same ↦ rw (more, h, same) (sym (into-first k n ss
+            (from-less (key_place k) (key_place l) ss (lt-false (key_place l) (key_place k) more) a.0)))
         | inr other ↦ rw (more, h, other, more) refl
       ]
     ]
 
-pub move-order : (end : ℕ) (t : Text) (k : Key) (x : Node) (ss : Slots) (old : Node) → ArePlaced end ss → end ≤ key_place k → node_at t ss ≡ Some old
+pub move-order : (end : ℕ) (t : Text) (k : Key) (x : Node) (ss : Slots) (old : Node) → ArePlaced end ss → end ≤ key_place k → node_at t ss
+    ≡ Some old
     → with_slot (without_slot t (slots_by_place ss)) k (node_by_place x) ≡ slots_by_place (replace_slot t k x ss)
 move-order end t k x no_slots old p h there = absurd cc
 move-order end t k x (slot l m ss) old p h there =
@@ -233,7 +240,8 @@ move-order end t k x (slot l m ss) old p h there =
           ∙ sym (into-last end k (node_by_place x) (slots_by_place ss) h (below-order end ss p.3)))
       | inr other ↦
           let (near, _, _, further) = p in
-          rw other (ap (λ (us : Slots). with_slot us k (node_by_place x)) (without-other t l (node_by_place m) (slots_by_place ss) other (ascending ss))
+          rw other (ap (λ (us : Slots). with_slot us k (node_by_place x))
+          (without-other t l (node_by_place m) (slots_by_place ss) other (ascending ss))
           ∙ sym (into-append l k (node_by_place m) (node_by_place x) (without_slot t (slots_by_place ss)) (omega (arith, near, h)))
           ∙ ap (slot_by_place l (node_by_place m)) (move-order end t k x ss old further h (rw other at there)))
     ]

@@ -30,7 +30,8 @@ sorted-by-key : {A : Type 0} (key : A → ℕ) (xs ys : List A) → IsSortedByKe
     → ys ≡ sorted_by (λ x y. nat_le (key x) (key y)) xs
 sorted-by-key key xs ys up stable =
     stable-sort (λ x y. is_lt (nat_cmp (key x) (key y))) (ranks_by nat_cmp_total key) xs ys up stable
-    ∙ sorted-alike (λ x. Unit {0}) (λ x y. not (is_lt (nat_cmp (key y) (key x)))) (λ x y. nat_le (key x) (key y)) (λ x y p q. not-above (key x) (key y)) xs (trivially xs)
+    ∙ sorted-alike (λ x. Unit {0}) (λ x y. not (is_lt (nat_cmp (key y) (key x)))) (λ x y. nat_le (key x) (key y))
+    (λ x y p q. not-above (key x) (key y)) xs (trivially xs)
 
 -- from the clauses of `sort_by_key`, where each call gives the number
 pub sorted_by_number : {A F : Type 0} {g : Mut F (Bor A × Unit {0}) ℕ} {f : F} (key : A → ℕ) (xs ys : List A)

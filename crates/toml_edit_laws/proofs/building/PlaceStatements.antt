@@ -6,7 +6,9 @@ use Rattle.std.specs.List.{AllByRecursion}
 use Rattle.toml_edit_model.specs.Mode.{Mode, with_return}
 use Rattle.toml_edit_model.specs.Text.{Text}
 use Rattle.toml_edit_model.specs.Spelling.{SpellsKey}
-use Rattle.toml_edit_model.specs.Syntax.{Segment, Statement, key_line, header, Header, Frame, Value, IsStatement, IsSpelledSegment, segment_text, path_text, value_text, frame_text, statement_text, brackets_text, opening_brackets, closing_brackets}
+use Rattle.toml_edit_model.specs.Syntax.{Segment, Statement, key_line, header, Header, Frame, Value, IsStatement, IsSpelledSegment}
+use Rattle.toml_edit_model.specs.Syntax.{segment_text, path_text, value_text, frame_text, statement_text, brackets_text, opening_brackets}
+use Rattle.toml_edit_model.specs.Syntax.{closing_brackets}
 use Rattle.toml_edit_model.specs.Paths.{Mention, Source, next_start, path_start}
 use Rattle.toml_edit_model.specs.Tree.{Node}
 use Rattle.toml_edit_model.specs.TreeOf.{spanned_in, key_at, span_of, value_start}
@@ -39,7 +41,8 @@ segment-length g = length-append g.before (g.spelled ++ g.after) ∙ ap (λ n. l
 
 -- ---- a path
 
-within-path : (mode : Mode) (s : Source) (low high start : ℕ) (p : List Segment) (ms : List (Mention Source)) → AllByRecursion IsSpelledSegment p
+within-path : (mode : Mode) (s : Source) (low high start : ℕ) (p : List Segment) (ms : List (Mention Source))
+    → AllByRecursion IsSpelledSegment p
     → AreMentionsOf s start p ms → low ≤ start → start + length (path_text p) ≤ high → StandWithin mode low high ms
 within-path mode s low high start [] [] spelled are l h = tt
 within-path mode s low high start [] (m ∷ ms) spelled are l h = absurd are
@@ -65,7 +68,8 @@ within-path mode s low high start (g ∷ f ∷ p) (m ∷ ms) spelled are l h =
 
 -- ---- a statement
 
-line-length : (f : Frame) (v : Value) (end : Text) → length f.leading + length (path_text f.path) ≤ length (statement_text (key_line f v end))
+line-length : (f : Frame) (v : Value) (end : Text) → length f.leading
+    + length (path_text f.path) ≤ length (statement_text (key_line f v end))
 line-length f v end =
     let behind = f.before_equals ++ (codes "=" ++ (f.after_equals ++ (value_text v ++ f.trailing))) in
     let frame = length-append f.leading (path_text f.path ++ behind) in
@@ -74,7 +78,8 @@ line-length f v end =
     omega (arith, frame, path, whole)
 
 header-length : (h : Header) (end : Text)
-    → length h.leading + length (opening_brackets h.is_array) + length h.opening + length (path_text h.path) ≤ length (statement_text (header h end))
+    → length h.leading + length (opening_brackets h.is_array) + length h.opening
+    + length (path_text h.path) ≤ length (statement_text (header h end))
 header-length h end =
     let behind = h.closing ++ closing_brackets h.is_array in
     let path = length-append (path_text h.path) behind in
@@ -90,12 +95,14 @@ pub statement_within : (mode : Mode) (MayEnd : Text → Type 0) (b : Builder) (s
 statement_within mode MayEnd b (key_line f v end) h =
     let start = b.start + path_start (key_line f v end) in
     let size = line-length f v end in
-    within-path mode (source_at b (key_line f v end)) b.start (b.start + length (statement_text (key_line f v end))) start f.path (mentions_at b (key_line f v end)) h.0.1.spelled
+    within-path mode (source_at b (key_line f v end)) b.start (b.start
+    + length (statement_text (key_line f v end))) start f.path (mentions_at b (key_line f v end)) h.0.1.spelled
     (line-mentions (source_at b (key_line f v end)) start [] f.path) (omega arith) (omega (arith, size))
 statement_within mode MayEnd b (header h end) is =
     let start = b.start + path_start (header h end) in
     let size = header-length h end in
-    within-path mode (source_at b (header h end)) b.start (b.start + length (statement_text (header h end))) start h.path (mentions_at b (header h end)) is.0.1.spelled
+    within-path mode (source_at b (header h end)) b.start (b.start
+    + length (statement_text (header h end))) start h.path (mentions_at b (header h end)) is.0.1.spelled
     (header-mentions (source_at b (header h end)) h start [] h.path) (omega arith) (omega (arith, size))
 
 -- What it adds is a value, if it is a key line.

@@ -1,11 +1,14 @@
 -- Statements that are right one after another, and the first that is not.
-use Rattle.std.proofs.Common.{◌≡◌, refl, sym, ◌∙◌, ap, subst, ℕ, zero, suc, ◌+◌, Bool, true, false, List, [], ◌∷◌, ◌++◌, append_assoc, length, None}
+use Rattle.std.proofs.Common.{◌≡◌, refl, sym, ◌∙◌, ap, subst, ℕ, zero, suc, ◌+◌, Bool, true, false, List, [], ◌∷◌, ◌++◌, append_assoc}
+use Rattle.std.proofs.Common.{length, None}
 use Rattle.std.specs.Prelude.{◌&&◌, nat_le, map, if◌then◌else◌}
 use Rattle.std.specs.List.{AllByRecursion, list_all}
 use Rattle.std.proofs.lemmas.Grind.{flat_map-append}
 use Rattle.toml_edit_model.specs.Text.{Text, one, is_empty}
-use Rattle.toml_edit_model.specs.Syntax.{Segment, Header, Statement, key_line, header, Document, path_text, depth, nesting_limit, is_short, has_short_keys, keeps_ranges}
-use Rattle.toml_edit_model.specs.Paths.{at_key, at_element, Path, to_key, to_element, Placed, Context, elements_at, in_last, header_path, block_of, mentions_of, start_context, context_after, placed_from}
+use Rattle.toml_edit_model.specs.Syntax.{Segment, Header, Statement, key_line, header, Document, path_text, depth, nesting_limit, is_short}
+use Rattle.toml_edit_model.specs.Syntax.{has_short_keys, keeps_ranges}
+use Rattle.toml_edit_model.specs.Paths.{at_key, at_element, Path, to_key, to_element, Placed, Context, elements_at, in_last, header_path}
+use Rattle.toml_edit_model.specs.Paths.{block_of, mentions_of, start_context, context_after, placed_from}
 use Rattle.toml_edit_model.specs.Accepted.{agree, has_agreeing_pairs, is_sound, IsFirstFaulty}
 use Rattle.toml_edit_model.specs.Faults.{Fault, recursion_limit, long_path, value_faults, own_faults}
 use Rattle.toml_edit_laws.specs.OneByOne.{is_right_after, all_right_after}
@@ -34,11 +37,14 @@ done-more c (s ∷ ss) earlier keyed h right =
     let later = all_right_after (earlier ++ (here ∷ [])) (placed_from (context_after c s) ss) in
     let agreed : agree may_meet ms (mentions_of c s) ≡ true =
     sym (agree-each earlier (mentions_of c s))
-    ∙ and_right (is_sound here.source.statement) (list_all (λ (e : Placed). agree may_meet e.mentions (mentions_of c s)) earlier) (and_left (is_right_after earlier here) later right) in
+    ∙ and_right (is_sound here.source.statement) (list_all (λ (e : Placed). agree may_meet e.mentions (mentions_of c s)) earlier)
+    (and_left (is_right_after earlier here) later right) in
     let all : ms ++ mentions_of c s ≡ mentions_in (earlier ++ (here ∷ [])) =
     ap (λ ns. ms ++ ns) (sym (append-nil (mentions_of c s))) ∙ sym (flat_map-append (λ (e : Placed). e.mentions) earlier (here ∷ [])) in
-    subst (λ es. AreDone (context_from (context_after c s) ss) (mentions_in es)) (append_assoc earlier (here ∷ []) (placed_from (context_after c s) ss))
-    (done-more (context_after c s) ss (earlier ++ (here ∷ [])) keyed.1 (subst (AreDone (context_after c s)) all (done_next c s ms keyed.0 h agreed))
+    subst (λ es. AreDone (context_from (context_after c s) ss) (mentions_in es)) (append_assoc earlier (here
+    ∷ []) (placed_from (context_after c s) ss))
+    (done-more (context_after c s) ss (earlier ++ (here ∷ [])) keyed.1
+    (subst (AreDone (context_after c s)) all (done_next c s ms keyed.0 h agreed))
     (and_right (is_right_after earlier here) later right))
 
 -- After right statements.
@@ -48,11 +54,13 @@ done_all d done keyed right = done-more (start_context d) done [] keyed (done_fi
 
 -- ---- one statement more
 
-pub context-more : (c : Context) (done : List Statement) (s : Statement) → context_from c (done ++ one s) ≡ context_after (context_from c done) s
+pub context-more : (c : Context) (done : List Statement) (s : Statement) → context_from c (done ++ one s)
+    ≡ context_after (context_from c done) s
 context-more c [] s = refl
 context-more c (x ∷ done) s = context-more (context_after c x) done s
 
-pub places-more : (d : Document) (done : List Statement) (s : Statement) → done_places d (done ++ one s) ≡ done_places d done ++ one (next_place d done s)
+pub places-more : (d : Document) (done : List Statement) (s : Statement) → done_places d (done ++ one s) ≡ done_places d done
+    ++ one (next_place d done s)
 places-more d done s = placed-append (start_context d) done (one s)
 
 pub mentions-more : (d : Document) (done : List Statement) (s : Statement)
@@ -90,7 +98,8 @@ pub sound-of-none : (start : ℕ) (t : Statement) → own_faults start t ≡ [] 
 sound-of-none start (key_line f v end) h =
     let i = start + length f.leading + length (path_text f.path) + length f.before_equals + 1 + length f.after_equals in
     let short = short-none f.path (left-empty (long_path f.path) (value_faults v i 0) h) in
-    let right : is_right_value v ≡ true = sym (is_right_value-faults v i) ∙ ap is_empty (right-empty (long_path f.path) (value_faults v i 0) h) in
+    let right : is_right_value v ≡ true = sym (is_right_value-faults v i)
+    ∙ ap is_empty (right-empty (long_path f.path) (value_faults v i 0) h) in
     together (is_short f.path) (nat_le (depth v) nesting_limit && has_short_keys v) (keeps_ranges v) (has_agreeing_pairs v) short right
   where
     together : (a b c d : Bool) → a ≡ true → ((b && c) && d) ≡ true → (((a && b) && c) && d) ≡ true
@@ -114,7 +123,8 @@ keys-last : (n : ℕ) (p : Path) → keys_in (in_last n p) ≡ keys_in p
 keys-last zero p = refl
 keys-last (suc n) p = keys-element p n
 
-keys-header : (arrays : List Path) (p : Path) (segments : List Segment) → keys_in (header_path arrays p segments) ≡ keys_in p ++ map (λ s. s.key) segments
+keys-header : (arrays : List Path) (p : Path) (segments : List Segment) → keys_in (header_path arrays p segments) ≡ keys_in p
+    ++ map (λ s. s.key) segments
 keys-header arrays p [] = sym (append-nil (keys_in p))
 keys-header arrays p (g ∷ []) = keys-key p g.key
 keys-header arrays p (g ∷ x ∷ rest) =
@@ -128,7 +138,9 @@ keys-header arrays p (g ∷ x ∷ rest) =
 pub keys-block : (c : Context) (h : Header) → keys_in (block_of c h) ≡ map (λ s. s.key) h.path
 keys-block c h = by_array h.is_array
   where
-    by_array : (b : Bool) → keys_in (if b then to_element (header_path c.arrays [] h.path) (elements_at c.arrays (header_path c.arrays [] h.path)) else header_path c.arrays [] h.path)
+    by_array : (b : Bool) → keys_in (if b then to_element (header_path c.arrays [] h.path)
+        (elements_at c.arrays (header_path c.arrays [] h.path)) else header_path c.arrays [] h.path)
         ≡ map (λ (s : Segment). s.key) h.path
-    by_array true = keys-element (header_path c.arrays [] h.path) (elements_at c.arrays (header_path c.arrays [] h.path)) ∙ keys-header c.arrays [] h.path
+    by_array true = keys-element (header_path c.arrays [] h.path) (elements_at c.arrays (header_path c.arrays [] h.path))
+        ∙ keys-header c.arrays [] h.path
     by_array false = keys-header c.arrays [] h.path

@@ -1,5 +1,6 @@
 -- What a loop over the statements of a document does: it stops at the first faulty one, by its faults, and else ends with the tree.
-use Rattle.std.proofs.Common.{◌≡◌, refl, sym, ◌∙◌, ap, subst, Bool, true, false, List, [], ◌∷◌, ◌++◌, append_assoc, Option, Some, None, inl, inr}
+use Rattle.std.proofs.Common.{◌≡◌, refl, sym, ◌∙◌, ap, subst, Bool, true, false, List, [], ◌∷◌, ◌++◌, append_assoc, Option, Some, None, inl}
+use Rattle.std.proofs.Common.{inr}
 use Rattle.std.specs.Prelude.{not, is_some, Contains}
 use Rattle.toml_edit_model.specs.Mode.{Mode}
 use Rattle.toml_edit_model.specs.Text.{is_empty, one}
@@ -11,7 +12,9 @@ use Rattle.toml_edit_model.specs.Tree.{Node, Slots}
 use Rattle.toml_edit_model.specs.TreeOf.{spanned_in, IsTreeOf}
 use Rattle.toml_edit_laws.specs.OneByOne.{is_right_after}
 use Rattle.toml_edit_laws.specs.TableClash.{table_way_fault, table_way_faults}
-use Rattle.toml_edit_laws.specs.Building.{slots_along, context_behind, done_places, next_place, Builder, first_builder, added, clash_at, faults_at, behind, built_tree, IsStatementNode, IsBehind, Stops, StandsBefore, IsRefusedBy, run_on, run, AreStatementNodes, EndsAt, Ends, Runs}
+use Rattle.toml_edit_laws.specs.Building.{slots_along, context_behind, done_places, next_place, Builder, first_builder, added, clash_at}
+use Rattle.toml_edit_laws.specs.Building.{faults_at, behind, built_tree, IsStatementNode, IsBehind, Stops, StandsBefore, IsRefusedBy}
+use Rattle.toml_edit_laws.specs.Building.{run_on, run, AreStatementNodes, EndsAt, Ends, Runs}
 use Rattle.toml_edit_laws.proofs.common.Tests.{append-nil}
 use Rattle.toml_edit_laws.proofs.common.Members.{Among, among-cases, from-contained, to-contained}
 use Rattle.toml_edit_laws.proofs.values.ValueFaults.{is_empty-nil}
@@ -35,8 +38,10 @@ module _ (mode : Mode) where
   stands_first d h = record { done = []; split = refl; behind = (building_laws mode d h).first }
 
   -- and behind one that is added.
-  pub stands_next : (d : Document) (s : Statement) (rest : List Statement) (b : Builder) (n : Node) (next : Slots) → IsDocument d → StandsBefore mode d (s ∷ rest) b
-      → own_faults b.start s ≡ [] → IsStatementNode mode b.start s n → added mode b s n ≡ Some next → StandsBefore mode d rest (behind b s next)
+  pub stands_next : (d : Document) (s : Statement) (rest : List Statement) (b : Builder) (n : Node) (next : Slots) → IsDocument d
+      → StandsBefore mode d (s ∷ rest) b
+      → own_faults b.start s ≡ [] → IsStatementNode mode b.start s n → added mode b s n ≡ Some next
+      → StandsBefore mode d rest (behind b s next)
   stands_next d s rest b n next h at faultless value e =
       record {
         done = at.done ++ one s;
@@ -45,22 +50,26 @@ module _ (mode : Mode) where
       }
 
   -- Behind the last the document is accepted, and its tree is there.
-  pub stands_last : (d : Document) (b : Builder) → IsDocument d → StandsBefore mode d [] b → (is_accepted d ≡ true) × IsTreeOf (spanned_in mode) d (built_tree mode d b)
+  pub stands_last : (d : Document) (b : Builder) → IsDocument d → StandsBefore mode d [] b → (is_accepted d ≡ true)
+      × IsTreeOf (spanned_in mode) d (built_tree mode d b)
   stands_last d b h at =
       (building_laws mode d h).last b (subst (λ ss. IsBehind mode d ss b) (sym (at.split ∙ append-nil at.done)) at.behind)
 
-  pub stands_faulty : (d : Document) (s : Statement) (rest : List Statement) (b : Builder) (f : Fault) → IsDocument d → StandsBefore mode d (s ∷ rest) b
+  pub stands_faulty : (d : Document) (s : Statement) (rest : List Statement) (b : Builder) (f : Fault) → IsDocument d
+      → StandsBefore mode d (s ∷ rest) b
       → Contains (own_faults b.start s) f → IsRefusedBy d f
   stands_faulty d s rest b f h at has =
       refused-by d at.done s f (((building_laws mode d h).step at.done s rest b at.split at.behind).faulty f has)
 
-  pub stands_clash : (d : Document) (s : Statement) (rest : List Statement) (b : Builder) (x : Mention Source × Node) → IsDocument d → StandsBefore mode d (s ∷ rest) b
+  pub stands_clash : (d : Document) (s : Statement) (rest : List Statement) (b : Builder) (x : Mention Source × Node) → IsDocument d
+      → StandsBefore mode d (s ∷ rest) b
       → clash_at b s ≡ Some x → IsRefusedBy d (table_way_fault x)
   stands_clash d s rest b x h at e =
       refused-by d at.done s (table_way_fault x) (((building_laws mode d h).step at.done s rest b at.split at.behind).clashes x e)
 
   -- So does whatever stands in it.
-  pub stands_refused : (d : Document) (s : Statement) (rest : List Statement) (b : Builder) (f : Fault) → IsDocument d → StandsBefore mode d (s ∷ rest) b
+  pub stands_refused : (d : Document) (s : Statement) (rest : List Statement) (b : Builder) (f : Fault) → IsDocument d
+      → StandsBefore mode d (s ∷ rest) b
       → Contains (faults_at b s) f → IsRefusedBy d f
   stands_refused d s rest b f h at has =
       elim (among-cases f (own_faults b.start s) (table_way_faults (clash_at b s)) (from-contained f (faults_at b s) has)) [
@@ -74,7 +83,8 @@ module _ (mode : Mode) where
       by_clash (Some x) e (inr none) = elim none [ ]
 
   -- One of both holds of each.
-  pub stands_goes : (d : Document) (s : Statement) (rest : List Statement) (b : Builder) (n : Node) → IsDocument d → StandsBefore mode d (s ∷ rest) b
+  pub stands_goes : (d : Document) (s : Statement) (rest : List Statement) (b : Builder) (n : Node) → IsDocument d
+      → StandsBefore mode d (s ∷ rest) b
       → is_some (added mode b s n) ≡ not (is_some (clash_at b s))
   stands_goes d s rest b n h at = ((building_laws mode d h).step at.done s rest b at.split at.behind).goes n
 
@@ -89,13 +99,15 @@ module _ (mode : Mode) where
   stands_block d rest b h at =
       let keyed = keyed-front at.done rest (subst (AllByRecursion HasKey) at.split (keyed_statements d.final d.statements h.0)) in
       let are = done_all d at.done keyed at.behind.right in
-      let block = block_found mode (context_behind d at.done).block (mentions_in (done_places d at.done)) b.slots are.clash.statements at.behind.slots are.block in
+      let block = block_found mode (context_behind d at.done).block (mentions_in (done_places d at.done)) b.slots are.clash.statements
+      at.behind.slots are.block in
       (block.inner, ap (λ ks. slots_along ks b.slots) at.behind.block ∙ block.found)
 
   -- ---- the run
 
   -- the statement at which it stops
-  ends-at : (d : Document) (s : Statement) (rest : List Statement) (b : Builder) (f : Fault) (fs : List Fault) → IsDocument d → StandsBefore mode d (s ∷ rest) b
+  ends-at : (d : Document) (s : Statement) (rest : List Statement) (b : Builder) (f : Fault) (fs : List Fault) → IsDocument d
+      → StandsBefore mode d (s ∷ rest) b
       → faults_at b s ≡ f ∷ fs → EndsAt d s rest b
   ends-at d s rest b f fs h at has = by_right (is_right_after earlier here) refl
     where
@@ -122,7 +134,8 @@ module _ (mode : Mode) where
             refused = (stops d at.done s rest f at.split at.behind.right r (subst (Among f) (sym faults) (inl refl))).0;
           }
 
-  run-ends : (d : Document) (rest : List Statement) (ns : List Node) (b : Builder) → IsDocument d → StandsBefore mode d rest b → AreStatementNodes mode b.start rest ns
+  run-ends : (d : Document) (rest : List Statement) (ns : List Node) (b : Builder) → IsDocument d → StandsBefore mode d rest b
+      → AreStatementNodes mode b.start rest ns
       → Ends mode d (run mode b rest ns)
   run-ends d [] [] b h at nodes = stands_last d b h at
   run-ends d [] (n ∷ ns) b h at nodes = absurd nodes

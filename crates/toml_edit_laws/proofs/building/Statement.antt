@@ -29,7 +29,8 @@ use Rattle.toml_edit_model.specs.Roles.{may_meet}
 
 -- the outermost mention at which it can't go on, and the item in its way
 abbrev pub statement_clash : Context → Statement → Slots → Option (Mention Source × Node)
-statement_clash c (key_line f v end) ss = option_and_then (line_clash (own_mentions c (key_line f v end))) (slots_along (keys_in c.block) ss)
+statement_clash c (key_line f v end) ss =
+    option_and_then (line_clash (own_mentions c (key_line f v end))) (slots_along (keys_in c.block) ss)
 statement_clash c (header h end) ss = header_clash h.is_array (own_mentions c (header h end)) ss
 
 module _ (mode : Mode) where
@@ -39,14 +40,17 @@ module _ (mode : Mode) where
   IsNodeOfStatement c (header h end) n = Unit {0}
 
   -- A statement can be added exactly where it agrees with those before it.
-  pub statement_goes : (c : Context) (s : Statement) (ms : List (Mention Source)) (n : Node) (ss : Slots) → HasKey s → AreDone c ms → AreAllSlots mode ms ss
+  pub statement_goes : (c : Context) (s : Statement) (ms : List (Mention Source)) (n : Node) (ss : Slots) → HasKey s → AreDone c ms
+      → AreAllSlots mode ms ss
       → is_some (add_statement mode c s n ss) ≡ agree may_meet ms (mentions_of c s)
   statement_goes c (key_line f v end) ms n ss keyed are h = key_line_goes mode c f v end ms n ss keyed are.clash.statements are.block h
   statement_goes c (header hd end) ms n ss keyed are h =
-      header_goes mode hd.is_array (source_of c (header hd end)) c.arrays (c.start + path_start (header hd end)) hd.path ms ss keyed are.clash.statements are.clash.counted h
+      header_goes mode hd.is_array (source_of c (header hd end)) c.arrays (c.start
+      + path_start (header hd end)) hd.path ms ss keyed are.clash.statements are.clash.counted h
 
   -- Added, it gives the slots of all.
-  pub statement_added : (c : Context) (s : Statement) (ms : List (Mention Source)) (n : Node) (ss next : Slots) → AreDone c ms → IsNodeOfStatement c s n
+  pub statement_added : (c : Context) (s : Statement) (ms : List (Mention Source)) (n : Node) (ss next : Slots) → AreDone c ms
+      → IsNodeOfStatement c s n
       → AreAllSlots mode ms ss → add_statement mode c s n ss ≡ Some next → AreAllSlots mode (ms ++ mentions_of c s) next
   statement_added c (key_line f v end) ms n ss next are value h e = key_line_added mode c f v end ms n ss next value are.table.table h e
   statement_added c (header hd end) ms n ss next are value h e = header_placed mode c hd end n ms ss next are.ready h e
@@ -65,10 +69,12 @@ module _ (mode : Mode) where
       let start = c.start + path_start (key_line f v end) in
       let block = block_found mode c.block ms ss are.clash.statements h are.block in
       agree-below c.block source start f.path ms
-      ∙ line_agrees mode source start f.path (under_path c.block ms) block.inner (statements-under_path c.block ms are.clash.statements) block.slots
+      ∙ line_agrees mode source start f.path (under_path c.block ms) block.inner (statements-under_path c.block ms are.clash.statements)
+      block.slots
       ∙ sym (ap is_none (line-at c (key_line f v end) ss ms block))
   statement_agrees c (header hd end) ms ss are h =
-      header_agrees mode hd.is_array (source_of c (header hd end)) c.arrays (c.start + path_start (header hd end)) hd.path ms ss are.clash.statements are.clash.counted h
+      header_agrees mode hd.is_array (source_of c (header hd end)) c.arrays (c.start
+      + path_start (header hd end)) hd.path ms ss are.clash.statements are.clash.counted h
 
   -- and its faults are its own and that of the clash.
   pub statement_fault : (c : Context) (s : Statement) (earlier : List Placed) (ss : Slots) → AreDone c (flat_map (λ e. e.mentions) earlier)

@@ -8,7 +8,8 @@ use Rattle.toml_edit_model.specs.Paths.{Mention, Source, Context, header_role_of
 use Rattle.toml_edit_model.specs.Tree.{Node, Slots}
 use Rattle.toml_edit_laws.specs.TableTree.{add_line, own_mentions, add_statement}
 use Rattle.toml_edit_laws.specs.TableClash.{line_clash, header_clash, table_way_faults}
-use Rattle.toml_edit_laws.specs.Building.{keys_in, slots_along, change_along, Builder, mentions_at, added, clash_at, behind, IsStatementNode}
+use Rattle.toml_edit_laws.specs.Building.{keys_in, slots_along, change_along, Builder, mentions_at, added, clash_at, behind}
+use Rattle.toml_edit_laws.specs.Building.{IsStatementNode}
 use Rattle.toml_edit_laws.proofs.clashes.HeaderClash.{header_clashes}
 use Rattle.toml_edit_laws.proofs.clashes.BlockClash.{block_found}
 use Rattle.toml_edit_laws.specs.AddPath.{put_along}
@@ -44,12 +45,19 @@ is_builder c b h =
 
 -- behind the next statement it stands in the next context
 pub in-next : (c : Context) (s : Statement) (b : Builder) (next : Slots) → IsIn c b → IsIn (context_after c s) (behind b s next)
-in-next c (key_line f v end) b next h = record { start = ap (λ n. n + length (statement_text (key_line f v end))) h.start; headers = h.headers; block = h.block }
+in-next c (key_line f v end) b next h =
+    record { start = ap (λ n. n + length (statement_text (key_line f v end))) h.start; headers = h.headers; block = h.block }
 in-next c (header hd end) b next h =
-    record { start = ap (λ n. n + length (statement_text (header hd end))) h.start; headers = ap suc h.headers; block = sym (keys-block c hd) }
+    record {
+      start = ap (λ n. n + length (statement_text (header hd end))) h.start;
+      headers = ap suc h.headers;
+      block =
+          sym (keys-block c hd);
+    }
 
 -- two changes of the slots of a block's table that agree there
-along-same : (ks : List Text) (one other : Slots → Option Slots) (ss inner : Slots) → slots_along ks ss ≡ Some inner → one inner ≡ other inner
+along-same : (ks : List Text) (one other : Slots → Option Slots) (ss inner : Slots) → slots_along ks ss ≡ Some inner → one inner
+    ≡ other inner
     → change_along ks one ss ≡ change_along ks other ss
 along-same ks one other ss inner found e =
     along_lens ks one ss inner found ∙ ap (option_map (λ (new : Slots). put_along ks new ss)) e ∙ sym (along_lens ks other ss inner found)
@@ -75,7 +83,8 @@ module _ (mode : Mode) where
       along-same (keys_in c.block) here own ss block.inner block.found same ∙ sym (block.goes own)
   added_is c (header hd end) ms n ss are h =
       let source = source_of c (header hd end) in
-      sym (header_alike mode hd.is_array source.path c.start (suc c.headers) hd end (header_role_of hd) c.arrays (c.start + path_start (header hd end)) [] [] hd.path ss)
+      sym (header_alike mode hd.is_array source.path c.start (suc c.headers) hd end (header_role_of hd) c.arrays (c.start
+      + path_start (header hd end)) [] [] hd.path ss)
 
   -- What stands in its way has the same fault.
   pub clash_is : (c : Context) (s : Statement) (ms : List (Mention Source)) (ss : Slots) → AreDone c ms → AreAllSlots mode ms ss

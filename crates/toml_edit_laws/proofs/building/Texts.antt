@@ -28,7 +28,8 @@ sum-of a b c d e x f g h = omega arith
 start-behind : (c : Context) (done : List Statement) → (context_from c done).start ≡ c.start + length (texts done)
 start-behind c [] = let none : c.start ≡ c.start + 0 = omega arith in none
 start-behind c (s ∷ done) =
-    sum-of c.start (context_after c s).start (length (statement_text s)) (length (texts done)) (length (texts (s ∷ done))) (context_from (context_after c s) done).start
+    sum-of c.start (context_after c s).start (length (statement_text s)) (length (texts done)) (length (texts (s ∷ done)))
+    (context_from (context_after c s) done).start
     (start-behind (context_after c s) done) (after-start c s) (length-append (statement_text s) (texts done))
 
 texts-both : (xs ys : List Statement) → texts (xs ++ ys) ≡ texts xs ++ texts ys
@@ -36,13 +37,15 @@ texts-both [] ys = refl
 texts-both (x ∷ xs) ys = ap (λ t. statement_text x ++ t) (texts-both xs ys) ∙ sym (append_assoc (statement_text x) (texts xs) (texts ys))
 
 module _ (mode : Mode) where
-  pub stands_grammar : (d : Document) (left : List Statement) (b : Builder) → IsDocument d → StandsBefore mode d left b → AreStatements d.final left
+  pub stands_grammar : (d : Document) (left : List Statement) (b : Builder) → IsDocument d → StandsBefore mode d left b
+      → AreStatements d.final left
   stands_grammar d left b h at = later-are d.final at.done left (subst (AreStatements d.final) at.split h.0)
 
   -- ---- bytes
 
   -- All that is left stands in the text where the builder does.
-  stands-left_over : (d : Document) (t : Text) (left : List Statement) (b : Builder) → IsCut d t → StandsBefore mode d left b → Stands t b.start (texts left ++ d.final)
+  stands-left_over : (d : Document) (t : Text) (left : List Statement) (b : Builder) → IsCut d t → StandsBefore mode d left b
+      → Stands t b.start (texts left ++ d.final)
   stands-left_over d t left b cut at =
       let mark = mark_text d.has_mark in
       let all : document_text d ≡ mark ++ ((texts at.done ++ texts left) ++ d.final) =
@@ -60,23 +63,27 @@ module _ (mode : Mode) where
       }
 
   -- So does the next statement,
-  pub stands_statement : (d : Document) (t : Text) (s : Statement) (rest : List Statement) (b : Builder) → IsCut d t → StandsBefore mode d (s ∷ rest) b
+  pub stands_statement : (d : Document) (t : Text) (s : Statement) (rest : List Statement) (b : Builder) → IsCut d t
+      → StandsBefore mode d (s ∷ rest) b
       → Stands t b.start (statement_text s)
   stands_statement d t s rest b cut at =
-      stands-left t b.start (statement_text s) (texts rest) (stands-left t b.start (texts (s ∷ rest)) d.final (stands-left_over d t (s ∷ rest) b cut at))
+      stands-left t b.start (statement_text s) (texts rest)
+      (stands-left t b.start (texts (s ∷ rest)) d.final (stands-left_over d t (s ∷ rest) b cut at))
 
   -- and behind the last the final trivia.
   pub stands_final : (d : Document) (t : Text) (b : Builder) → IsCut d t → StandsBefore mode d [] b → Stands t b.start d.final
   stands_final d t b cut at = stands-left_over d t [] b cut at
 
-  pub final_start : (d : Document) (t : Text) (b : Builder) → IsCut d t → StandsBefore mode d [] b → b.start ≡ length (document_text d) - length d.final
+  pub final_start : (d : Document) (t : Text) (b : Builder) → IsCut d t → StandsBefore mode d [] b → b.start
+      ≡ length (document_text d) - length d.final
   unfolding stands-left_over
   final_start d t b cut at =
       let stands = stands-left_over d t [] b cut at in
       let size : length (document_text d) ≡ length stands.before + length (d.final ++ stands.after) =
       ap length (cut.1 ∙ stands.text) ∙ length-append stands.before (d.final ++ stands.after) in
       let last : length (d.final ++ []) ≡ length d.final = ap length (append-nil d.final) in
-      difference (length (document_text d)) (length stands.before) (length d.final) b.start (size ∙ ap (λ n. length stands.before + n) last) stands.place
+      difference (length (document_text d)) (length stands.before) (length d.final) b.start (size
+      ∙ ap (λ n. length stands.before + n) last) stands.place
     where
       difference : (n a f x : ℕ) → n ≡ a + f → x ≡ a → x ≡ n - f
       difference n a f x e g = omega arith

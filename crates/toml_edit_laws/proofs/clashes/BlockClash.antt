@@ -1,5 +1,6 @@
 -- A key line can be added to the slots of the root exactly where it agrees with the statements before it: its block's table is there.
-use Rattle.std.proofs.Common.{◌≡◌, ◌<◌, refl, sym, ◌∙◌, ap, subst, ℕ, zero, suc, ◌+◌, arith, Bool, true, false, List, [], ◌∷◌, length, Option, Some, None}
+use Rattle.std.proofs.Common.{◌≡◌, ◌<◌, refl, sym, ◌∙◌, ap, subst, ℕ, zero, suc, ◌+◌, arith, Bool, true, false, List, [], ◌∷◌, length}
+use Rattle.std.proofs.Common.{Option, Some, None}
 use Rattle.std.specs.Prelude.{is_some, option_map, option_and_then}
 use Rattle.toml_edit_model.specs.Mode.{Mode}
 use Rattle.toml_edit_model.specs.Text.{Text, is_empty}
@@ -9,7 +10,8 @@ use Rattle.toml_edit_model.specs.Accepted.{agree}
 use Rattle.toml_edit_model.specs.Tree.{TableFields, Node, nothing, leaf, list, inline, table, tables, Items, no_items, item, Slots}
 use Rattle.toml_edit_model.specs.TreeOf.{spanned_in, AreElementsOf, AreSlotsOf}
 use Rattle.toml_edit_laws.specs.InlineTree.{node_at, with_node}
-use Rattle.toml_edit_laws.specs.TableTree.{change_last, change_item, change_under, change_below_node, change_at, add_line, own_mentions, add_statement}
+use Rattle.toml_edit_laws.specs.TableTree.{change_last, change_item, change_under, change_below_node, change_at, add_line, own_mentions}
+use Rattle.toml_edit_laws.specs.TableTree.{add_statement}
 use Rattle.toml_edit_laws.specs.Building.{keys_in, last_slots, block_slots, slots_along, change_in, change_along}
 use Rattle.toml_edit_laws.proofs.common.Tests.{true-false}
 use Rattle.toml_edit_laws.proofs.mentions.GatherLaws.{first_of_key, first_of_key-is}
@@ -31,7 +33,8 @@ use Rattle.toml_edit_model.specs.TableMentions.{under, kept, some_at, array_head
 -- A table, or an element of an array of tables, stands at each step of the path.
 abbrev pub IsBlockOf : Path → List (Mention Source) → Type 0
 IsBlockOf [] ms = Unit {0}
-IsBlockOf (at_key k ∷ at_element i ∷ p) ms = (i < count_at is_array_role (at_key k ∷ []) ms) × IsBlockOf p (under (at_element i) (under (at_key k) ms))
+IsBlockOf (at_key k ∷ at_element i ∷ p) ms = (i < count_at is_array_role (at_key k ∷ []) ms)
+    × IsBlockOf p (under (at_element i) (under (at_key k) ms))
 IsBlockOf (at_key k ∷ []) ms = some_at is_table_role (at_key k ∷ []) ms ≡ true
 IsBlockOf (at_key k ∷ at_key l ∷ p) ms = (some_at is_table_role (at_key k ∷ []) ms ≡ true) × IsBlockOf (at_key l ∷ p) (under (at_key k) ms)
 IsBlockOf (at_element i ∷ p) ms = ⊥
@@ -39,9 +42,11 @@ IsBlockOf (at_element i ∷ p) ms = ⊥
 -- The element is the last of its array.
 abbrev pub IsLastBlock : Path → List (Mention Source) → Type 0
 IsLastBlock [] ms = Unit {0}
-IsLastBlock (at_key k ∷ at_element i ∷ p) ms = (suc i ≡ count_at is_array_role (at_key k ∷ []) ms) × IsLastBlock p (under (at_element i) (under (at_key k) ms))
+IsLastBlock (at_key k ∷ at_element i ∷ p) ms = (suc i ≡ count_at is_array_role (at_key k ∷ []) ms)
+    × IsLastBlock p (under (at_element i) (under (at_key k) ms))
 IsLastBlock (at_key k ∷ []) ms = some_at is_table_role (at_key k ∷ []) ms ≡ true
-IsLastBlock (at_key k ∷ at_key l ∷ p) ms = (some_at is_table_role (at_key k ∷ []) ms ≡ true) × IsLastBlock (at_key l ∷ p) (under (at_key k) ms)
+IsLastBlock (at_key k ∷ at_key l ∷ p) ms = (some_at is_table_role (at_key k ∷ []) ms ≡ true)
+    × IsLastBlock (at_key l ∷ p) (under (at_key k) ms)
 IsLastBlock (at_element i ∷ p) ms = ⊥
 
 last-less : (i n : ℕ) → suc i ≡ n → i < n
@@ -66,14 +71,17 @@ table-change (at_element i ∷ p) change f inner = refl
 abbrev change_found : Text → (Node → Option Node) → Slots → Option Node → Option Slots
 change_found k change ss o = option_and_then (λ n. option_map (λ changed. with_node k changed ss) (change n)) o
 
-under-change : (k : Text) (one other : Node → Option Node) (ss : Slots) (n : Node) → node_at k ss ≡ Some n → one n ≡ other n → change_under k one ss ≡ change_under k other ss
+under-change : (k : Text) (one other : Node → Option Node) (ss : Slots) (n : Node) → node_at k ss ≡ Some n → one n ≡ other n
+    → change_under k one ss ≡ change_under k other ss
 under-change k one other ss n e h =
     ap (change_found k one ss) e ∙ ap (option_map (λ (changed : Node). with_node k changed ss)) h ∙ sym (ap (change_found k other ss) e)
 
-found-down : (k : Text) (ks : List Text) (ss inner last : Slots) (n : Node) → node_at k ss ≡ Some n → block_slots n ≡ Some inner → slots_along ks inner ≡ Some last
+found-down : (k : Text) (ks : List Text) (ss inner last : Slots) (n : Node) → node_at k ss ≡ Some n → block_slots n ≡ Some inner
+    → slots_along ks inner ≡ Some last
     → slots_along (k ∷ ks) ss ≡ Some last
 found-down k ks ss inner last n e g h =
-    ap (λ (o : Option Node). option_and_then (slots_along ks) (option_and_then block_slots o)) e ∙ ap (option_and_then (slots_along ks)) g ∙ h
+    ap (λ (o : Option Node). option_and_then (slots_along ks) (option_and_then block_slots o)) e ∙ ap (option_and_then (slots_along ks)) g
+    ∙ h
 
 module _ (mode : Mode) where
   -- the last element that is there is a table
@@ -82,10 +90,12 @@ module _ (mode : Mode) where
     pub inner : Slots
     pub slots : AreSlotsOf (spanned_in mode) (under (at_element at) ns) (kept (under (at_element at) ns)) inner
     pub last : last_slots xs ≡ Some inner
-    pub goes : (one : Node → Option Node) (other : Slots → Option Slots) → one (table fields inner) ≡ option_map (table fields) (other inner)
+    pub goes : (one : Node → Option Node) (other : Slots → Option Slots) → one (table fields inner)
+        ≡ option_map (table fields) (other inner)
         → change_item i one xs ≡ change_last other xs
 
-  last-found : (ns : List (Mention Source)) (from i : ℕ) (hs : List (Mention Source)) (xs : Items) → suc i ≡ length hs → AreElementsOf (spanned_in mode) ns from hs xs
+  last-found : (ns : List (Mention Source)) (from i : ℕ) (hs : List (Mention Source)) (xs : Items) → suc i ≡ length hs
+      → AreElementsOf (spanned_in mode) ns from hs xs
       → IsLastOf ns (from + i) i xs
   last-found ns from i [] xs e h = absurd (omega arith)
   last-found ns from i (a ∷ more) no_items e h = absurd h
@@ -111,7 +121,8 @@ module _ (mode : Mode) where
       record {
         fields = found.fields;
         inner = found.inner;
-        slots = subst (λ j. AreSlotsOf (spanned_in mode) (under (at_element j) ns) (kept (under (at_element j) ns)) found.inner) same found.slots;
+        slots = subst (λ j. AreSlotsOf (spanned_in mode) (under (at_element j) ns) (kept (under (at_element j) ns)) found.inner) same
+            found.slots;
         last = found.last;
         goes = λ one other e. ap (option_map (item (table f us))) (found.goes one other e);
       }
@@ -120,17 +131,22 @@ module _ (mode : Mode) where
   -- the item of a key with such a role
   abbrev HasItem : (Role → Bool) → Text → List (Mention Source) → Slots → Type 0
   HasItem test k ms ss =
-      (n : Node) × (node_at k ss ≡ Some n) × AreRolesOf ms (at_key k ∷ []) n × ((j : Mention Source) × (k ≡ j.segment.key) × IsSlotNode mode ms j n)
+      (n : Node) × (node_at k ss ≡ Some n) × AreRolesOf ms (at_key k ∷ []) n
+      × ((j : Mention Source) × (k ≡ j.segment.key) × IsSlotNode mode ms j n)
 
-  item-at : (test : Role → Bool) (k : Text) (ms : List (Mention Source)) (ss : Slots) → AreOfStatements ms → AreSlotsOf (spanned_in mode) ms (kept ms) ss
+  item-at : (test : Role → Bool) (k : Text) (ms : List (Mention Source)) (ss : Slots) → AreOfStatements ms
+      → AreSlotsOf (spanned_in mode) ms (kept ms) ss
       → some_at test (at_key k ∷ []) ms ≡ true → HasItem test k ms ss
   item-at test k ms ss are h stands = by_node (node_at k ss) refl (first_of_key k (kept ms)) refl (node-found mode ms (kept ms) k ss h)
     where
-      by_node : (o : Option Node) → node_at k ss ≡ o → (first : Option (Mention Source)) → first_of_key k (kept ms) ≡ first → IsFound mode ms first o → HasItem test k ms ss
-      by_node None g None e found = true-false (some_at test (at_key k ∷ []) ms) stands (any-test test (at_key k ∷ []) ms (kept-free k ms are.named e))
+      by_node : (o : Option Node) → node_at k ss ≡ o → (first : Option (Mention Source)) → first_of_key k (kept ms) ≡ first
+          → IsFound mode ms first o → HasItem test k ms ss
+      by_node None g None e found =
+          true-false (some_at test (at_key k ∷ []) ms) stands (any-test test (at_key k ∷ []) ms (kept-free k ms are.named e))
       by_node None g (Some j) e found = absurd found
       by_node (Some n) g None e found = absurd found
-      by_node (Some n) g (Some j) e found = (n, g, (standing (spanned_in mode) k ms j n are e found).roles, (j, first_of_key-is k (kept ms) j e, found))
+      by_node (Some n) g (Some j) e found =
+          (n, g, (standing (spanned_in mode) k ms j n are e found).roles, (j, first_of_key-is k (kept ms) j e, found))
 
   -- The table of a block: its slots, and a change of them by the keys of its header alone.
   pub record HasBlock (p : Path) (ms : List (Mention Source)) (ss : Slots) : Type 0 where
@@ -140,17 +156,21 @@ module _ (mode : Mode) where
     pub goes : (change : Slots → Option Slots) → change_at p change ss ≡ change_along (keys_in p) change ss
 
   -- one key down, in a table
-  table-down : (k : Text) (p : Path) (ms : List (Mention Source)) (ss : Slots) → AreOfStatements ms → AreSlotsOf (spanned_in mode) ms (kept ms) ss
+  table-down : (k : Text) (p : Path) (ms : List (Mention Source)) (ss : Slots) → AreOfStatements ms
+      → AreSlotsOf (spanned_in mode) ms (kept ms) ss
       → some_at is_table_role (at_key k ∷ []) ms ≡ true
-      → ((inner : Slots) → AreSlotsOf (spanned_in mode) (under (at_key k) ms) (kept (under (at_key k) ms)) inner → HasBlock p (under (at_key k) ms) inner)
+      → ((inner : Slots) → AreSlotsOf (spanned_in mode) (under (at_key k) ms) (kept (under (at_key k) ms)) inner
+      → HasBlock p (under (at_key k) ms) inner)
       → HasBlock (at_key k ∷ p) ms ss
   table-down k p ms ss are h stands further =
       let (n, found, roles, (j, key, is)) = item-at is_table_role k ms ss are h stands in
       by_item n found (sym roles.table ∙ stands) j key is
     where
-      by_item : (n : Node) → node_at k ss ≡ Some n → is_table_node n ≡ true → (j : Mention Source) → k ≡ j.segment.key → IsSlotNode mode ms j n → HasBlock (at_key k ∷ p) ms ss
+      by_item : (n : Node) → node_at k ss ≡ Some n → is_table_node n ≡ true → (j : Mention Source) → k ≡ j.segment.key
+          → IsSlotNode mode ms j n → HasBlock (at_key k ∷ p) ms ss
       by_item (table f inner) g t j key is =
-          let block = further inner (subst (λ l. AreSlotsOf (spanned_in mode) (under (at_key l) ms) (kept (under (at_key l) ms)) inner) (sym key) is.2) in
+          let block = further inner (subst (λ l. AreSlotsOf (spanned_in mode) (under (at_key l) ms) (kept (under (at_key l) ms)) inner)
+          (sym key) is.2) in
           record {
             inner = block.inner;
             slots = block.slots;
@@ -166,9 +186,11 @@ module _ (mode : Mode) where
       by_item (tables x xs) g t j key is = absurd cc
 
   -- one element down
-  element-down : (k : Text) (i : ℕ) (p : Path) (ms : List (Mention Source)) (ss : Slots) → AreOfStatements ms → AreSlotsOf (spanned_in mode) ms (kept ms) ss
+  element-down : (k : Text) (i : ℕ) (p : Path) (ms : List (Mention Source)) (ss : Slots) → AreOfStatements ms
+      → AreSlotsOf (spanned_in mode) ms (kept ms) ss
       → suc i ≡ count_at is_array_role (at_key k ∷ []) ms
-      → ((inner : Slots) → AreSlotsOf (spanned_in mode) (under (at_element i) (under (at_key k) ms)) (kept (under (at_element i) (under (at_key k) ms))) inner
+      → ((inner : Slots) → AreSlotsOf (spanned_in mode) (under (at_element i) (under (at_key k) ms))
+      (kept (under (at_element i) (under (at_key k) ms))) inner
       → HasBlock p (under (at_element i) (under (at_key k) ms)) inner)
       → HasBlock (at_key k ∷ at_element i ∷ p) ms ss
   element-down k i p ms ss are h last further =
@@ -186,21 +208,25 @@ module _ (mode : Mode) where
       within : suc i ≡ length (array_headers (under (at_key k) ms))
       within = last ∙ sym (count-own (under (at_key k) ms) ∙ count-under is_array_role (at_key k) [] ms)
 
-      by_item : (n : Node) → node_at k ss ≡ Some n → is_array_node n ≡ true → (j : Mention Source) → k ≡ j.segment.key → IsSlotNode mode ms j n
+      by_item : (n : Node) → node_at k ss ≡ Some n → is_array_node n ≡ true → (j : Mention Source) → k ≡ j.segment.key
+          → IsSlotNode mode ms j n
           → HasBlock (at_key k ∷ at_element i ∷ p) ms ss
       by_item (tables x xs) g t j key is =
-          let elements = subst (λ l. AreElementsOf (spanned_in mode) (under (at_key l) ms) 0 (array_headers (under (at_key l) ms)) xs) (sym key) is.2 in
+          let elements = subst (λ l. AreElementsOf (spanned_in mode) (under (at_key l) ms) 0 (array_headers (under (at_key l) ms)) xs)
+          (sym key) is.2 in
           let element = last-found (under (at_key k) ms) 0 i (array_headers (under (at_key k) ms)) xs within elements in
           let same : 0 + i ≡ i = omega arith in
           let block =
           further element.inner
-          (subst (λ o. AreSlotsOf (spanned_in mode) (under (at_element o) (under (at_key k) ms)) (kept (under (at_element o) (under (at_key k) ms))) element.inner) same element.slots) in
+          (subst (λ o. AreSlotsOf (spanned_in mode) (under (at_element o) (under (at_key k) ms))
+          (kept (under (at_element o) (under (at_key k) ms))) element.inner) same element.slots) in
           record {
             inner = block.inner;
             slots = block.slots;
             found = found-down k (keys_in p) ss element.inner block.inner (tables x xs) g element.last block.found;
             goes = λ change.
-                under-change k (change_below_node (at_element i ∷ p) change) (change_in (change_along (keys_in p) change)) ss (tables x xs) g
+                under-change k (change_below_node (at_element i ∷ p) change) (change_in (change_along (keys_in p) change)) ss (tables x xs)
+                g
                 (ap (option_map (tables x))
                 (element.goes (change_below_node p change) (change_along (keys_in p) change)
                 (table-change p change element.fields element.inner ∙ ap (option_map (table element.fields)) (block.goes change))));
@@ -216,20 +242,24 @@ module _ (mode : Mode) where
   root-block ms ss h = record { inner = ss; slots = h; found = refl; goes = λ change. refl }
 
   -- A block's table is there, with the slots of what is mentioned below its path.
-  pub block_found : (p : Path) (ms : List (Mention Source)) (ss : Slots) → AreOfStatements ms → AreSlotsOf (spanned_in mode) ms (kept ms) ss → IsLastBlock p ms → HasBlock p ms ss
+  pub block_found : (p : Path) (ms : List (Mention Source)) (ss : Slots) → AreOfStatements ms → AreSlotsOf (spanned_in mode) ms (kept ms) ss
+      → IsLastBlock p ms → HasBlock p ms ss
   block_found [] ms ss are h block = root-block ms ss h
-  block_found (at_key k ∷ []) ms ss are h block = table-down k [] ms ss are h block (λ inner slots. root-block (under (at_key k) ms) inner slots)
+  block_found (at_key k ∷ []) ms ss are h block =
+      table-down k [] ms ss are h block (λ inner slots. root-block (under (at_key k) ms) inner slots)
   block_found (at_key k ∷ at_key l ∷ p) ms ss are h block =
       table-down k (at_key l ∷ p) ms ss are h block.0
       (λ inner slots. block_found (at_key l ∷ p) (under (at_key k) ms) inner (statements-under (at_key k) ms are) slots block.1)
   block_found (at_key k ∷ at_element i ∷ p) ms ss are h block =
       element-down k i p ms ss are h block.0
       (λ inner slots.
-      block_found p (under (at_element i) (under (at_key k) ms)) inner (statements-under (at_element i) (under (at_key k) ms) (statements-under (at_key k) ms are)) slots block.1)
+      block_found p (under (at_element i) (under (at_key k) ms)) inner
+      (statements-under (at_element i) (under (at_key k) ms) (statements-under (at_key k) ms are)) slots block.1)
   block_found (at_element i ∷ p) ms ss are h block = absurd block
 
   -- A key line can be added exactly where it agrees with the statements before it.
-  pub key_line_goes : (c : Context) (f : Frame) (v : Value) (end : Text) (ms : List (Mention Source)) (n : Node) (ss : Slots) → is_empty f.path ≡ false
+  pub key_line_goes : (c : Context) (f : Frame) (v : Value) (end : Text) (ms : List (Mention Source)) (n : Node) (ss : Slots)
+      → is_empty f.path ≡ false
       → AreOfStatements ms → IsLastBlock c.block ms → AreSlotsOf (spanned_in mode) ms (kept ms) ss
       → is_some (add_statement mode c (key_line f v end) n ss) ≡ agree may_meet ms (mentions_of c (key_line f v end))
   key_line_goes c f v end ms n ss keyed are block h =

@@ -13,7 +13,8 @@ use Rattle.toml_edit_model.specs.TableMentions.{inside, under, own, some_at, arr
 abbrev pub count_at : {S : Type 0} → (Role → Bool) → Path → List (Mention S) → ℕ
 count_at test p ms = length (filter (λ m. same_path m.path p && test m.role) ms)
 
-pub count-under : {S : Type 0} (test : Role → Bool) (s : Step) (p : Path) (ms : List (Mention S)) → count_at test p (under s ms) ≡ count_at test (s ∷ p) ms
+pub count-under : {S : Type 0} (test : Role → Bool) (s : Step) (p : Path) (ms : List (Mention S)) → count_at test p (under s ms)
+    ≡ count_at test (s ∷ p) ms
 count-under test s p [] = refl
 count-under {S} test s p (m ∷ ms) = by_path m.path (count-under test s p ms)
   where
@@ -43,7 +44,8 @@ count-none test p [] h = refl
 count-none {S} test p (m ∷ ms) h = by_test (same_path m.path p && test m.role) h (count-none test p ms)
   where
     by_test : (b : Bool) → (b || some_at test p ms) ≡ false → (some_at test p ms ≡ false → count_at test p ms ≡ 0)
-        → length (if b then m ∷ filter (λ (x : Mention S). same_path x.path p && test x.role) ms else filter (λ (x : Mention S). same_path x.path p && test x.role) ms) ≡ 0
+        → length (if b then m ∷ filter (λ (x : Mention S). same_path x.path p && test x.role) ms
+        else filter (λ (x : Mention S). same_path x.path p && test x.role) ms) ≡ 0
     by_test true h ih = absurd cc
     by_test false h ih = ih h
 
@@ -52,7 +54,8 @@ count-zero test p [] h = refl
 count-zero {S} test p (m ∷ ms) h = by_test (same_path m.path p && test m.role) h (count-zero test p ms)
   where
     by_test : (b : Bool)
-        → length (if b then m ∷ filter (λ (x : Mention S). same_path x.path p && test x.role) ms else filter (λ (x : Mention S). same_path x.path p && test x.role) ms) ≡ 0
+        → length (if b then m ∷ filter (λ (x : Mention S). same_path x.path p && test x.role) ms
+        else filter (λ (x : Mention S). same_path x.path p && test x.role) ms) ≡ 0
         → (count_at test p ms ≡ 0 → some_at test p ms ≡ false) → (b || some_at test p ms) ≡ false
     by_test true h ih = absurd cc
     by_test false h ih = ih h
@@ -64,13 +67,15 @@ count-own {S} (m ∷ ms) = by_path m.path (count-own ms)
   where
     by_role : (b : Bool) → length (array_headers ms) ≡ count_at is_array_role [] ms
         → length (if b then m ∷ array_headers ms else array_headers ms)
-        ≡ length (if b then m ∷ filter (λ (x : Mention S). same_path x.path [] && is_array_role x.role) ms else filter (λ (x : Mention S). same_path x.path [] && is_array_role x.role) ms)
+        ≡ length (if b then m ∷ filter (λ (x : Mention S). same_path x.path [] && is_array_role x.role) ms
+        else filter (λ (x : Mention S). same_path x.path [] && is_array_role x.role) ms)
     by_role true ih = ap suc ih
     by_role false ih = ih
 
     by_path : (p : Path) → length (array_headers ms) ≡ count_at is_array_role [] ms
         → length (filter (λ (x : Mention S). is_array_role x.role) (if is_empty p then m ∷ own ms else own ms))
-        ≡ length (if same_path p [] && is_array_role m.role then m ∷ filter (λ (x : Mention S). same_path x.path [] && is_array_role x.role) ms
+        ≡ length (if same_path p [] && is_array_role m.role then m
+        ∷ filter (λ (x : Mention S). same_path x.path [] && is_array_role x.role) ms
         else filter (λ (x : Mention S). same_path x.path [] && is_array_role x.role) ms)
     by_path [] ih = by_role (is_array_role m.role) ih
     by_path (s ∷ p) ih = ih
@@ -79,7 +84,8 @@ count-own {S} (m ∷ ms) = by_path m.path (count-own ms)
 abbrev pub AreCounted : {S : Type 0} → List Path → List (Mention S) → Type 0
 AreCounted arrays ms = (p : Path) → elements_at arrays p ≡ count_at is_array_role p ms
 
-pub counted-under : {S : Type 0} (s : Step) (arrays : List Path) (ms : List (Mention S)) → AreCounted arrays ms → AreCounted (paths_under s arrays) (under s ms)
+pub counted-under : {S : Type 0} (s : Step) (arrays : List Path) (ms : List (Mention S)) → AreCounted arrays ms
+    → AreCounted (paths_under s arrays) (under s ms)
 counted-under s arrays ms h p = elements-under s p arrays ∙ h (s ∷ p) ∙ sym (count-under is_array_role s p ms)
 
 -- the elements of the array at a step

@@ -1,13 +1,16 @@
 -- A statement that can't be added to the slots of the right statements before it is the first faulty one, and its fault is among those
 -- that are named.
-use Rattle.std.proofs.Common.{◌≡◌, refl, sym, ◌∙◌, ap, subst, ℕ, ◌+◌, Bool, true, false, List, [], ◌∷◌, ◌++◌, append_assoc, length, Option, Some, None, inl}
+use Rattle.std.proofs.Common.{◌≡◌, refl, sym, ◌∙◌, ap, subst, ℕ, ◌+◌, Bool, true, false, List, [], ◌∷◌, ◌++◌, append_assoc, length, Option}
+use Rattle.std.proofs.Common.{Some, None, inl}
 use Rattle.std.specs.Prelude.{◌&&◌, nat_le}
 use Rattle.std.specs.List.{AllByRecursion, list_all}
 use Rattle.std.proofs.Math.Bool.{and-false}
 use Rattle.toml_edit_model.specs.Mode.{Mode}
 use Rattle.toml_edit_model.specs.Text.{Text}
-use Rattle.toml_edit_model.specs.Syntax.{Segment, Frame, Value, Header, Statement, key_line, header, Document, path_text, depth, nesting_limit, is_short, has_short_keys, keeps_ranges}
-use Rattle.toml_edit_model.specs.Paths.{Mention, Source, Placed, Context, source_of, mentions_of, path_start, context_after, start_context, placed_from, placed}
+use Rattle.toml_edit_model.specs.Syntax.{Segment, Frame, Value, Header, Statement, key_line, header, Document, path_text, depth}
+use Rattle.toml_edit_model.specs.Syntax.{nesting_limit, is_short, has_short_keys, keeps_ranges}
+use Rattle.toml_edit_model.specs.Paths.{Mention, Source, Placed, Context, source_of, mentions_of, path_start, context_after, start_context}
+use Rattle.toml_edit_model.specs.Paths.{placed_from, placed}
 use Rattle.toml_edit_model.specs.Accepted.{agree, has_agreeing_pairs, is_sound, is_accepted}
 use Rattle.toml_edit_model.specs.Faults.{Fault, first_clash, statement_clash, long_path, value_faults, own_faults, faults_in}
 use Rattle.toml_edit_model.specs.Tree.{Node, Slots}
@@ -52,8 +55,10 @@ pub right-none : (earlier : List Placed) (s : Placed) → is_right_after earlier
 right-none earlier s h =
     let ms = mentions_in earlier in
     let each = list_all (λ (e : Placed). agree may_meet e.mentions s.mentions) earlier in
-    let agreed : agree may_meet ms s.mentions ≡ true = sym (agree-each earlier s.mentions) ∙ and_right (is_sound s.source.statement) each h in
-    ap (λ fs. fs ++ statement_clash (first_clash may_meet ms s.mentions)) (sound-none s.source.start s.source.statement (and_left (is_sound s.source.statement) each h))
+    let agreed : agree may_meet ms s.mentions ≡ true = sym (agree-each earlier s.mentions)
+    ∙ and_right (is_sound s.source.statement) each h in
+    ap (λ fs. fs ++ statement_clash (first_clash may_meet ms s.mentions))
+    (sound-none s.source.start s.source.statement (and_left (is_sound s.source.statement) each h))
     ∙ ap statement_clash (none-is (first_clash may_meet ms s.mentions) (sym (agree-clash may_meet ms s.mentions) ∙ agreed))
   where
     none-is : {A : Type 0} (o : Option A) → is_none o ≡ true → o ≡ None
@@ -62,15 +67,18 @@ right-none earlier s h =
 
 -- ---- the first statement with faults
 
-pub faults-pass : (earlier rest : List Placed) (s : Placed) → faults_in earlier s ≡ [] → first_faults earlier (s ∷ rest) ≡ first_faults (earlier ++ (s ∷ [])) rest
+pub faults-pass : (earlier rest : List Placed) (s : Placed) → faults_in earlier s ≡ [] → first_faults earlier (s ∷ rest)
+    ≡ first_faults (earlier ++ (s ∷ [])) rest
 unfolding first_faults
 faults-pass earlier rest s h = rw h refl
 
-pub faults-stop : (earlier rest : List Placed) (s : Placed) (f : Fault) (fs : List Fault) → faults_in earlier s ≡ f ∷ fs → first_faults earlier (s ∷ rest) ≡ f ∷ fs
+pub faults-stop : (earlier rest : List Placed) (s : Placed) (f : Fault) (fs : List Fault) → faults_in earlier s ≡ f ∷ fs
+    → first_faults earlier (s ∷ rest) ≡ f ∷ fs
 unfolding first_faults
 faults-stop earlier rest s f fs h = rw h refl
 
-pub first-after : (earlier done rest : List Placed) → all_right_after earlier done ≡ true → first_faults earlier (done ++ rest) ≡ first_faults (earlier ++ done) rest
+pub first-after : (earlier done rest : List Placed) → all_right_after earlier done ≡ true → first_faults earlier (done ++ rest)
+    ≡ first_faults (earlier ++ done) rest
 first-after earlier [] rest h = ap (λ es. first_faults es rest) (sym (append-nil earlier))
 first-after earlier (s ∷ done) rest h =
     let later = all_right_after (earlier ++ (s ∷ [])) done in
@@ -78,56 +86,67 @@ first-after earlier (s ∷ done) rest h =
     ∙ first-after (earlier ++ (s ∷ [])) done rest (and_right (is_right_after earlier s) later h)
     ∙ ap (λ es. first_faults es rest) (append_assoc earlier (s ∷ []) done)
 
-pub first-among : (earlier rest : List Placed) (s : Placed) (f : Fault) → Among f (faults_in earlier s) → Among f (first_faults earlier (s ∷ rest))
+pub first-among : (earlier rest : List Placed) (s : Placed) (f : Fault) → Among f (faults_in earlier s)
+    → Among f (first_faults earlier (s ∷ rest))
 first-among earlier rest s f h = by_faults (faults_in earlier s) refl h
   where
     by_faults : (fs : List Fault) → faults_in earlier s ≡ fs → Among f fs → Among f (first_faults earlier (s ∷ rest))
     by_faults [] e h = absurd h
     by_faults (g ∷ gs) e h = subst (Among f) (sym (faults-stop earlier rest s g gs e)) h
 
-pub right-append : (earlier xs ys : List Placed) → all_right_after earlier (xs ++ ys) ≡ (all_right_after earlier xs && all_right_after (earlier ++ xs) ys)
+pub right-append : (earlier xs ys : List Placed) → all_right_after earlier (xs ++ ys)
+    ≡ (all_right_after earlier xs && all_right_after (earlier ++ xs) ys)
 right-append earlier [] ys = ap (λ es. all_right_after es ys) (sym (append-nil earlier))
 right-append earlier (s ∷ xs) ys =
     ap (λ b. is_right_after earlier s && b)
-    (right-append (earlier ++ (s ∷ [])) xs ys ∙ ap (λ es. all_right_after (earlier ++ (s ∷ [])) xs && all_right_after es ys) (append_assoc earlier (s ∷ []) xs))
+    (right-append (earlier ++ (s ∷ [])) xs ys ∙ ap (λ es. all_right_after (earlier ++ (s ∷ [])) xs
+    && all_right_after es ys) (append_assoc earlier (s ∷ []) xs))
     ∙ sym (and-assoc (is_right_after earlier s) (all_right_after (earlier ++ (s ∷ [])) xs) (all_right_after (earlier ++ (s ∷ xs)) ys))
 
 -- ---- a statement among others
 
-pub placed-append : (c : Context) (xs ys : List Statement) → placed_from c (xs ++ ys) ≡ placed_from c xs ++ placed_from (context_from c xs) ys
+pub placed-append : (c : Context) (xs ys : List Statement) → placed_from c (xs ++ ys) ≡ placed_from c xs
+    ++ placed_from (context_from c xs) ys
 placed-append c [] ys = refl
 placed-append c (s ∷ xs) ys = ap (λ ps. placed_at c s ∷ ps) (placed-append (context_after c s) xs ys)
 
 -- A statement that isn't right after the right ones before it is the first faulty one, and what stands in it are the faults.
 pub stops : (d : Document) (done : List Statement) (s : Statement) (rest : List Statement) (f : Fault) → d.statements ≡ done ++ (s ∷ rest)
     → all_right_after [] (done_places d done) ≡ true → is_right_after (done_places d done) (placed_at (context_behind d done) s) ≡ false
-    → Among f (faults_in (done_places d done) (placed_at (context_behind d done) s)) → (is_accepted d ≡ false) × Among f (first_faults [] (placed d))
+    → Among f (faults_in (done_places d done) (placed_at (context_behind d done) s)) → (is_accepted d ≡ false)
+    × Among f (first_faults [] (placed d))
 stops d done s rest f is right wrong among =
     let here = placed_at (context_behind d done) s in
     let later = placed_from (context_after (context_behind d done) s) rest in
-    let all : placed d ≡ done_places d done ++ (here ∷ later) = ap (placed_from (start_context d)) is ∙ placed-append (start_context d) done (s ∷ rest) in (
+    let all : placed d ≡ done_places d done ++ (here ∷ later) = ap (placed_from (start_context d)) is
+    ∙ placed-append (start_context d) done (s ∷ rest) in (
       accepted-is d ∙ ap (all_right_after []) all
           ∙ right-append [] (done_places d done) (here ∷ later)
           ∙ ap (λ b. all_right_after [] (done_places d done) && (b && all_right_after (done_places d done ++ (here ∷ [])) later)) wrong
           ∙ and-false (all_right_after [] (done_places d done)),
       subst (λ ps. Among f (first_faults [] ps)) (sym all)
-          (subst (Among f) (sym (first-after [] (done_places d done) (here ∷ later) right)) (first-among (done_places d done) later here f among)),
+          (subst (Among f) (sym (first-after [] (done_places d done) (here ∷ later) right))
+          (first-among (done_places d done) later here f among)),
     )
 
 -- one that doesn't agree with them isn't right
-pub off-wrong : (earlier : List Placed) (here : Placed) → agree may_meet (mentions_in earlier) here.mentions ≡ false → is_right_after earlier here ≡ false
+pub off-wrong : (earlier : List Placed) (here : Placed) → agree may_meet (mentions_in earlier) here.mentions ≡ false
+    → is_right_after earlier here ≡ false
 off-wrong earlier here off =
     ap (λ b. is_sound here.source.statement && b) (agree-each earlier here.mentions ∙ off) ∙ and-false (is_sound here.source.statement)
 
 refused : (d : Document) (done : List Statement) (s : Statement) (rest : List Statement) (f : Fault) → d.statements ≡ done ++ (s ∷ rest)
-    → all_right_after [] (done_places d done) ≡ true → agree may_meet (mentions_in (done_places d done)) (mentions_of (context_behind d done) s) ≡ false
-    → Among f (faults_in (done_places d done) (placed_at (context_behind d done) s)) → (is_accepted d ≡ false) × Among f (first_faults [] (placed d))
+    → all_right_after [] (done_places d done) ≡ true → agree may_meet (mentions_in (done_places d done))
+    (mentions_of (context_behind d done) s) ≡ false
+    → Among f (faults_in (done_places d done) (placed_at (context_behind d done) s)) → (is_accepted d ≡ false)
+    × Among f (first_faults [] (placed d))
 refused d done s rest f is right off among =
     stops d done s rest f is right (off-wrong (done_places d done) (placed_at (context_behind d done) s) off) among
 
 module _ (mode : Mode) where
   -- A header that can't be added after right statements makes the document faulty, and its fault is one of those.
-  pub header_refused : (d : Document) (done : List Statement) (h : Header) (end : Text) (rest : List Statement) (ss : Slots) (x : Mention Source × Node)
+  pub header_refused : (d : Document) (done : List Statement) (h : Header) (end : Text) (rest : List Statement) (ss : Slots)
+      (x : Mention Source × Node)
       → d.statements ≡ done ++ (header h end ∷ rest) → AllByRecursion HasKey done → all_right_after [] (done_places d done) ≡ true
       → AreSlotsOf (spanned_in mode) (mentions_in (done_places d done)) (kept (mentions_in (done_places d done))) ss
       → header_clash h.is_array (own_mentions (context_behind d done) (header h end)) ss ≡ Some x
@@ -136,16 +155,21 @@ module _ (mode : Mode) where
       let c = context_behind d done in
       let before = before_all (start_context d) done [] keyed (before_none d) right in
       let off : agree may_meet (mentions_in (done_places d done)) (mentions_of c (header h end)) ≡ false =
-      header_agrees mode h.is_array (source_of c (header h end)) c.arrays (c.start + path_start (header h end)) h.path (mentions_in (done_places d done)) ss before.statements before.counted slots
+      header_agrees mode h.is_array (source_of c (header h end)) c.arrays (c.start
+      + path_start (header h end)) h.path (mentions_in (done_places d done)) ss before.statements before.counted slots
       ∙ ap is_none clashes in
-      let faults = header_fault mode c h end (done_places d done) ss before.statements before.counted slots ∙ ap (λ o. own_faults c.start (header h end) ++ table_way_faults o) clashes in
+      let faults = header_fault mode c h end (done_places d done) ss before.statements before.counted slots
+      ∙ ap (λ o. own_faults c.start (header h end) ++ table_way_faults o) clashes in
       refused d done (header h end) rest (table_way_fault x) is right off
-      (subst (Among (table_way_fault x)) (sym faults) (among-right (table_way_fault x) (own_faults c.start (header h end)) (table_way_fault x ∷ []) (inl refl)))
+      (subst (Among (table_way_fault x)) (sym faults) (among-right (table_way_fault x) (own_faults c.start (header h end))
+      (table_way_fault x ∷ []) (inl refl)))
 
   -- So does a key line that can't be added to the slots of its block's table.
-  pub line_refused : (d : Document) (done : List Statement) (f : Frame) (v : Value) (end : Text) (rest : List Statement) (ss : Slots) (x : Mention Source × Node)
+  pub line_refused : (d : Document) (done : List Statement) (f : Frame) (v : Value) (end : Text) (rest : List Statement) (ss : Slots)
+      (x : Mention Source × Node)
       → d.statements ≡ done ++ (key_line f v end ∷ rest) → AllByRecursion HasKey done → all_right_after [] (done_places d done) ≡ true
-      → AreSlotsOf (spanned_in mode) (under_path (context_behind d done).block (mentions_in (done_places d done))) (kept (under_path (context_behind d done).block (mentions_in (done_places d done)))) ss
+      → AreSlotsOf (spanned_in mode) (under_path (context_behind d done).block (mentions_in (done_places d done)))
+      (kept (under_path (context_behind d done).block (mentions_in (done_places d done)))) ss
       → line_clash (own_mentions (context_behind d done) (key_line f v end)) ss ≡ Some x
       → (is_accepted d ≡ false) × Among (table_way_fault x) (first_faults [] (placed d))
   line_refused d done f v end rest ss x is keyed right slots clashes =
@@ -156,7 +180,10 @@ module _ (mode : Mode) where
       let before = before_all (start_context d) done [] keyed (before_none d) right in
       let here = statements-under_path c.block ms before.statements in
       let off : agree may_meet ms (mentions_of c (key_line f v end)) ≡ false =
-      agree-below c.block source start f.path ms ∙ line_agrees mode source start f.path (under_path c.block ms) ss here slots ∙ ap is_none clashes in
-      let faults = line_fault mode c f v end (done_places d done) ss here slots ∙ ap (λ o. own_faults c.start (key_line f v end) ++ table_way_faults o) clashes in
+      agree-below c.block source start f.path ms ∙ line_agrees mode source start f.path (under_path c.block ms) ss here slots
+      ∙ ap is_none clashes in
+      let faults = line_fault mode c f v end (done_places d done) ss here slots
+      ∙ ap (λ o. own_faults c.start (key_line f v end) ++ table_way_faults o) clashes in
       refused d done (key_line f v end) rest (table_way_fault x) is right off
-      (subst (Among (table_way_fault x)) (sym faults) (among-right (table_way_fault x) (own_faults c.start (key_line f v end)) (table_way_fault x ∷ []) (inl refl)))
+      (subst (Among (table_way_fault x)) (sym faults) (among-right (table_way_fault x) (own_faults c.start (key_line f v end))
+      (table_way_fault x ∷ []) (inl refl)))

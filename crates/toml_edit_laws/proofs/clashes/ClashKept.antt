@@ -19,7 +19,8 @@ pub find-holds : {A : Type 0} (test : A → Bool) (xs : List A) (x : A) → find
 find-holds test [] x h = absurd cc
 find-holds {A} test (y ∷ ys) x h = by_test (test y) refl h (find-holds test ys x)
   where
-    by_test : (b : Bool) → test y ≡ b → (if b then Some y else find test ys) ≡ Some x → (find test ys ≡ Some x → test x ≡ true) → test x ≡ true
+    by_test : (b : Bool) → test y ≡ b → (if b then Some y else find test ys) ≡ Some x → (find test ys ≡ Some x → test x ≡ true) → test x
+        ≡ true
     by_test true e h ih = let here : y ≡ x = cc in subst (λ z. test z ≡ true) here e
     by_test false e h ih = ih h
 
@@ -47,9 +48,11 @@ some_at-such test p (m ∷ ms) = by_test (same_path m.path p && test m.role) (so
 -- ---- the mention of a slot
 
 -- one mention more in front: whether it is a slot, its key is mentioned before, it is at the key, and of a header
-lead-step : {S : Type 0} (k : Text) (m : Mention S) (later : List (Mention S)) (head first : Option (Mention S)) (slot seen here of_header : Bool)
+lead-step : {S : Type 0} (k : Text) (m : Mention S) (later : List (Mention S)) (head first : Option (Mention S))
+    (slot seen here of_header : Bool)
     → first_of_key k later ≡ option_or head (if seen || ((here && true) || false) then None else first)
-    → (here ≡ true → (slot ≡ (of_header || (not seen && not (is_some head)))) × (is_of_key k m ≡ true)) → (here ≡ false → slot ≡ true → is_of_key k m ≡ false)
+    → (here ≡ true → (slot ≡ (of_header || (not seen && not (is_some head)))) × (is_of_key k m ≡ true))
+    → (here ≡ false → slot ≡ true → is_of_key k m ≡ false)
     → first_of_key k (if slot then m ∷ later else later)
     ≡ option_or (if here && of_header then Some m else head) (if seen then None else if here then Some m else first)
 lead-step {S} k m later head first slot seen true of_header h at off =
@@ -58,7 +61,8 @@ lead-step {S} k m later head first slot seen true of_header h at off =
     here : first_of_key k (m ∷ later) ≡ Some m
     here = rw ((at refl).1) refl
 
-    by_header : (of_header seen : Bool) (head : Option (Mention S)) → first_of_key k later ≡ option_or head (if seen || true then None else first)
+    by_header : (of_header seen : Bool) (head : Option (Mention S)) → first_of_key k later
+        ≡ option_or head (if seen || true then None else first)
         → first_of_key k (if of_header || (not seen && not (is_some head)) then m ∷ later else later)
         ≡ option_or (if of_header then Some m else head) (if seen then None else Some m)
     by_header true seen head h = here
@@ -78,7 +82,8 @@ lead-step {S} k m later head first slot seen false of_header h at off = by_slot 
 
 kept_from-lead : {S : Type 0} (k : Text) (before ms : List (Mention S)) → AreNamed ms
     → first_of_key k (kept_from before ms)
-    ≡ option_or (first_such is_header_role (at_key k ∷ []) ms) (if some_at any_role (at_key k ∷ []) before then None else first_at (at_key k ∷ []) ms)
+    ≡ option_or (first_such is_header_role (at_key k ∷ []) ms) (if some_at any_role (at_key k ∷ []) before then None
+    else first_at (at_key k ∷ []) ms)
 kept_from-lead {S} k before [] n = by_test (some_at any_role (at_key k ∷ []) before)
   where
     nothing : Option (Mention S)
@@ -88,19 +93,22 @@ kept_from-lead {S} k before [] n = by_test (some_at any_role (at_key k ∷ []) b
     by_test true = refl
     by_test false = refl
 kept_from-lead k before (m ∷ ms) n =
-    lead-step k m (kept_from (before ++ (m ∷ [])) ms) (first_such is_header_role (at_key k ∷ []) ms) (first_at (at_key k ∷ []) ms) (is_slot before m ms)
+    lead-step k m (kept_from (before ++ (m ∷ [])) ms) (first_such is_header_role (at_key k ∷ []) ms) (first_at (at_key k ∷ []) ms)
+    (is_slot before m ms)
     (some_at any_role (at_key k ∷ []) before) (same_path m.path (at_key k ∷ [])) (is_header_role m.role)
     (kept_from-lead k (before ++ (m ∷ [])) ms n.1
     ∙ ap (λ b. option_or (first_such is_header_role (at_key k ∷ []) ms) (if b then None else first_at (at_key k ∷ []) ms))
     (some_at-append any_role (at_key k ∷ []) before (m ∷ [])))
     (λ e. let here = same_path-is m.path (at_key k ∷ []) e in (
       ap (λ p. is_single p && (is_header_role m.role || (not (some_at any_role p before) && not (some_at is_header_role p ms)))) here
-          ∙ ap (λ b. is_header_role m.role || (not (some_at any_role (at_key k ∷ []) before) && not b)) (some_at-such is_header_role (at_key k ∷ []) ms),
+          ∙ ap (λ b. is_header_role m.role || (not (some_at any_role (at_key k ∷ []) before) && not b))
+          (some_at-such is_header_role (at_key k ∷ []) ms),
       subst (λ x. same_text k x ≡ true) (named-at m.path m.segment.key k n.0 here) (same_text-refl k),
     ))
     (λ e s.
     other-key m.path m.segment.key k n.0
-    (and_left (is_single m.path) (is_header_role m.role || (not (some_at any_role m.path before) && not (some_at is_header_role m.path ms))) s) e)
+    (and_left (is_single m.path) (is_header_role m.role
+    || (not (some_at any_role m.path before) && not (some_at is_header_role m.path ms))) s) e)
 
 -- The slot of a key is kept from its plain header, else from its first mention.
 pub kept-lead : {S : Type 0} (k : Text) (ms : List (Mention S)) → AreNamed ms
@@ -112,7 +120,8 @@ kept-lead k ms n = kept_from-lead k [] ms n
 -- it is the first header there, or the first mention where there is no header
 abbrev pub IsLead : {S : Type 0} → Path → List (Mention S) → Mention S → Type 0
 IsLead p ms j =
-    ((is_header_role j.role ≡ true) × (first_such is_header_role p ms ≡ Some j)) ⊎ ((some_at is_header_role p ms ≡ false) × (first_at p ms ≡ Some j))
+    ((is_header_role j.role ≡ true) × (first_such is_header_role p ms ≡ Some j))
+    ⊎ ((some_at is_header_role p ms ≡ false) × (first_at p ms ≡ Some j))
 
 pub kept-is-lead : {S : Type 0} (k : Text) (ms : List (Mention S)) (j : Mention S) → AreNamed ms → first_of_key k (kept ms) ≡ Some j
     → IsLead (at_key k ∷ []) ms j
@@ -125,11 +134,16 @@ kept-is-lead {S} k ms j n h = by_head (first_such is_header_role p ms) refl (sym
     by_head (Some x) e g =
         let here : x ≡ j = cc in
         let found : first_such is_header_role p ms ≡ Some j = e ∙ g in
-        inl (and_right (same_path j.path p) (is_header_role j.role) (find-holds (λ (m : Mention S). same_path m.path p && is_header_role m.role) ms j found), found)
+        inl (
+          and_right (same_path j.path p) (is_header_role j.role) (find-holds (λ (m : Mention S). same_path m.path p
+              && is_header_role m.role) ms j found),
+          found,
+        )
     by_head None e g = inr (some_at-such is_header_role p ms ∙ ap is_some e, g)
 
 -- a key with no slot isn't mentioned
-pub kept-free : {S : Type 0} (k : Text) (ms : List (Mention S)) → AreNamed ms → first_of_key k (kept ms) ≡ None → some_at any_role (at_key k ∷ []) ms ≡ false
+pub kept-free : {S : Type 0} (k : Text) (ms : List (Mention S)) → AreNamed ms → first_of_key k (kept ms) ≡ None
+    → some_at any_role (at_key k ∷ []) ms ≡ false
 kept-free {S} k ms n h =
     some_at-first (at_key k ∷ []) ms
     ∙ ap is_some (by_head (first_such is_header_role (at_key k ∷ []) ms) (first_at (at_key k ∷ []) ms) (sym (kept-lead k ms n) ∙ h))
@@ -139,14 +153,17 @@ kept-free {S} k ms n h =
     by_head (Some x) first g = absurd cc
 
 -- a role that it has is at its path
-pub lead-role : {S : Type 0} (test : Role → Bool) (p : Path) (ms : List (Mention S)) (j : Mention S) → IsLead p ms j → test j.role ≡ true → some_at test p ms ≡ true
+pub lead-role : {S : Type 0} (test : Role → Bool) (p : Path) (ms : List (Mention S)) (j : Mention S) → IsLead p ms j → test j.role ≡ true
+    → some_at test p ms ≡ true
 lead-role {S} test p ms j lead e =
     elim lead [
-      | inl h ↦ found (λ m. same_path m.path p && is_header_role m.role) (λ m g. and_left (same_path m.path p) (is_header_role m.role) g) ms h.1
+      | inl h ↦ found (λ m. same_path m.path p && is_header_role m.role) (λ m g. and_left (same_path m.path p) (is_header_role m.role) g) ms
+          h.1
       | inr h ↦ found (λ m. same_path m.path p) (λ m g. g) ms h.1
     ]
   where
-    found : (pass : Mention S → Bool) → ((m : Mention S) → pass m ≡ true → same_path m.path p ≡ true) → (ns : List (Mention S)) → find pass ns ≡ Some j
+    found : (pass : Mention S → Bool) → ((m : Mention S) → pass m ≡ true → same_path m.path p ≡ true) → (ns : List (Mention S))
+        → find pass ns ≡ Some j
         → some_at test p ns ≡ true
     found pass at [] g = absurd cc
     found pass at (x ∷ ns) g = by_pass (pass x) refl g (found pass at ns)
@@ -155,7 +172,8 @@ lead-role {S} test p ms j lead e =
         by_test true g = refl
         by_test false g = g
 
-        by_pass : (b : Bool) → pass x ≡ b → (if b then Some x else find pass ns) ≡ Some j → (find pass ns ≡ Some j → some_at test p ns ≡ true)
+        by_pass : (b : Bool) → pass x ≡ b → (if b then Some x else find pass ns) ≡ Some j
+            → (find pass ns ≡ Some j → some_at test p ns ≡ true)
             → ((same_path x.path p && test x.role) || some_at test p ns) ≡ true
         by_pass true f g ih =
             let here : x ≡ j = cc in

@@ -52,7 +52,8 @@ pub meeting-under : {S : Type 0} (s : Step) (ms : List (Mention S)) → HaveMeet
 meeting-under s [] h = tt
 meeting-under {S} s (m ∷ ms) h = by_path m.path h.0 (meeting-under s ms h.1)
   where
-    by_path : (p : Path) → some_at (λ r. not (may_meet m.role r)) p ms ≡ false → HaveMeetingRoles (under s ms) → HaveMeetingRoles (inside s m p ++ under s ms)
+    by_path : (p : Path) → some_at (λ r. not (may_meet m.role r)) p ms ≡ false → HaveMeetingRoles (under s ms)
+        → HaveMeetingRoles (inside s m p ++ under s ms)
     by_path [] g ih = ih
     by_path (t ∷ p) g ih = by_step (same_step t s) refl
       where
@@ -65,7 +66,8 @@ meeting-under {S} s (m ∷ ms) h = by_path m.path h.0 (meeting-under s ms h.1)
         by_step false e = ih
 
 -- a later mention that agrees with one has a role that it may meet
-meets-none : {S : Type 0} (x : Mention S) (later : List (Mention S)) → list_all (λ n. not (same_path x.path n.path) || may_meet x.role n.role) later ≡ true
+meets-none : {S : Type 0} (x : Mention S) (later : List (Mention S))
+    → list_all (λ n. not (same_path x.path n.path) || may_meet x.role n.role) later ≡ true
     → some_at (λ r. not (may_meet x.role r)) x.path later ≡ false
 meets-none x [] h = refl
 meets-none x (n ∷ later) h =
@@ -79,35 +81,41 @@ meets-none x (n ∷ later) h =
     by_test true false h = absurd cc
     by_test false b h = refl
 
-pub meeting-both : {S : Type 0} (xs ys : List (Mention S)) → HaveMeetingRoles xs → HaveMeetingRoles ys → agree may_meet xs ys ≡ true → HaveMeetingRoles (xs ++ ys)
+pub meeting-both : {S : Type 0} (xs ys : List (Mention S)) → HaveMeetingRoles xs → HaveMeetingRoles ys → agree may_meet xs ys ≡ true
+    → HaveMeetingRoles (xs ++ ys)
 meeting-both [] ys g h e = h
 meeting-both (x ∷ xs) ys g h e = (
   some_at-append (λ r. not (may_meet x.role r)) x.path xs ys
       ∙ or_from (some_at (λ r. not (may_meet x.role r)) x.path xs) (some_at (λ r. not (may_meet x.role r)) x.path ys) g.0
       (meets-none x ys (and_left (list_all (λ n. not (same_path x.path n.path) || may_meet x.role n.role) ys) (agree may_meet xs ys) e)),
-  meeting-both xs ys g.1 h (and_right (list_all (λ n. not (same_path x.path n.path) || may_meet x.role n.role) ys) (agree may_meet xs ys) e),
+  meeting-both xs ys g.1 h (and_right (list_all (λ n. not (same_path x.path n.path) || may_meet x.role n.role) ys) (agree may_meet xs ys)
+      e),
 )
 
 -- roles of one kind may meet none of the other, in neither order, and none is of both
 abbrev pub are_apart : (Role → Bool) → (Role → Bool) → Bool
 are_apart first second =
-    every_role (λ r. implies (first r) (not (second r)) && every_role (λ q. implies (first r && second q) (not (may_meet r q) && not (may_meet q r))))
+    every_role (λ r. implies (first r) (not (second r))
+    && every_role (λ q. implies (first r && second q) (not (may_meet r q) && not (may_meet q r))))
 
 -- They aren't at one path.
-pub kinds-apart : {S : Type 0} (first second : Role → Bool) (p : Path) (ms : List (Mention S)) → are_apart first second ≡ true → HaveMeetingRoles ms
+pub kinds-apart : {S : Type 0} (first second : Role → Bool) (p : Path) (ms : List (Mention S)) → are_apart first second ≡ true
+    → HaveMeetingRoles ms
     → some_at first p ms ≡ true → some_at second p ms ≡ false
 kinds-apart first second p [] apart h e = absurd cc
 kinds-apart {S} first second p (m ∷ ms) apart h e = by_path (same_path m.path p) refl e (kinds-apart first second p ms apart h.1)
   where
     both : implies (first m.role) (not (second m.role)) ≡ true
     both = and_left (implies (first m.role) (not (second m.role))) _
-        (by_role (λ r. implies (first r) (not (second r)) && every_role (λ q. implies (first r && second q) (not (may_meet r q) && not (may_meet q r)))) apart m.role)
+        (by_role (λ r. implies (first r) (not (second r)) && every_role (λ q. implies (first r && second q) (not (may_meet r q)
+        && not (may_meet q r)))) apart m.role)
 
     off : (r q : Role) → implies (first r && second q) (not (may_meet r q) && not (may_meet q r)) ≡ true
     off r q =
         by_role (λ s. implies (first r && second s) (not (may_meet r s) && not (may_meet s r)))
         (and_right (implies (first r) (not (second r))) _
-        (by_role (λ s. implies (first s) (not (second s)) && every_role (λ t. implies (first s && second t) (not (may_meet s t) && not (may_meet t s)))) apart r)) q
+        (by_role (λ s. implies (first s) (not (second s)) && every_role (λ t. implies (first s && second t) (not (may_meet s t)
+        && not (may_meet t s)))) apart r)) q
 
     none : m.path ≡ p → some_at (λ r. not (may_meet m.role r)) p ms ≡ false
     none same = subst (λ q. some_at (λ r. not (may_meet m.role r)) q ms ≡ false) same h.0
@@ -134,7 +142,8 @@ kinds-apart {S} first second p (m ∷ ms) apart h e = by_path (same_path m.path 
         (λ q. later (first q) (second m.role) (not (may_meet q m.role)) (not (may_meet m.role q)) (off q m.role) s) (none same))
     others false false f s same e ih = ih e
 
-    by_path : (b : Bool) → same_path m.path p ≡ b → ((b && first m.role) || some_at first p ms) ≡ true → (some_at first p ms ≡ true → some_at second p ms ≡ false)
+    by_path : (b : Bool) → same_path m.path p ≡ b → ((b && first m.role) || some_at first p ms) ≡ true
+        → (some_at first p ms ≡ true → some_at second p ms ≡ false)
         → ((b && second m.role) || some_at second p ms) ≡ false
     by_path true g e ih = others (first m.role) (second m.role) refl refl (same_path-is m.path p g) e ih
     by_path false g e ih = ih e
@@ -149,7 +158,8 @@ first_role-under s p [] = refl
 first_role-under {S} s p (m ∷ ms) = by_path m.path (first_role-under s p ms)
   where
     by_path : (q : Path) → first_role p (under s ms) ≡ first_role (s ∷ p) ms
-        → first_role p (inside s m q ++ under s ms) ≡ option_map (λ (x : Mention S). x.role) (if same_path q (s ∷ p) then Some m else first_at (s ∷ p) ms)
+        → first_role p (inside s m q ++ under s ms) ≡ option_map (λ (x : Mention S). x.role) (if same_path q (s ∷ p) then Some m
+        else first_at (s ∷ p) ms)
     by_path [] ih = ih
     by_path (t ∷ q) ih = by_step (same_step t s)
       where
@@ -170,7 +180,8 @@ first_role-both {S} p (m ∷ xs) ys = by_test (same_path m.path p) (first_role-b
   where
     by_test : (b : Bool) → first_role p (xs ++ ys) ≡ (if some_at any_role p xs then first_role p xs else first_role p ys)
         → option_map (λ (x : Mention S). x.role) (if b then Some m else first_at p (xs ++ ys))
-        ≡ (if (b && true) || some_at any_role p xs then option_map (λ (x : Mention S). x.role) (if b then Some m else first_at p xs) else first_role p ys)
+        ≡ (if (b && true) || some_at any_role p xs then option_map (λ (x : Mention S). x.role) (if b then Some m else first_at p xs)
+        else first_role p ys)
     by_test true ih = refl
     by_test false ih = ih
 
@@ -180,7 +191,8 @@ HaveArraysFirst ms = (p : Path) → some_at is_through_role p ms ≡ true → fi
 
 -- What is below a key is mentioned only where the key is.
 abbrev pub AreClosedByKeys : {S : Type 0} → List (Mention S) → Type 0
-AreClosedByKeys ms = (q : Path) (k : Text) (p : Path) → some_at any_role (q ++ (at_key k ∷ [])) ms ≡ false → some_at any_role (q ++ (at_key k ∷ p)) ms ≡ false
+AreClosedByKeys ms = (q : Path) (k : Text) (p : Path) → some_at any_role (q ++ (at_key k ∷ [])) ms ≡ false
+    → some_at any_role (q ++ (at_key k ∷ p)) ms ≡ false
 
 -- ---- plain headers
 
@@ -215,7 +227,8 @@ statements-under s ms h =
     record {
       named = under-named s ms h.named;
       meeting = meeting-under s ms h.meeting;
-      closed = λ q k p e. some_at-under any_role s (q ++ (at_key k ∷ p)) ms ∙ h.closed (s ∷ q) k p (sym (some_at-under any_role s (q ++ (at_key k ∷ [])) ms) ∙ e);
+      closed = λ q k p e. some_at-under any_role s (q ++ (at_key k ∷ p)) ms
+          ∙ h.closed (s ∷ q) k p (sym (some_at-under any_role s (q ++ (at_key k ∷ [])) ms) ∙ e);
       through = λ p e. first_role-under s p ms ∙ h.through (s ∷ p) (sym (some_at-under is_through_role s p ms) ∙ e);
       headed = headed-under s ms h.headed;
     }

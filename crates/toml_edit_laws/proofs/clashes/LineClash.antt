@@ -21,7 +21,8 @@ use Rattle.toml_edit_laws.proofs.inline_tables.InlineBuild.{path_of}
 use Rattle.toml_edit_laws.proofs.clashes.ClashMentions.{AreOfStatements, statements-under}
 use Rattle.toml_edit_laws.proofs.clashes.ClashKept.{kept-free}
 use Rattle.toml_edit_laws.proofs.clashes.ClashRoles.{IsSlotNode, IsFound, node-found, standing}
-use Rattle.toml_edit_laws.proofs.clashes.TableClash.{blocks, way_of, in_way, IsSameClash, same-none, clash_here, clash_later, deeper_way, same-deeper, clash_new}
+use Rattle.toml_edit_laws.proofs.clashes.TableClash.{blocks, way_of, in_way, IsSameClash, same-none, clash_here, clash_later, deeper_way}
+use Rattle.toml_edit_laws.proofs.clashes.TableClash.{same-deeper, clash_new}
 use Rattle.toml_edit_laws.proofs.common.OptionSteps.{is_some-map, is_none}
 use Rattle.toml_edit_model.specs.Roles.{dotted_role, value_role, may_meet}
 use Rattle.toml_edit_model.specs.TableMentions.{under, kept}
@@ -34,7 +35,8 @@ clash-empty (m ∷ []) = refl
 clash-empty (m ∷ r ∷ rest) = refl
 
 -- the same path, further down
-line-deeper : (s : Step) (ms : List (Mention Source)) (ss : Slots) → line_clash (all_deeper s ms) ss ≡ option_map (deeper_way s) (line_clash ms ss)
+line-deeper : (s : Step) (ms : List (Mention Source)) (ss : Slots) → line_clash (all_deeper s ms) ss
+    ≡ option_map (deeper_way s) (line_clash ms ss)
 line-deeper s [] ss = refl
 line-deeper s (m ∷ []) ss = by_node (node_at m.segment.key ss)
   where
@@ -43,8 +45,10 @@ line-deeper s (m ∷ []) ss = by_node (node_at m.segment.key ss)
     by_node (Some x) = refl
 line-deeper s (m ∷ r ∷ rest) ss = by_node (node_at m.segment.key ss) (line-deeper s (r ∷ rest))
   where
-    by_node : (o : Option Node) → ((us : Slots) → line_clash (all_deeper s (r ∷ rest)) us ≡ option_map (deeper_way s) (line_clash (r ∷ rest) us))
-        → extend_clash (deeper s m) (line_clash (all_deeper s (r ∷ rest))) o ≡ option_map (deeper_way s) (extend_clash m (line_clash (r ∷ rest)) o)
+    by_node : (o : Option Node) → ((us : Slots) → line_clash (all_deeper s (r ∷ rest)) us
+        ≡ option_map (deeper_way s) (line_clash (r ∷ rest) us))
+        → extend_clash (deeper s m) (line_clash (all_deeper s (r ∷ rest))) o
+        ≡ option_map (deeper_way s) (extend_clash m (line_clash (r ∷ rest)) o)
     by_node None ih = refl
     by_node (Some nothing) ih = refl
     by_node (Some (leaf x y d)) ih = refl
@@ -79,7 +83,8 @@ module _ (mode : Mode) where
           → is_some (extend_below mode m (add_line mode (r ∷ rest) n) ss o) ≡ is_none (extend_clash m (line_clash (r ∷ rest)) o)
       by_node None ih =
           is_some-map
-          (λ (inner : Slots). with_slot ss (key_at (spanned_in mode) m) (table (made_by_path (spanned_in mode) true (key_extent (spanned_in mode) m)) inner))
+          (λ (inner : Slots). with_slot ss (key_at (spanned_in mode) m)
+          (table (made_by_path (spanned_in mode) true (key_extent (spanned_in mode) m)) inner))
           (add_line mode (r ∷ rest) n no_slots)
           ∙ ih no_slots ∙ ap is_none (clash-empty (r ∷ rest))
       by_node (Some nothing) ih = refl
@@ -90,25 +95,30 @@ module _ (mode : Mode) where
       by_node (Some (table f inner)) ih = by_implicit f.is_implicit
         where
           by_implicit : (b : Bool)
-              → is_some (if b then option_map (λ (changed : Slots). with_node m.segment.key (table (record f { is_dotted = true }) changed) ss) (add_line mode (r ∷ rest) n inner) else None)
+              → is_some (if b then option_map (λ (changed : Slots). with_node m.segment.key (table (record f { is_dotted = true }) changed)
+              ss) (add_line mode (r ∷ rest) n inner) else None)
               ≡ is_none (if b then line_clash (r ∷ rest) inner else Some (in_way m (table f inner)))
           by_implicit true =
-              is_some-map (λ (changed : Slots). with_node m.segment.key (table (record f { is_dotted = true }) changed) ss) (add_line mode (r ∷ rest) n inner) ∙ ih inner
+              is_some-map (λ (changed : Slots). with_node m.segment.key (table (record f { is_dotted = true }) changed) ss)
+              (add_line mode (r ∷ rest) n inner) ∙ ih inner
           by_implicit false = refl
 
   -- A line is added, or clashes.
   pub line_or_clash : (source : Source) (start : ℕ) (segments : List Segment) (n : Node) (ss : Slots) → is_empty segments ≡ false
-      → is_some (add_line mode (line_mentions source start [] segments) n ss) ≡ is_none (line_clash (line_mentions source start [] segments) ss)
+      → is_some (add_line mode (line_mentions source start [] segments) n ss)
+      ≡ is_none (line_clash (line_mentions source start [] segments) ss)
   line_or_clash source start [] n ss keyed = absurd cc
   line_or_clash source start (g ∷ []) n ss keyed = add-clash (mention_of source start (to_key [] g.key) value_role g) [] n ss
   line_or_clash source start (g ∷ h ∷ rest) n ss keyed =
-      add-clash (mention_of source start (to_key [] g.key) dotted_role g) (line_mentions source (next_start start g) (to_key [] g.key) (h ∷ rest)) n ss
+      add-clash (mention_of source start (to_key [] g.key) dotted_role g) (line_mentions source (next_start start g) (to_key [] g.key) (h
+      ∷ rest)) n ss
 
   -- ---- the last key
 
   last-clash : (source : Source) (start : ℕ) (g : Segment) (ms : List (Mention Source)) → AreOfStatements ms
       → (o : Option Node) (first : Option (Mention Source)) → first_of_key g.key (kept ms) ≡ first → IsFound mode ms first o
-      → IsSameClash mode (option_map (in_way (mention_of source start (to_key [] g.key) value_role g)) o) (first_clash may_meet ms (line_mentions source start [] (g ∷ [])))
+      → IsSameClash mode (option_map (in_way (mention_of source start (to_key [] g.key) value_role g)) o)
+      (first_clash may_meet ms (line_mentions source start [] (g ∷ [])))
   last-clash source start g ms are None None e h =
       clash_new mode g.key (mention_of source start (to_key [] g.key) value_role g) [] ms refl are (kept-free g.key ms are.named e)
   last-clash source start g ms are None (Some j) e h = absurd h
@@ -132,12 +142,16 @@ module _ (mode : Mode) where
   -- the rest of the path clashes alike, among these mentions with these slots
   abbrev ClashesAlike : (Slots → Option (Mention Source × Node)) → List (Mention Source) → Type 0
   ClashesAlike further below =
-      (xs : List (Mention Source)) (ss : Slots) → AreOfStatements xs → AreSlotsOf (spanned_in mode) xs (kept xs) ss → IsSameClash mode (further ss) (first_clash may_meet xs below)
+      (xs : List (Mention Source)) (ss : Slots) → AreOfStatements xs → AreSlotsOf (spanned_in mode) xs (kept xs) ss
+      → IsSameClash mode (further ss) (first_clash may_meet xs below)
 
-  dotted-clash : (source : Source) (start : ℕ) (g : Segment) (below : List (Mention Source)) (further : Slots → Option (Mention Source × Node)) (ms : List (Mention Source))
-      → AreOfStatements ms → ((ss : Slots) → further ss ≡ option_map (deeper_way (at_key g.key)) (line_clash below ss)) → ClashesAlike (line_clash below) below
+  dotted-clash : (source : Source) (start : ℕ) (g : Segment) (below : List (Mention Source)) (further : Slots
+      → Option (Mention Source × Node)) (ms : List (Mention Source))
+      → AreOfStatements ms → ((ss : Slots) → further ss ≡ option_map (deeper_way (at_key g.key)) (line_clash below ss))
+      → ClashesAlike (line_clash below) below
       → (o : Option Node) (first : Option (Mention Source)) → first_of_key g.key (kept ms) ≡ first → IsFound mode ms first o
-      → IsSameClash mode (extend_clash (mention_of source start (to_key [] g.key) dotted_role g) further o) (first_clash may_meet ms (path_of source start dotted_role g below))
+      → IsSameClash mode (extend_clash (mention_of source start (to_key [] g.key) dotted_role g) further o)
+      (first_clash may_meet ms (path_of source start dotted_role g below))
   dotted-clash source start g below further ms are deep alike None None e h =
       clash_new mode g.key (mention_of source start (to_key [] g.key) dotted_role g) below ms refl are (kept-free g.key ms are.named e)
   dotted-clash source start g below further ms are deep alike None (Some j) e h = absurd h
@@ -147,10 +161,13 @@ module _ (mode : Mode) where
       m : Mention Source
       m = mention_of source start (to_key [] g.key) dotted_role g
 
-      blocked : (n : Node) → IsSlotNode mode ms j n → blocks dotted_role n ≡ true → IsSameClash mode (Some (in_way m n)) (first_clash may_meet ms (path_of source start dotted_role g below))
-      blocked n h b = clash_here mode m (all_deeper (at_key g.key) below) ms n (way_of mode m ms n (standing (spanned_in mode) g.key ms j n are e h)) b
+      blocked : (n : Node) → IsSlotNode mode ms j n → blocks dotted_role n ≡ true
+          → IsSameClash mode (Some (in_way m n)) (first_clash may_meet ms (path_of source start dotted_role g below))
+      blocked n h b = clash_here mode m (all_deeper (at_key g.key) below) ms n
+          (way_of mode m ms n (standing (spanned_in mode) g.key ms j n are e h)) b
 
-      by_node : (n : Node) → IsSlotNode mode ms j n → IsSameClash mode (extend_clash m further (Some n)) (first_clash may_meet ms (path_of source start dotted_role g below))
+      by_node : (n : Node) → IsSlotNode mode ms j n → IsSameClash mode (extend_clash m further (Some n))
+          (first_clash may_meet ms (path_of source start dotted_role g below))
       by_node nothing h = absurd h
       by_node (leaf s x d) h = blocked (leaf s x d) h refl
       by_node (list f xs) h = blocked (list f xs) h refl
@@ -159,11 +176,14 @@ module _ (mode : Mode) where
       by_node (table f inner) h = by_implicit f.is_implicit refl
         where
           by_implicit : (b : Bool) → f.is_implicit ≡ b
-              → IsSameClash mode (if b then further inner else Some (in_way m (table f inner))) (first_clash may_meet ms (path_of source start dotted_role g below))
+              → IsSameClash mode (if b then further inner else Some (in_way m (table f inner)))
+              (first_clash may_meet ms (path_of source start dotted_role g below))
           by_implicit false i = blocked (table f inner) h (ap (λ b. not b || false) i)
           by_implicit true i =
-              let slots = subst (λ k. AreSlotsOf (spanned_in mode) (under (at_key k) ms) (kept (under (at_key k) ms)) inner) (sym (first_of_key-is g.key (kept ms) j e)) h.2 in
-              clash_later mode m (all_deeper (at_key g.key) below) ms (table f inner) (further inner) (way_of mode m ms (table f inner) (standing (spanned_in mode) g.key ms j (table f inner) are e h))
+              let slots = subst (λ k. AreSlotsOf (spanned_in mode) (under (at_key k) ms) (kept (under (at_key k) ms)) inner)
+              (sym (first_of_key-is g.key (kept ms) j e)) h.2 in
+              clash_later mode m (all_deeper (at_key g.key) below) ms (table f inner) (further inner)
+              (way_of mode m ms (table f inner) (standing (spanned_in mode) g.key ms j (table f inner) are e h))
               (ap (λ b. not b || false) i)
               (subst (λ o. IsSameClash mode o (first_clash may_meet ms (all_deeper (at_key g.key) below))) (sym (deep inner))
               (same-deeper mode (at_key g.key) (line_clash below inner) ms below
@@ -174,7 +194,8 @@ module _ (mode : Mode) where
   -- A key line clashes with the slots of right statements where it clashes with these, and at the same mention.
   pub line_clashes : (source : Source) (start : ℕ) (segments : List Segment) (ms : List (Mention Source)) (ss : Slots) → AreOfStatements ms
       → AreSlotsOf (spanned_in mode) ms (kept ms) ss
-      → IsSameClash mode (line_clash (line_mentions source start [] segments) ss) (first_clash may_meet ms (line_mentions source start [] segments))
+      → IsSameClash mode (line_clash (line_mentions source start [] segments) ss)
+      (first_clash may_meet ms (line_mentions source start [] segments))
   line_clashes source start [] ms ss are h = tt
   line_clashes source start (g ∷ []) ms ss are h =
       last-clash source start g ms are (node_at g.key ss) (first_of_key g.key (kept ms)) refl (node-found mode ms (kept ms) g.key ss h)
@@ -184,7 +205,8 @@ module _ (mode : Mode) where
       let lines = lines-deeper source (next_start start g) (at_key g.key) [] (x ∷ rest) in
       subst (λ o. IsSameClash mode o (first_clash may_meet ms (line_mentions source start [] (g ∷ x ∷ rest))))
       (sym (line-below m source (next_start start g) (to_key [] g.key) x rest ss))
-      (subst (λ us. IsSameClash mode (extend_clash m (line_clash (line_mentions source (next_start start g) (to_key [] g.key) (x ∷ rest))) (node_at g.key ss)) (first_clash may_meet ms (m ∷ us)))
+      (subst (λ us. IsSameClash mode (extend_clash m (line_clash (line_mentions source (next_start start g) (to_key [] g.key) (x ∷ rest)))
+      (node_at g.key ss)) (first_clash may_meet ms (m ∷ us)))
       (sym lines)
       (dotted-clash source start g below (line_clash (line_mentions source (next_start start g) (to_key [] g.key) (x ∷ rest))) ms are
       (λ us. ap (λ ps. line_clash ps us) lines ∙ line-deeper (at_key g.key) below us)
@@ -200,7 +222,8 @@ module _ (mode : Mode) where
       agree-clash may_meet ms path
       ∙ sym (same-none mode (line_clash path ss) (first_clash may_meet ms path) (line_clashes source start segments ms ss are h))
 
-  pub line_goes : (source : Source) (start : ℕ) (segments : List Segment) (ms : List (Mention Source)) (n : Node) (ss : Slots) → is_empty segments ≡ false
+  pub line_goes : (source : Source) (start : ℕ) (segments : List Segment) (ms : List (Mention Source)) (n : Node) (ss : Slots)
+      → is_empty segments ≡ false
       → AreOfStatements ms → AreSlotsOf (spanned_in mode) ms (kept ms) ss
       → is_some (add_line mode (line_mentions source start [] segments) n ss) ≡ agree may_meet ms (line_mentions source start [] segments)
   line_goes source start segments ms n ss keyed are h =

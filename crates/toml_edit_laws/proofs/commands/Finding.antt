@@ -16,14 +16,19 @@ use Rattle.toml_edit_model.specs.Lists.{slot_list, slots_from, item_list, items_
 use Rattle.toml_edit_model.specs.ArrayCalls.{written_at}
 use Rattle.toml_edit_model.specs.Shown.{is_table_node}
 use Rattle.toml_edit_laws.specs.Locality.{into_table, into_element}
-use Rattle.toml_edit_laws.specs.Commands.{Refusal, no_such_path, Answer, done, refused, mapped, element_of, present, second, child, and_then, item_below, missing, change_slot, change_element, child_changed, set_here, set_below, drop_slot, drop_element, remove_child, remove_below, root_item, with_slots, shown_item, shown_or, get_text}
-use Rattle.toml_edit_laws.specs.CommandLaws.{OneTextNames, DecimalsName, WaysHavePaths, GetAfterSet, RemoveFinds, RemovedWasThere, RemoveRefuses}
+use Rattle.toml_edit_laws.specs.Commands.{Refusal, no_such_path, Answer, done, refused, mapped, element_of, present, second, child}
+use Rattle.toml_edit_laws.specs.Commands.{and_then, item_below, missing, change_slot, change_element, child_changed, set_here, set_below}
+use Rattle.toml_edit_laws.specs.Commands.{drop_slot, drop_element, remove_child, remove_below, root_item, with_slots, shown_item, shown_or}
+use Rattle.toml_edit_laws.specs.Commands.{get_text}
+use Rattle.toml_edit_laws.specs.CommandLaws.{OneTextNames, DecimalsName, WaysHavePaths, GetAfterSet, RemoveFinds, RemovedWasThere}
+use Rattle.toml_edit_laws.specs.CommandLaws.{RemoveRefuses}
 use Rattle.toml_edit_laws.proofs.common.Tests.{if-true, same_text-refl}
 use Rattle.toml_edit_laws.proofs.locality.Slots.{slot_list-from, item_list-from}
 use Rattle.toml_edit_laws.proofs.commands.Setting.{was-mapped, done-is}
 use Rattle.toml_edit_laws.proofs.commands.Removing.{item-present}
 use Rattle.toml_edit_laws.proofs.commands.Keeping.{present-is}
-use Rattle.toml_edit_laws.proofs.commands.Apart.{number-text, slot-last, slot-same, place-same, named, names, skip, value-stays, table-stays, root-down}
+use Rattle.toml_edit_laws.proofs.commands.Apart.{number-text, slot-last, slot-same, place-same, named, names, skip, value-stays}
+use Rattle.toml_edit_laws.proofs.commands.Apart.{table-stays, root-down}
 use Rattle.toml_edit_laws.proofs.common.OptionSteps.{some-is}
 
 -- ---- numbers
@@ -55,11 +60,13 @@ module _ (makes : Bool) (k : Text) (go : Node → Answer Node)
     is : go old ≡ done new
     there : o ≡ Some new
 
-  slot-went : (ss : Slots) (o : Option (Slot Node)) (xs : List (Slot Node)) → lookup_slot k (slot_list ss) ≡ o → change_slot makes k go (slot_list ss) o ≡ done xs
+  slot-went : (ss : Slots) (o : Option (Slot Node)) (xs : List (Slot Node)) → lookup_slot k (slot_list ss) ≡ o
+      → change_slot makes k go (slot_list ss) o ≡ done xs
       → WentTo (present (lookup_slot k xs))
   slot-went ss None xs e h = by_makes makes h
     where
-      by_makes : (b : Bool) → mapped (λ m. slot_list ss ++ (keyed (new_key k) m ∷ [])) (missing b (go nothing)) ≡ done xs → WentTo (present (lookup_slot k xs))
+      by_makes : (b : Bool) → mapped (λ m. slot_list ss ++ (keyed (new_key k) m ∷ [])) (missing b (go nothing)) ≡ done xs
+          → WentTo (present (lookup_slot k xs))
       by_makes false h = absurd cc
       by_makes true h =
           let m = was-mapped (λ m. slot_list ss ++ (keyed (new_key k) m ∷ [])) (go nothing) xs h in
@@ -76,10 +83,12 @@ module _ (makes : Bool) (k : Text) (go : Node → Answer Node)
         old = s.item;
         new = m.from;
         is = m.is;
-        there = ap (λ ys. present (lookup_slot k ys)) m.gives ∙ ap present (slot-same k m.from (slot_list ss) s e) ∙ item-present s.key m.from (fills s.item m.from m.is);
+        there = ap (λ ys. present (lookup_slot k ys)) m.gives ∙ ap present (slot-same k m.from (slot_list ss) s e)
+            ∙ item-present s.key m.from (fills s.item m.from m.is);
       }
 
-  item-went : (is : Node → Bool) → ((a b : Node) → go a ≡ done b → is a ≡ true → is b ≡ true) → (xs : Items) (o : Option (ℕ × Node)) (ys : List Node)
+  item-went : (is : Node → Bool) → ((a b : Node) → go a ≡ done b → is a ≡ true → is b ≡ true)
+      → (xs : Items) (o : Option (ℕ × Node)) (ys : List Node)
       → element_of is k (item_list xs) ≡ o → change_element go (item_list xs) o ≡ done ys → WentTo (second (element_of is k ys))
   item-went is keeps xs None ys e h = absurd cc
   item-went is keeps xs (Some y) ys e h =
@@ -90,30 +99,58 @@ module _ (makes : Bool) (k : Text) (go : Node → Answer Node)
         new = m.from;
         is = m.is;
         there = ap (λ zs. second (element_of is k zs)) m.gives
-            ∙ ap second (names is k (written_at y.0 m.from (item_list xs)) y.0 m.from r.number (place-same y.0 (λ old. m.from) (item_list xs) y.1 r.item) (keeps y.1 m.from m.is r.kind));
+            ∙ ap second (names is k (written_at y.0 m.from (item_list xs)) y.0 m.from r.number
+            (place-same y.0 (λ old. m.from) (item_list xs) y.1 r.item) (keeps y.1 m.from m.is r.kind));
       }
 
   went : (n m : Node) → child_changed makes k go n ≡ done m → WentTo (child k m)
   went (table f ss) m h =
       let b = was-mapped (λ xs. table f (slots_from xs)) (change_slot makes k go (slot_list ss) (lookup_slot k (slot_list ss))) m h in
       let w = slot-went ss (lookup_slot k (slot_list ss)) b.from refl b.is in
-      record { old = w.old; new = w.new; is = w.is; there = ap (child k) b.gives ∙ ap (λ xs. present (lookup_slot k xs)) (slot_list-from b.from) ∙ w.there }
+      record {
+        old = w.old;
+        new = w.new;
+        is = w.is;
+        there = ap (child k) b.gives
+            ∙ ap (λ xs. present (lookup_slot k xs)) (slot_list-from b.from) ∙ w.there;
+      }
   went (inline f ss) m h =
       let b = was-mapped (λ xs. inline f (slots_from xs)) (change_slot makes k go (slot_list ss) (lookup_slot k (slot_list ss))) m h in
       let w = slot-went ss (lookup_slot k (slot_list ss)) b.from refl b.is in
-      record { old = w.old; new = w.new; is = w.is; there = ap (child k) b.gives ∙ ap (λ xs. present (lookup_slot k xs)) (slot_list-from b.from) ∙ w.there }
+      record {
+        old = w.old;
+        new = w.new;
+        is = w.is;
+        there = ap (child k) b.gives
+            ∙ ap (λ xs. present (lookup_slot k xs)) (slot_list-from b.from) ∙ w.there;
+      }
   went (list f xs) m h =
-      let b = was-mapped (λ ns. list f (items_from ns)) (change_element go (item_list xs) (element_of is_value_node k (item_list xs))) m h in
+      let b = was-mapped (λ ns. list f (items_from ns)) (change_element go (item_list xs) (element_of is_value_node k (item_list xs))) m
+      h in
       let w = item-went is_value_node keeps_value xs (element_of is_value_node k (item_list xs)) b.from refl b.is in
-      record { old = w.old; new = w.new; is = w.is; there = ap (child k) b.gives ∙ ap (λ ys. second (element_of is_value_node k ys)) (item_list-from b.from) ∙ w.there }
+      record {
+        old = w.old;
+        new = w.new;
+        is = w.is;
+        there = ap (child k) b.gives
+            ∙ ap (λ ys. second (element_of is_value_node k ys)) (item_list-from b.from) ∙ w.there;
+      }
   went (tables e xs) m h =
-      let b = was-mapped (λ ns. tables e (items_from ns)) (change_element go (item_list xs) (element_of is_table_node k (item_list xs))) m h in
+      let b = was-mapped (λ ns. tables e (items_from ns)) (change_element go (item_list xs) (element_of is_table_node k (item_list xs))) m
+      h in
       let w = item-went is_table_node keeps_table xs (element_of is_table_node k (item_list xs)) b.from refl b.is in
-      record { old = w.old; new = w.new; is = w.is; there = ap (child k) b.gives ∙ ap (λ ys. second (element_of is_table_node k ys)) (item_list-from b.from) ∙ w.there }
+      record {
+        old = w.old;
+        new = w.new;
+        is = w.is;
+        there = ap (child k) b.gives
+            ∙ ap (λ ys. second (element_of is_table_node k ys)) (item_list-from b.from) ∙ w.there;
+      }
   went (leaf s r d) m h = absurd cc
   went nothing m h = by_makes makes h
     where
-      by_makes : (b : Bool) → mapped (λ x. inline new_inline (slot (new_key k) x no_slots)) (missing b (go nothing)) ≡ done m → WentTo (child k m)
+      by_makes : (b : Bool) → mapped (λ x. inline new_inline (slot (new_key k) x no_slots)) (missing b (go nothing)) ≡ done m
+          → WentTo (child k m)
       by_makes false h = absurd cc
       by_makes true h =
           let b = was-mapped (λ x. inline new_inline (slot (new_key k) x no_slots)) (go nothing) m h in
@@ -166,9 +203,18 @@ here-is : (v n m : Node) → is_value_node v ≡ true → set_here v n ≡ done 
 here-is v nothing m is h = subst (λ x. (is_value_node x ≡ true) × IsShown v x) (done-is v m h) (is, value-shown v is)
 here-is v (table f ss) m is h = absurd cc
 here-is v (tables e xs) m is h = absurd cc
-here-is v (leaf s r d) m is h = subst (λ x. (is_value_node x ≡ true) × IsShown v x) (done-is (with_decor d v) m h) (decor-value d v is, decor-shown d v is)
-here-is v (list f xs) m is h = subst (λ x. (is_value_node x ≡ true) × IsShown v x) (done-is (with_decor f.decor v) m h) (decor-value f.decor v is, decor-shown f.decor v is)
-here-is v (inline f ss) m is h = subst (λ x. (is_value_node x ≡ true) × IsShown v x) (done-is (with_decor f.decor v) m h) (decor-value f.decor v is, decor-shown f.decor v is)
+here-is v (leaf s r d) m is h =
+    subst (λ x. (is_value_node x ≡ true) × IsShown v x) (done-is (with_decor d v) m h) (decor-value d v is, decor-shown d v is)
+here-is v (list f xs) m is h =
+    subst (λ x. (is_value_node x ≡ true) × IsShown v x) (done-is (with_decor f.decor v) m h) (
+      decor-value f.decor v is,
+      decor-shown f.decor v is,
+    )
+here-is v (inline f ss) m is h =
+    subst (λ x. (is_value_node x ≡ true) × IsShown v x) (done-is (with_decor f.decor v) m h) (
+      decor-value f.decor v is,
+      decor-shown f.decor v is,
+    )
 
 here-no-table : (v n m : Node) → set_here v n ≡ done m → is_table_node n ≡ true → is_table_node m ≡ true
 here-no-table v nothing m h t = absurd cc
@@ -182,11 +228,14 @@ below-fills : (makes : Bool) (k : Text) (go : Node → Answer Node) (n m : Node)
 below-fills makes k go (table f ss) m h =
     ap is_item (was-mapped (λ xs. table f (slots_from xs)) (change_slot makes k go (slot_list ss) (lookup_slot k (slot_list ss))) m h).gives
 below-fills makes k go (inline f ss) m h =
-    ap is_item (was-mapped (λ xs. inline f (slots_from xs)) (change_slot makes k go (slot_list ss) (lookup_slot k (slot_list ss))) m h).gives
+    ap is_item (was-mapped (λ xs. inline f (slots_from xs)) (change_slot makes k go (slot_list ss) (lookup_slot k (slot_list ss))) m
+    h).gives
 below-fills makes k go (list f xs) m h =
-    ap is_item (was-mapped (λ ns. list f (items_from ns)) (change_element go (item_list xs) (element_of is_value_node k (item_list xs))) m h).gives
+    ap is_item (was-mapped (λ ns. list f (items_from ns)) (change_element go (item_list xs) (element_of is_value_node k (item_list xs))) m
+    h).gives
 below-fills makes k go (tables e xs) m h =
-    ap is_item (was-mapped (λ ns. tables e (items_from ns)) (change_element go (item_list xs) (element_of is_table_node k (item_list xs))) m h).gives
+    ap is_item (was-mapped (λ ns. tables e (items_from ns)) (change_element go (item_list xs) (element_of is_table_node k (item_list xs))) m
+    h).gives
 below-fills makes k go (leaf s r d) m h = absurd cc
 below-fills makes k go nothing m h =
     ap is_item (was-mapped (λ x. inline new_inline (slot (new_key k) x no_slots)) (missing makes (go nothing)) m h).gives
@@ -195,7 +244,8 @@ set-fills : (v : Node) → is_value_node v ≡ true → (path : List Text) (n m 
 set-fills v is [] n m h = value-item m (here-is v n m is h).0
 set-fills v is (k ∷ path) n m h = below-fills true k (set_below v path) n m h
 
-set-value : (v : Node) → is_value_node v ≡ true → (path : List Text) (n m : Node) → set_below v path n ≡ done m → is_value_node n ≡ true → is_value_node m ≡ true
+set-value : (v : Node) → is_value_node v ≡ true → (path : List Text) (n m : Node) → set_below v path n ≡ done m → is_value_node n ≡ true
+    → is_value_node m ≡ true
 set-value v is [] n m h x = (here-is v n m is h).0
 set-value v is (k ∷ path) n m h x = value-stays true k (set_below v path) n m h x
 
@@ -246,7 +296,8 @@ child-goes k (tables e xs) a h =
 child-goes k (leaf s r d) a h = absurd cc
 child-goes k nothing a h = absurd cc
 
-below-goes : (k : Text) (go : Node → Answer Node) (n a b : Node) → child k n ≡ Some a → go a ≡ done b → (m : Node) × (child_changed false k go n ≡ done m)
+below-goes : (k : Text) (go : Node → Answer Node) (n a b : Node) → child k n ≡ Some a → go a ≡ done b → (m : Node)
+    × (child_changed false k go n ≡ done m)
 below-goes k go (table f ss) a b h g =
     let p = present-is (lookup_slot k (slot_list ss)) a h in (
       _,
@@ -274,7 +325,8 @@ below-goes k go (tables e xs) a b h g =
 below-goes k go (leaf s r d) a b h g = absurd cc
 below-goes k go nothing a b h g = absurd cc
 
-goes-there : (k : Text) (path : List Text) (n x : Node) → item_below (k ∷ path) n ≡ Some x → (m : Node) × (remove_below (k ∷ path) n ≡ done m)
+goes-there : (k : Text) (path : List Text) (n x : Node) → item_below (k ∷ path) n ≡ Some x → (m : Node)
+    × (remove_below (k ∷ path) n ≡ done m)
 goes-there k [] n x h =
     let a = some-and (item_below []) (child k n) x h in
     child-goes k n a.0 a.1
@@ -289,7 +341,8 @@ remove_finds t k path n h =
     (with_slots t r.0, ap (mapped (with_slots t)) r.1)
 
 -- what was removed was there
-dropped-slot : (k : Text) (xs : List (Slot Node)) (o : Option Node) (ys : List (Slot Node)) → drop_slot k xs o ≡ done ys → (n : Node) × (o ≡ Some n)
+dropped-slot : (k : Text) (xs : List (Slot Node)) (o : Option Node) (ys : List (Slot Node)) → drop_slot k xs o ≡ done ys → (n : Node)
+    × (o ≡ Some n)
 dropped-slot k xs None ys h = absurd cc
 dropped-slot k xs (Some n) ys h = (n, refl)
 
@@ -315,14 +368,16 @@ child-was k nothing m h = absurd cc
 
 module _ (k : Text) (go : Node → Answer Node) (l : Text) (path : List Text)
     (each : (a b : Node) → go a ≡ done b → (x : Node) × (item_below (l ∷ path) a ≡ Some x)) where
-  slot-was : (xs : List (Slot Node)) (o : Option (Slot Node)) (ys : List (Slot Node)) → change_slot false k go xs o ≡ done ys → (x : Node) × (and_then (item_below (l ∷ path)) (present o) ≡ Some x)
+  slot-was : (xs : List (Slot Node)) (o : Option (Slot Node)) (ys : List (Slot Node)) → change_slot false k go xs o ≡ done ys → (x : Node)
+      × (and_then (item_below (l ∷ path)) (present o) ≡ Some x)
   slot-was xs None ys h = absurd cc
   slot-was xs (Some s) ys h =
       let w = was-mapped (λ m. changed k (with_item m) xs) (go s.item) ys h in
       let r = each s.item w.from w.is in
       (r.0, skip l path s.key s.item ∙ r.1)
 
-  item-was : (xs : List Node) (o : Option (ℕ × Node)) (ys : List Node) → change_element go xs o ≡ done ys → (x : Node) × (and_then (item_below (l ∷ path)) (second o) ≡ Some x)
+  item-was : (xs : List Node) (o : Option (ℕ × Node)) (ys : List Node) → change_element go xs o ≡ done ys → (x : Node)
+      × (and_then (item_below (l ∷ path)) (second o) ≡ Some x)
   item-was xs None ys h = absurd cc
   item-was xs (Some y) ys h = let w = was-mapped (λ m. written_at y.0 m xs) (go y.1) ys h in each y.1 w.from w.is
 
@@ -334,10 +389,12 @@ module _ (k : Text) (go : Node → Answer Node) (l : Text) (path : List Text)
       let w = was-mapped (λ xs. inline f (slots_from xs)) (change_slot false k go (slot_list ss) (lookup_slot k (slot_list ss))) m h in
       slot-was (slot_list ss) (lookup_slot k (slot_list ss)) w.from w.is
   below-was (list f xs) m h =
-      let w = was-mapped (λ ns. list f (items_from ns)) (change_element go (item_list xs) (element_of is_value_node k (item_list xs))) m h in
+      let w = was-mapped (λ ns. list f (items_from ns)) (change_element go (item_list xs) (element_of is_value_node k (item_list xs))) m
+      h in
       item-was (item_list xs) (element_of is_value_node k (item_list xs)) w.from w.is
   below-was (tables e xs) m h =
-      let w = was-mapped (λ ns. tables e (items_from ns)) (change_element go (item_list xs) (element_of is_table_node k (item_list xs))) m h in
+      let w = was-mapped (λ ns. tables e (items_from ns)) (change_element go (item_list xs) (element_of is_table_node k (item_list xs))) m
+      h in
       item-was (item_list xs) (element_of is_table_node k (item_list xs)) w.from w.is
   below-was (leaf s r d) m h = absurd cc
   below-was nothing m h = absurd cc
@@ -370,10 +427,14 @@ item-refuses xs None r h = cc
 item-refuses xs (Some y) r h = absurd cc
 
 child-refuses : (k : Text) (n : Node) → RefusesPath (remove_child k n)
-child-refuses k (table f ss) r h = slot-refuses k (slot_list ss) (present (lookup_slot k (slot_list ss))) r (was-refused (λ xs. table f (slots_from xs)) _ r h)
-child-refuses k (inline f ss) r h = slot-refuses k (slot_list ss) (present (lookup_slot k (slot_list ss))) r (was-refused (λ xs. inline f (slots_from xs)) _ r h)
-child-refuses k (list f xs) r h = item-refuses (item_list xs) (element_of is_value_node k (item_list xs)) r (was-refused (λ ns. list f (items_from ns)) _ r h)
-child-refuses k (tables e xs) r h = item-refuses (item_list xs) (element_of is_table_node k (item_list xs)) r (was-refused (λ ns. tables e (items_from ns)) _ r h)
+child-refuses k (table f ss) r h =
+    slot-refuses k (slot_list ss) (present (lookup_slot k (slot_list ss))) r (was-refused (λ xs. table f (slots_from xs)) _ r h)
+child-refuses k (inline f ss) r h =
+    slot-refuses k (slot_list ss) (present (lookup_slot k (slot_list ss))) r (was-refused (λ xs. inline f (slots_from xs)) _ r h)
+child-refuses k (list f xs) r h =
+    item-refuses (item_list xs) (element_of is_value_node k (item_list xs)) r (was-refused (λ ns. list f (items_from ns)) _ r h)
+child-refuses k (tables e xs) r h =
+    item-refuses (item_list xs) (element_of is_table_node k (item_list xs)) r (was-refused (λ ns. tables e (items_from ns)) _ r h)
 child-refuses k (leaf s x d) r h = cc
 child-refuses k nothing r h = cc
 
@@ -387,10 +448,14 @@ module _ (k : Text) (go : Node → Answer Node) (each : (a : Node) → RefusesPa
   element-refuses xs (Some y) r h = each y.1 r (was-refused (λ m. written_at y.0 m xs) (go y.1) r h)
 
   below-refuses : (n : Node) → RefusesPath (child_changed false k go n)
-  below-refuses (table f ss) r h = change-refuses (slot_list ss) (lookup_slot k (slot_list ss)) r (was-refused (λ xs. table f (slots_from xs)) _ r h)
-  below-refuses (inline f ss) r h = change-refuses (slot_list ss) (lookup_slot k (slot_list ss)) r (was-refused (λ xs. inline f (slots_from xs)) _ r h)
-  below-refuses (list f xs) r h = element-refuses (item_list xs) (element_of is_value_node k (item_list xs)) r (was-refused (λ ns. list f (items_from ns)) _ r h)
-  below-refuses (tables e xs) r h = element-refuses (item_list xs) (element_of is_table_node k (item_list xs)) r (was-refused (λ ns. tables e (items_from ns)) _ r h)
+  below-refuses (table f ss) r h =
+      change-refuses (slot_list ss) (lookup_slot k (slot_list ss)) r (was-refused (λ xs. table f (slots_from xs)) _ r h)
+  below-refuses (inline f ss) r h =
+      change-refuses (slot_list ss) (lookup_slot k (slot_list ss)) r (was-refused (λ xs. inline f (slots_from xs)) _ r h)
+  below-refuses (list f xs) r h =
+      element-refuses (item_list xs) (element_of is_value_node k (item_list xs)) r (was-refused (λ ns. list f (items_from ns)) _ r h)
+  below-refuses (tables e xs) r h =
+      element-refuses (item_list xs) (element_of is_table_node k (item_list xs)) r (was-refused (λ ns. tables e (items_from ns)) _ r h)
   below-refuses (leaf s x d) r h = cc
   below-refuses nothing r h = cc
 

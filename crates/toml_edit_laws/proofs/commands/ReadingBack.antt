@@ -14,7 +14,12 @@ module _ (mode : Mode) where
   reads-back : (u : Tree) → SlotsAreWellMade u.slots → FitsIn mode u → (is_open : Bool) → ReadsBack mode u is_open
   reads-back u made fits is_open =
       let fitting : IsFitting mode u = record { made = made; fits = fits } in
-      record { cut = (print-cut mode is_open u fitting).0; accepted = print-agrees mode is_open u fitting; means = prints-mean-what-is-shown mode is_open u fitting }
+      record {
+        cut = (print-cut mode is_open u fitting).0;
+        accepted = print-agrees mode is_open u fitting;
+        means =
+            prints-mean-what-is-shown mode is_open u fitting;
+      }
 
   pub set_reads_back : SetReadsBack mode
   set_reads_back t u path v made wv h fits = reads-back u (set_keeps_the_rest t u path v made wv h).made fits

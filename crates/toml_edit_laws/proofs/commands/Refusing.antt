@@ -8,13 +8,15 @@ use Rattle.toml_edit_model.specs.Slots.{Slot, keyed, with_item, lookup_slot, cha
 use Rattle.toml_edit_model.specs.Lists.{slot_list, slots_from, item_list, items_from, is_item}
 use Rattle.toml_edit_model.specs.ArrayCalls.{written_at}
 use Rattle.toml_edit_model.specs.Shown.{is_table_node}
-use Rattle.toml_edit_laws.specs.Commands.{Refusal, no_such_path, wrong_kind, Answer, done, refused, element_of, present, second, child, and_then, item_below, change_slot, change_element, set_here, set_below, root_item, with_slots}
+use Rattle.toml_edit_laws.specs.Commands.{Refusal, no_such_path, wrong_kind, Answer, done, refused, element_of, present, second, child}
+use Rattle.toml_edit_laws.specs.Commands.{and_then, item_below, change_slot, change_element, set_here, set_below, root_item, with_slots}
 use Rattle.toml_edit_laws.specs.CommandLaws.{made_below, is_listing, Stops, IsWhy, SetRefuses}
 use Rattle.toml_edit_laws.proofs.commands.Setting.{made-below-is}
 use Rattle.toml_edit_laws.proofs.commands.Removing.{item-present}
 use Rattle.toml_edit_laws.proofs.commands.Finding.{was-refused}
 
-stops-further : (P : Text → Node → Type 0) (k : Text) (path : List Text) (n a : Node) → child k n ≡ Some a → Stops P path a → Stops P (k ∷ path) n
+stops-further : (P : Text → Node → Type 0) (k : Text) (path : List Text) (n a : Node) → child k n ≡ Some a → Stops P path a
+    → Stops P (k ∷ path) n
 stops-further P k path n a e s =
     record {
       front = k ∷ s.front;
@@ -51,11 +53,16 @@ here-why v nothing r h = absurd cc
 here-why v (leaf s x d) r h = absurd cc
 here-why v (list f xs) r h = absurd cc
 here-why v (inline f ss) r h = absurd cc
-here-why v (table f ss) r h = subst (λ q. IsWhy q [] (table f ss)) (same-refusal wrong_kind r (set_here v (table f ss)) (set_here v (table f ss)) refl h refl) (inl (table f ss, refl, refl))
-here-why v (tables e xs) r h = subst (λ q. IsWhy q [] (tables e xs)) (same-refusal wrong_kind r (set_here v (tables e xs)) (set_here v (tables e xs)) refl h refl) (inl (tables e xs, refl, refl))
+here-why v (table f ss) r h =
+    subst (λ q. IsWhy q [] (table f ss)) (same-refusal wrong_kind r (set_here v (table f ss)) (set_here v (table f ss)) refl h refl)
+    (inl (table f ss, refl, refl))
+here-why v (tables e xs) r h =
+    subst (λ q. IsWhy q [] (tables e xs)) (same-refusal wrong_kind r (set_here v (tables e xs)) (set_here v (tables e xs)) refl h refl)
+    (inl (tables e xs, refl, refl))
 
 module _ (v : Node) (k : Text) (path : List Text) (each : (a : Node) (r : Refusal) → set_below v path a ≡ refused r → IsWhy r path a) where
-  slot-why : (n : Node) (xs : List (Slot Node)) (o : Option (Slot Node)) (r : Refusal) → child k n ≡ present o → change_slot true k (set_below v path) xs o ≡ refused r → IsWhy r (k ∷ path) n
+  slot-why : (n : Node) (xs : List (Slot Node)) (o : Option (Slot Node)) (r : Refusal) → child k n ≡ present o
+      → change_slot true k (set_below v path) xs o ≡ refused r → IsWhy r (k ∷ path) n
   slot-why n xs None r e h = never v path r (was-refused (λ m. xs ++ (keyed (new_key k) m ∷ [])) (set_below v path nothing) r h)
   slot-why n xs (Some s) r e h =
       let g = was-refused (λ m. changed k (with_item m) xs) (set_below v path s.item) r h in
@@ -64,18 +71,32 @@ module _ (v : Node) (k : Text) (path : List Text) (each : (a : Node) (r : Refusa
   item-why : (n : Node) (xs : List Node) (o : Option (ℕ × Node)) (r : Refusal) → child k n ≡ second o
       → is_listing n ≡ true → change_element (set_below v path) xs o ≡ refused r → IsWhy r (k ∷ path) n
   item-why n xs None r e none h =
-      subst (λ q. IsWhy q (k ∷ path) n) (same-refusal no_such_path r (change_element (set_below v path) xs None) (change_element (set_below v path) xs None) refl h refl) (record { front = []; segment = k; rest = path; item = n; is = refl; there = refl; such = (none, e) })
+      subst (λ q. IsWhy q (k ∷ path) n) (same-refusal no_such_path r (change_element (set_below v path) xs None)
+      (change_element (set_below v path) xs None) refl h refl) (record {
+        front = [];
+        segment = k;
+        rest = path;
+        item = n;
+        is =
+            refl;
+        there = refl;
+        such = (none, e);
+      })
   item-why n xs (Some y) r e none h =
       let g = was-refused (λ m. written_at y.0 m xs) (set_below v path y.1) r h in
       further r k path n y.1 e (each y.1 r g)
 
   below-why : (n : Node) (r : Refusal) → set_below v (k ∷ path) n ≡ refused r → IsWhy r (k ∷ path) n
-  below-why (table f ss) r h = slot-why (table f ss) (slot_list ss) (lookup_slot k (slot_list ss)) r refl (was-refused (λ xs. table f (slots_from xs)) _ r h)
-  below-why (inline f ss) r h = slot-why (inline f ss) (slot_list ss) (lookup_slot k (slot_list ss)) r refl (was-refused (λ xs. inline f (slots_from xs)) _ r h)
+  below-why (table f ss) r h =
+      slot-why (table f ss) (slot_list ss) (lookup_slot k (slot_list ss)) r refl (was-refused (λ xs. table f (slots_from xs)) _ r h)
+  below-why (inline f ss) r h =
+      slot-why (inline f ss) (slot_list ss) (lookup_slot k (slot_list ss)) r refl (was-refused (λ xs. inline f (slots_from xs)) _ r h)
   below-why (list f xs) r h =
-      item-why (list f xs) (item_list xs) (element_of is_value_node k (item_list xs)) r refl refl (was-refused (λ ns. list f (items_from ns)) _ r h)
+      item-why (list f xs) (item_list xs) (element_of is_value_node k (item_list xs)) r refl refl
+      (was-refused (λ ns. list f (items_from ns)) _ r h)
   below-why (tables e xs) r h =
-      item-why (tables e xs) (item_list xs) (element_of is_table_node k (item_list xs)) r refl refl (was-refused (λ ns. tables e (items_from ns)) _ r h)
+      item-why (tables e xs) (item_list xs) (element_of is_table_node k (item_list xs)) r refl refl
+      (was-refused (λ ns. tables e (items_from ns)) _ r h)
   below-why (leaf s x d) r h =
       subst (λ q. IsWhy q (k ∷ path) (leaf s x d))
       (same-refusal wrong_kind r (set_below v (k ∷ path) (leaf s x d)) (set_below v (k ∷ path) (leaf s x d)) refl h refl)

@@ -6,7 +6,8 @@ use Rattle.toml_edit_model.specs.Mode.{Mode}
 use Rattle.toml_edit_model.specs.Text.{Text}
 use Rattle.toml_edit_model.specs.Syntax.{Statement, key_line, Document, Frame}
 use Rattle.toml_edit_model.specs.Paths.{Path, to_key}
-use Rattle.toml_edit_model.specs.Tree.{Decor, Key, Node, nothing, leaf, list, inline, table, tables, Tree, node_decor, is_value_node, SlotsAreWellMade}
+use Rattle.toml_edit_model.specs.Tree.{Decor, Key, Node, nothing, leaf, list, inline, table, tables, Tree, node_decor, is_value_node}
+use Rattle.toml_edit_model.specs.Tree.{SlotsAreWellMade}
 use Rattle.toml_edit_model.specs.HeaderOrder.{Visit}
 use Rattle.toml_edit_model.specs.Fits.{is_steady_in}
 use Rattle.toml_edit_model.specs.Print.{Printed, printed, printed_line, printed_table, value_of, line_statement}
@@ -14,9 +15,12 @@ use Rattle.toml_edit_model.specs.Conversions.{with_decor}
 use Rattle.toml_edit_model.specs.Keys.{new_key}
 use Rattle.toml_edit_model.specs.Slots.{Slot, keyed, with_item, lookup_slot, changed}
 use Rattle.toml_edit_model.specs.Lists.{slot_list, slots_from, item_list, items_from, is_dotted_inline}
-use Rattle.toml_edit_laws.specs.Locality.{Turn, root_visit, edited, is_plain_value, value_line, statements, OneChanges, OneMore, StaysSteady}
-use Rattle.toml_edit_laws.specs.Commands.{Answer, done, refused, mapped, element_of, change_slot, change_element, child_changed, root_item, set_below, with_slots}
-use Rattle.toml_edit_laws.specs.CommandLaws.{IsRead, NamesTable, text_with, ChangesStatement, SetChanges, made_below, AddsStatement, SetAdds}
+use Rattle.toml_edit_laws.specs.Locality.{Turn, root_visit, edited, is_plain_value, value_line, statements, OneChanges, OneMore}
+use Rattle.toml_edit_laws.specs.Locality.{StaysSteady}
+use Rattle.toml_edit_laws.specs.Commands.{Answer, done, refused, mapped, element_of, change_slot, change_element, child_changed, root_item}
+use Rattle.toml_edit_laws.specs.Commands.{set_below, with_slots}
+use Rattle.toml_edit_laws.specs.CommandLaws.{IsRead, NamesTable, text_with, ChangesStatement, SetChanges, made_below, AddsStatement}
+use Rattle.toml_edit_laws.specs.CommandLaws.{SetAdds}
 use Rattle.toml_edit_laws.proofs.locality.Slots.{Found, found}
 use Rattle.toml_edit_laws.proofs.locality.Sound.{Steady, steady-parts, leads-made, leads-sound, sound-slot}
 use Rattle.toml_edit_laws.proofs.locality.Values.{keeps_frame}
@@ -55,7 +59,8 @@ with-decor-stands d (tables e xs) old h is = absurd cc
 with-decor-stands d nothing old h is = absurd cc
 
 -- the value after a change inside it
-pub below-stands : (makes : Bool) (k : Text) (go : Node → Answer Node) (old n : Node) → is_value_node old ≡ true → is_dotted_inline old ≡ false
+pub below-stands : (makes : Bool) (k : Text) (go : Node → Answer Node) (old n : Node) → is_value_node old ≡ true → is_dotted_inline old
+    ≡ false
     → child_changed makes k go old ≡ done n → Stands old n
 below-stands makes k go (leaf s r d) n is undotted h = absurd cc
 below-stands makes k go (list f xs) n is undotted h =
@@ -69,11 +74,15 @@ below-stands makes k go (tables e xs) n is undotted h = absurd cc
 below-stands makes k go nothing n is undotted h = absurd cc
 
 -- the value after `set` at it, or inside it
-set-stands : (value : Node) (inner : List Text) (old n : Node) → is_value_node old ≡ true → is_dotted_inline old ≡ false → is_plain_value value ≡ true
+set-stands : (value : Node) (inner : List Text) (old n : Node) → is_value_node old ≡ true → is_dotted_inline old ≡ false
+    → is_plain_value value ≡ true
     → set_below value inner old ≡ done n → Stands old n
-set-stands value [] (leaf s r d) n is undotted plain h = subst (Stands (leaf s r d)) (done-is (with_decor d value) n h) (with-decor-stands d value (leaf s r d) plain refl)
-set-stands value [] (list f xs) n is undotted plain h = subst (Stands (list f xs)) (done-is (with_decor f.decor value) n h) (with-decor-stands f.decor value (list f xs) plain refl)
-set-stands value [] (inline f ss) n is undotted plain h = subst (Stands (inline f ss)) (done-is (with_decor f.decor value) n h) (with-decor-stands f.decor value (inline f ss) plain refl)
+set-stands value [] (leaf s r d) n is undotted plain h =
+    subst (Stands (leaf s r d)) (done-is (with_decor d value) n h) (with-decor-stands d value (leaf s r d) plain refl)
+set-stands value [] (list f xs) n is undotted plain h =
+    subst (Stands (list f xs)) (done-is (with_decor f.decor value) n h) (with-decor-stands f.decor value (list f xs) plain refl)
+set-stands value [] (inline f ss) n is undotted plain h =
+    subst (Stands (inline f ss)) (done-is (with_decor f.decor value) n h) (with-decor-stands f.decor value (inline f ss) plain refl)
 set-stands value (k ∷ inner) old n is undotted plain h = below-stands true k (set_below value inner) old n is undotted h
 set-stands value [] (table f ss) n is undotted plain h = absurd cc
 set-stands value [] (tables e xs) n is undotted plain h = absurd cc
@@ -90,7 +99,8 @@ made-below-plain value (k ∷ more) h = refl
 module _ (mode : Mode) where
   -- ---- the statement that changes
 
-  module _ (d : Document) (t : Tree) (read : IsRead mode d t) (way : List Turn) (g : List (Slot Node) → List (Slot Node)) (p : Path) (l : Key) (old n : Node)
+  module _ (d : Document) (t : Tree) (read : IsRead mode d t) (way : List Turn) (g : List (Slot Node)
+      → List (Slot Node)) (p : Path) (l : Key) (old n : Node)
       (same : node_decor n ≡ node_decor old) (one : OneChanges mode t (edited way g t) p l l old n) where
     abbrev at_end : List Key
     at_end = one.keys ++ (l ∷ [])
@@ -134,18 +144,23 @@ module _ (mode : Mode) where
           second = second-is;
           others_before = one.others_before;
           others_after = one.others_after;
-          read = statements-read mode d t read ∙ ap (λ ps. normal_last mode d (statements ps)) first-is ∙ ap (normal_last mode d) (statements-append one.before (x ∷ one.after));
-          text = edited-text mode d t read way g ∙ ap (λ ss. text_with mode d (statements ss)) second-is ∙ ap (text_with mode d) (statements-append one.before (y ∷ one.after));
+          read = statements-read mode d t read ∙ ap (λ ps. normal_last mode d (statements ps)) first-is
+              ∙ ap (normal_last mode d) (statements-append one.before (x ∷ one.after));
+          text = edited-text mode d t read way g ∙ ap (λ ss. text_with mode d (statements ss)) second-is
+              ∙ ap (text_with mode d) (statements-append one.before (y ∷ one.after));
         }
 
   -- a command that changes a value of a table that the walk enters, on its way inside
   module _ (makes : Bool) (run : List Text → Node → Answer Node) (rest : List Text)
-      (goes_down : (k : Text) (path : List Text) (n : Node) → run (k ∷ (path ++ rest)) n ≡ child_changed makes k (run (path ++ rest)) n) where
+      (goes_down : (k : Text) (path : List Text) (n : Node) → run (k ∷ (path ++ rest)) n
+      ≡ child_changed makes k (run (path ++ rest)) n) where
     pub value-changes : (d : Document) (t : Tree) (path : List Text) (v : Visit) (k : Text) (l : Key) (old n : Node)
-        → IsRead mode d t → (names : NamesTable t path v) → lookup_slot k (slot_list v.slots) ≡ Some (keyed l old) → is_value_node old ≡ true
+        → IsRead mode d t → (names : NamesTable t path v) → lookup_slot k (slot_list v.slots) ≡ Some (keyed l old) → is_value_node old
+        ≡ true
         → (is_dotted_inline old ≡ false → Stands old n)
         → run rest (table v.fields v.slots) ≡ done (table v.fields (slots_from (changed k (with_item n) (slot_list v.slots))))
-        → (u : Tree) × (mapped (with_slots t) (run (path ++ rest) (root_item t)) ≡ done u) × ChangesStatement mode d t u (to_key v.path l.name) old n × StaysSteady mode t u
+        → (u : Tree) × (mapped (with_slots t) (run (path ++ rest) (root_item t)) ≡ done u)
+        × ChangesStatement mode d t u (to_key v.path l.name) old n × StaysSteady mode t u
     value-changes d t path v k l old n read names is_there is_value stands here =
         let way = names.way in
         let g : List (Slot Node) → List (Slot Node) = changed k (with_item n) in
@@ -169,7 +184,8 @@ module _ (mode : Mode) where
 
   -- ---- a new key
 
-  module _ (d : Document) (t : Tree) (read : IsRead mode d t) (way : List Turn) (g : List (Slot Node) → List (Slot Node)) (v : Visit) (k : Key) (n : Node)
+  module _ (d : Document) (t : Tree) (read : IsRead mode d t) (way : List Turn) (g : List (Slot Node)
+      → List (Slot Node)) (v : Visit) (k : Key) (n : Node)
       (one : OneMore mode t (edited way g t) v k n) where
     pub adds-statement : AddsStatement mode d t (edited way g t) v k n
     adds-statement =
@@ -196,9 +212,12 @@ module _ (mode : Mode) where
       let way = names.way in
       let n : Node = made_below more value in
       let g : List (Slot Node) → List (Slot Node) = λ ss. ss ++ (keyed (new_key k) n ∷ []) in
-      let law = added mode t way v (new_key k) n read.made (steady-tree mode d t read.tree) names.leads is_new (made-below-plain value more plain) has in
+      let law = added mode t way v (new_key k) n read.made (steady-tree mode d t read.tree) names.leads is_new
+      (made-below-plain value more plain) has in
       let here : set_below value (k ∷ more) (table v.fields v.slots) ≡ done (table v.fields (slots_from (g (slot_list v.slots)))) =
       ap (λ o. mapped (λ xs. table v.fields (slots_from xs)) (change_slot true k (set_below value more) (slot_list v.slots) o)) is_new
-      ∙ ap (λ a. mapped (λ xs. table v.fields (slots_from xs)) (mapped (λ m. slot_list v.slots ++ (keyed (new_key k) m ∷ [])) a)) (made-below-is value more) in
-      let along = goes-along true (set_below value) (k ∷ more) (λ j rest n. refl) g way path (root_visit t) v read.made names.goes names.leads here in
+      ∙ ap (λ a. mapped (λ xs. table v.fields (slots_from xs)) (mapped (λ m. slot_list v.slots ++ (keyed (new_key k) m ∷ [])) a))
+      (made-below-is value more) in
+      let along = goes-along true (set_below value) (k ∷ more) (λ j rest n. refl) g way path (root_visit t) v read.made names.goes
+      names.leads here in
       (edited way g t, ap (mapped (with_slots t)) along, adds-statement d t read way g v (new_key k) n law.0, law.1)

@@ -33,17 +33,20 @@ module _ (k : Text) (go : Node → Answer Node) (F : Slots → Node) (ss : Slots
       let is : with_place k (slot_list ss) ≡ slot_list ss = place-there k (slot_list ss) (there k (slot_list ss) s e).0 in
       let same : s.item ≡ x = some-is s.item x (sym (ap (λ o. option_map (λ (r : Slot Node). r.item) o) e) ∙ sym (ap (lookup k) is) ∙ h) in
       mapped-twice (λ xs. F (slots_from xs)) (λ m. changed k (with_item m) (slot_list ss)) (go s.item)
-      ∙ mapped-same _ _ (go s.item) (λ y. ap (λ es. F (slots_from (changed k (with_item y) es))) (sym (slot_list-from (with_place k (slot_list ss)) ∙ is)))
+      ∙ mapped-same _ _ (go s.item) (λ y. ap (λ es. F (slots_from (changed k (with_item y) es)))
+      (sym (slot_list-from (with_place k (slot_list ss)) ∙ is)))
       ∙ ap (mapped (λ y. F (slots_from (changed k (with_item y) (slot_list (slots_from (with_place k (slot_list ss)))))))) (ap go same)
   slots-step None x e h =
       let new = not-there k (slot_list ss) e in
       let is : with_place k (slot_list ss) ≡ slot_list ss ++ one (keyed (new_key k) nothing) = place-new k (slot_list ss) new in
       let same : nothing ≡ x =
-      some-is nothing x (sym (ap (λ o. option_map (λ (r : Slot Node). r.item) o) (slot-last k nothing (slot_list ss) e)) ∙ sym (ap (lookup k) is) ∙ h) in
+      some-is nothing x (sym (ap (λ o. option_map (λ (r : Slot Node). r.item) o) (slot-last k nothing (slot_list ss) e))
+      ∙ sym (ap (lookup k) is) ∙ h) in
       mapped-twice (λ xs. F (slots_from xs)) (λ m. slot_list ss ++ one (keyed (new_key k) m)) (go nothing)
       ∙ mapped-same _ _ (go nothing)
       (λ y. ap (λ es. F (slots_from es))
-      (sym (ap (changed k (with_item y)) (slot_list-from (with_place k (slot_list ss)) ∙ is) ∙ write-last (new_key k) nothing y (slot_list ss) new)))
+      (sym (ap (changed k (with_item y)) (slot_list-from (with_place k (slot_list ss)) ∙ is)
+      ∙ write-last (new_key k) nothing y (slot_list ss) new)))
       ∙ ap (mapped (λ y. F (slots_from (changed k (with_item y) (slot_list (slots_from (with_place k (slot_list ss)))))))) (ap go same)
 
 found-in : (k : Text) (es : List (Slot Node)) (x : Node) → lookup k (slot_list (slots_from es)) ≡ Some x → lookup k es ≡ Some x
@@ -63,8 +66,10 @@ set_steps v k path (inline f ss) m x made under =
 set_steps v k path nothing m x made under =
     let is : inline new_inline (slots_from (with_place k [])) ≡ m = some-is _ m made in
     let same : nothing ≡ x =
-    some-is nothing x (sym (ap (λ o. option_map (λ (r : Slot Node). r.item) o) (slot-last k nothing [] refl)) ∙ ap (item_under k) is ∙ under) in
-    mapped-same _ _ (set_below v path nothing) (λ y. ap (λ es. inline new_inline (slots_from es)) (sym (write-last (new_key k) nothing y [] refl)))
+    some-is nothing x (sym (ap (λ o. option_map (λ (r : Slot Node). r.item) o) (slot-last k nothing [] refl)) ∙ ap (item_under k) is
+    ∙ under) in
+    mapped-same _ _ (set_below v path nothing) (λ y. ap (λ es. inline new_inline (slots_from es))
+    (sym (write-last (new_key k) nothing y [] refl)))
     ∙ ap (mapped (λ y. with_indexed (text k) y (inline new_inline (slots_from (with_place k []))))) (ap (set_below v path) same)
     ∙ ap (λ n. mapped (λ y. with_indexed (text k) y n) (set_below v path x)) is
 set_steps v k path (leaf s r d) m x made under = absurd cc

@@ -8,7 +8,8 @@ use Rattle.std.specs.List.{list_all}
 use Rattle.std.specs.Prelude.{not, ◌&&◌, ◌||◌}
 
 -- all agree, each with those before it
-pub agree-append : {S : Type 0} (may : Role → Role → Bool) (xs ys later : List (Mention S)) → agree may (xs ++ ys) later ≡ (agree may xs later && agree may ys later)
+pub agree-append : {S : Type 0} (may : Role → Role → Bool) (xs ys later : List (Mention S)) → agree may (xs ++ ys) later
+    ≡ (agree may xs later && agree may ys later)
 agree-append may xs ys later = list_all-append (λ m. list_all (λ n. not (same_path m.path n.path) || may m.role n.role) later) xs ys
 
 pub and-swap-inner : (a b c d : Bool) → ((a && b) && (c && d)) ≡ ((a && c) && (b && d))

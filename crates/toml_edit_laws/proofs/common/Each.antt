@@ -9,7 +9,8 @@ use Rattle.toml_edit_laws.proofs.common.Tests.{and_right, and_left}
 use Rattle.toml_edit_model.specs.Order.{insert_by}
 use Rattle.std.specs.Prelude.{filter, map}
 
-pub all-insert : {A : Type 0} (P : A → Type 0) (before : A → A → Bool) (a : A) (xs : List A) → P a → AllByRecursion P xs → AllByRecursion P (insert_by before a xs)
+pub all-insert : {A : Type 0} (P : A → Type 0) (before : A → A → Bool) (a : A) (xs : List A) → P a → AllByRecursion P xs
+    → AllByRecursion P (insert_by before a xs)
 all-insert P before a [] p h = (p, tt)
 all-insert P before a (x ∷ xs) p h =
     elim (cases_Bool (before a x)) [
@@ -17,7 +18,8 @@ all-insert P before a (x ∷ xs) p h =
       | inr e ↦ rw e (h.0, all-insert P before a xs p h.1)
     ]
 
-pub all-both : {A : Type 0} (P Q : A → Type 0) (xs : List A) → AllByRecursion P xs → AllByRecursion Q xs → AllByRecursion (λ x. P x × Q x) xs
+pub all-both : {A : Type 0} (P Q : A → Type 0) (xs : List A) → AllByRecursion P xs → AllByRecursion Q xs
+    → AllByRecursion (λ x. P x × Q x) xs
 all-both P Q [] h g = tt
 all-both P Q (x ∷ xs) h g = ((h.0, g.0), all-both P Q xs h.1 g.1)
 
@@ -64,7 +66,9 @@ all-map P Q [] f h = tt
 all-map P Q (x ∷ xs) f h = (f x h.0, all-map P Q xs f h.1)
 
 pub filter-passes : {A : Type 0} (test : A → Bool) (xs : List A) → AllByRecursion (λ x. test x ≡ true) (filter test xs)
-filter-passes test xs = all-map (λ x. Unit {0} × (test x ≡ true)) (λ x. test x ≡ true) (filter test xs) (λ x h. h.1) (all_pass (λ x. Unit {0}) test xs (trivially xs))
+filter-passes test xs =
+    all-map (λ x. Unit {0} × (test x ≡ true)) (λ x. test x
+    ≡ true) (filter test xs) (λ x h. h.1) (all_pass (λ x. Unit {0}) test xs (trivially xs))
 
 pub all-image : {A B : Type 0} (f : A → B) (P : B → Type 0) (xs : List A) → AllByRecursion (λ x. P (f x)) xs → AllByRecursion P (map f xs)
 all-image f P [] h = tt

@@ -1,5 +1,6 @@
 -- Where a source may be cut: before and after an ASCII byte, and so at both ends of trivia.
-use Rattle.std.proofs.Common.{◌≡◌, ◌⊎◌, ℕ, ◌+◌, ◌-◌, ◌<◌, refl, sym, ap, subst, ◌∙◌, arith, inl, inr, true, List, [], ◌∷◌, ◌++◌, append_assoc, append-nil, length, get_or}
+use Rattle.std.proofs.Common.{◌≡◌, ◌⊎◌, ℕ, ◌+◌, ◌-◌, ◌<◌, refl, sym, ap, subst, ◌∙◌, arith, inl, inr, true, List, [], ◌∷◌, ◌++◌}
+use Rattle.std.proofs.Common.{append_assoc, append-nil, length, get_or}
 use Rattle.std.specs.List.{list_all, AllByRecursion, flat_map}
 use Rattle.std.specs.Str.{IsUtf8, IsCharBoundary}
 use Rattle.std.proofs.lemmas.List.{length-append, get_or-append_right}
@@ -7,7 +8,8 @@ use Rattle.std.proofs.lemmas.Str.{IsCharBoundary-before_ascii, IsCharBoundary-af
 use Rattle.std.proofs.lemmas.Bool.{and_parts}
 use Rattle.std.proofs.lemmas.Bool.Decides.{nat_tests}
 use Rattle.toml_edit_model.specs.Text.{Text}
-use Rattle.toml_edit_model.specs.Trivia.{is_blank, IsWhiteSpace, lf, crlf, comment, Piece, blank, break, remark, piece_text, IsPiece, IsWholeTrivia, IsNewline, IsLineEnd, IsFinalTrivia}
+use Rattle.toml_edit_model.specs.Trivia.{is_blank, IsWhiteSpace, lf, crlf, comment, Piece, blank, break, remark, piece_text, IsPiece}
+use Rattle.toml_edit_model.specs.Trivia.{IsWholeTrivia, IsNewline, IsLineEnd, IsFinalTrivia}
 use Rattle.toml_edit_laws.specs.reading.Runs.{first}
 use Rattle.toml_edit_laws.specs.Standing.{Stands}
 use Rattle.toml_edit_laws.proofs.common.Tests.{and_left, and_right}
@@ -46,16 +48,20 @@ abbrev pub EndsAscii : Text → Type 0
 EndsAscii t = (t ≡ []) ⊎ ((front : Text) × (c : ℕ) × (t ≡ front ++ (c ∷ [])) × (c < 128))
 
 -- where the source may be cut after such a text, it may be cut before it
-pub start-edge : (source : Text) (i : ℕ) (t : Text) → Stands source i t → StartsAscii t → IsCharBoundary source (i + length t) → IsCharBoundary source i
+pub start-edge : (source : Text) (i : ℕ) (t : Text) → Stands source i t → StartsAscii t → IsCharBoundary source (i + length t)
+    → IsCharBoundary source i
 start-edge source i [] h ascii end = subst (IsCharBoundary source) (let same : i + 0 ≡ i = omega arith in same) end
 start-edge source i (c ∷ t) h ascii end = edge-before source i c t h ascii
 
 -- where it may be cut before one that ends so, it may be cut after it
-pub end-edge : (source : Text) (i : ℕ) (t : Text) → IsUtf8 source → Stands source i t → EndsAscii t → IsCharBoundary source i → IsCharBoundary source (i + length t)
-end-edge source i t utf8 h (inl none) start = subst (IsCharBoundary source) (let same : i ≡ i + length t = omega (arith, ap length none) in same) start
+pub end-edge : (source : Text) (i : ℕ) (t : Text) → IsUtf8 source → Stands source i t → EndsAscii t → IsCharBoundary source i
+    → IsCharBoundary source (i + length t)
+end-edge source i t utf8 h (inl none) start =
+    subst (IsCharBoundary source) (let same : i ≡ i + length t = omega (arith, ap length none) in same) start
 end-edge source i t utf8 h (inr (front, c, e, ascii)) start =
     let last = stands-right source i front (c ∷ []) (subst (Stands source i) e h) in
-    subst (IsCharBoundary source) (let same : i + length front + 1 ≡ i + length t = omega (arith, ap length e, length-append front (c ∷ [])) in same)
+    subst (IsCharBoundary source) (let same : i + length front + 1 ≡ i + length t =
+    omega (arith, ap length e, length-append front (c ∷ [])) in same)
     (edge-after source (i + length front) c [] utf8 last ascii)
 
 -- ---- trivia
@@ -64,7 +70,8 @@ blank-ascii : (c : ℕ) → is_blank c ≡ true → c < 128
 blank-ascii c h = grind (arith, nat_tests)
 
 ends-after : (front t : Text) → EndsAscii front → EndsAscii t → EndsAscii (front ++ t)
-ends-after front t h (inr (first, c, e, ascii)) = inr (front ++ first, c, ap (λ x. front ++ x) e ∙ sym (append_assoc front first (c ∷ [])), ascii)
+ends-after front t h (inr (first, c, e, ascii)) =
+    inr (front ++ first, c, ap (λ x. front ++ x) e ∙ sym (append_assoc front first (c ∷ [])), ascii)
 ends-after front t (inl none) (inl e) = inl (ap (λ x. x ++ t) none ∙ e)
 ends-after front t (inr (first, c, g, ascii)) (inl e) = inr (first, c, ap (λ x. front ++ x) e ∙ append-nil front ∙ g, ascii)
 
@@ -115,12 +122,14 @@ ascii_line_end t rest (white, none, each, inl empty, whole) h =
     let same : t ++ rest ≡ white ++ rest = ap (λ (x : Text). x ++ rest) (whole ∙ ap (λ (x : Text). white ++ x) empty ∙ append-nil white) in
     rw same (ascii_blank white rest each h)
 ascii_line_end t rest (white, last, each, inr (body, visible, is), whole) h =
-    let same : t ++ rest ≡ white ++ (35 ∷ (body ++ rest)) = ap (λ (x : Text). x ++ rest) (whole ∙ ap (λ (x : Text). white ++ x) is) ∙ append_assoc white (comment body) rest in
+    let same : t ++ rest ≡ white ++ (35 ∷ (body ++ rest)) = ap (λ (x : Text). x ++ rest) (whole ∙ ap (λ (x : Text). white ++ x) is)
+    ∙ append_assoc white (comment body) rest in
     rw same (ascii_blank white (35 ∷ (body ++ rest)) each (omega arith))
 
 pub ascii_final : (t : Text) → IsFinalTrivia t → StartsAscii t
 ascii_final t (whole, none, trivia, inl empty, parts) = rw (parts, empty) (ascii_trivia whole [] trivia (omega arith))
-ascii_final t (whole, last, trivia, inr (body, visible, is), parts) = rw (parts, is) (ascii_trivia whole (comment body) trivia (omega arith))
+ascii_final t (whole, last, trivia, inr (body, visible, is), parts) =
+    rw (parts, is) (ascii_trivia whole (comment body) trivia (omega arith))
 
 -- ---- the same, before nothing
 

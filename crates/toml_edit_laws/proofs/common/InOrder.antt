@@ -2,7 +2,8 @@
 use Rattle.std.proofs.Common.{◌≡◌, refl, ◌∙◌, ap, Bool, true, false, pos, List, [], ◌∷◌}
 use Rattle.std.specs.Prelude.{◌&&◌, ◌||◌, not, int_le, filter, if◌then◌else◌}
 use Rattle.std.specs.List.Sorted.{IsPermutation}
-use Rattle.std.proofs.lemmas.List.Sorted.{IsPermutation-refl, IsPermutation-sym, IsPermutation-cons, IsPermutation-trans, IsPermutation-middle}
+use Rattle.std.proofs.lemmas.List.Sorted.{IsPermutation-refl, IsPermutation-sym, IsPermutation-cons, IsPermutation-trans}
+use Rattle.std.proofs.lemmas.List.Sorted.{IsPermutation-middle}
 use Rattle.toml_edit_model.specs.Order.{is_level, is_sorted_by, IsInOrder, insert_by, sorted_by}
 use Rattle.toml_edit_model.specs.Paths.{Mention, Source, Placed}
 use Rattle.toml_edit_model.specs.Normal.{is_line, line_before, ordered}
@@ -18,11 +19,13 @@ module _ {A : Type 0} (before : A → A → Bool) where
   kept-insert a [] = IsPermutation-refl (a ∷ [])
   kept-insert a (b ∷ xs) = by_test (before a b) (kept-insert a xs)
     where
-      by_test : (t : Bool) → IsPermutation (a ∷ xs) (insert_by before a xs) → IsPermutation (a ∷ b ∷ xs) (if t then a ∷ b ∷ xs else b ∷ insert_by before a xs)
+      by_test : (t : Bool) → IsPermutation (a ∷ xs) (insert_by before a xs)
+          → IsPermutation (a ∷ b ∷ xs) (if t then a ∷ b ∷ xs else b ∷ insert_by before a xs)
       by_test true h = IsPermutation-refl (a ∷ b ∷ xs)
       by_test false h =
           IsPermutation-trans (a ∷ b ∷ xs) (b ∷ a ∷ xs) (b ∷ insert_by before a xs)
-          (IsPermutation-sym (b ∷ a ∷ xs) (a ∷ b ∷ xs) (IsPermutation-middle (b ∷ []) a xs)) (IsPermutation-cons b (a ∷ xs) (insert_by before a xs) h)
+          (IsPermutation-sym (b ∷ a ∷ xs) (a ∷ b ∷ xs) (IsPermutation-middle (b ∷ []) a xs)) (IsPermutation-cons b (a
+          ∷ xs) (insert_by before a xs) h)
 
   pub kept-sorted : (xs : List A) → IsPermutation xs (sorted_by before xs)
   kept-sorted [] = IsPermutation-refl []
@@ -37,17 +40,20 @@ kept-lines mss (s ∷ rest) = by_kind (is_line s.source.statement) (IsPermutatio
     by_kind : (b : Bool) → IsPermutation (s ∷ rest) (s ∷ ordered mss rest)
         → IsPermutation (s ∷ rest) (if b then insert_by (line_before mss) s (ordered mss rest) else s ∷ ordered mss rest)
     by_kind true h =
-        IsPermutation-trans (s ∷ rest) (s ∷ ordered mss rest) (insert_by (line_before mss) s (ordered mss rest)) h (kept-insert (line_before mss) s (ordered mss rest))
+        IsPermutation-trans (s ∷ rest) (s ∷ ordered mss rest) (insert_by (line_before mss) s (ordered mss rest)) h
+        (kept-insert (line_before mss) s (ordered mss rest))
     by_kind false h = h
 
 -- ---- sorted, and stable
 
-module _ {A : Type 0} (before : A → A → Bool) (total : (a b : A) → before a b ≡ false → before b a ≡ true) (goes_on : (a b c : A) → before a b ≡ true → before b c ≡ true → before a c ≡ true) where
+module _ {A : Type 0} (before : A → A → Bool) (total : (a b : A) → before a b ≡ false → before b a ≡ true) (goes_on : (a b c : A)
+    → before a b ≡ true → before b c ≡ true → before a c ≡ true) where
   tail-sorted : (b : A) (xs : List A) → is_sorted_by before (b ∷ xs) ≡ true → is_sorted_by before xs ≡ true
   tail-sorted b [] h = refl
   tail-sorted b (c ∷ xs) h = and_right (before b c) (is_sorted_by before (c ∷ xs)) h
 
-  behind-one : (b a : A) (xs : List A) → before b a ≡ true → is_sorted_by before (b ∷ xs) ≡ true → is_sorted_by before (insert_by before a xs) ≡ true
+  behind-one : (b a : A) (xs : List A) → before b a ≡ true → is_sorted_by before (b ∷ xs) ≡ true
+      → is_sorted_by before (insert_by before a xs) ≡ true
       → is_sorted_by before (b ∷ insert_by before a xs) ≡ true
   behind-one b a [] p h g = and_both (before b a) true p refl
   behind-one b a (c ∷ xs) p h g = by_test (before a c) g
@@ -55,7 +61,8 @@ module _ {A : Type 0} (before : A → A → Bool) (total : (a b : A) → before 
       by_test : (t : Bool) → is_sorted_by before (if t then a ∷ c ∷ xs else c ∷ insert_by before a xs) ≡ true
           → is_sorted_by before (b ∷ (if t then a ∷ c ∷ xs else c ∷ insert_by before a xs)) ≡ true
       by_test true g = and_both (before b a) (is_sorted_by before (a ∷ c ∷ xs)) p g
-      by_test false g = and_both (before b c) (is_sorted_by before (c ∷ insert_by before a xs)) (and_left (before b c) (is_sorted_by before (c ∷ xs)) h) g
+      by_test false g = and_both (before b c) (is_sorted_by before (c ∷ insert_by before a xs))
+          (and_left (before b c) (is_sorted_by before (c ∷ xs)) h) g
 
   sorted-insert : (a : A) (xs : List A) → is_sorted_by before xs ≡ true → is_sorted_by before (insert_by before a xs) ≡ true
   sorted-insert a [] h = refl
@@ -88,7 +95,8 @@ module _ {A : Type 0} (before : A → A → Bool) (total : (a b : A) → before 
           → filter (is_level before x) (if t then a ∷ b ∷ xs else b ∷ insert_by before a xs) ≡ filter (is_level before x) (a ∷ b ∷ xs)
       by_test true e g = refl
       by_test false e g =
-          passed a b (is_level before x a) (is_level before x b) (not-level x a b e) (filter (is_level before x) (insert_by before a xs)) (filter (is_level before x) xs) g
+          passed a b (is_level before x a) (is_level before x b) (not-level x a b e) (filter (is_level before x) (insert_by before a xs))
+          (filter (is_level before x) xs) g
 
   level-sorted : (x : A) (xs : List A) → filter (is_level before x) (sorted_by before xs) ≡ filter (is_level before x) xs
   level-sorted x [] = refl
@@ -112,7 +120,8 @@ comes-total g h e = by_roots (is_root g.1) (is_root h.1) e
 comes-on : (f g h : PlacedVisit) → comes_before f g ≡ true → comes_before g h ≡ true → comes_before f h ≡ true
 comes-on f g h p q = by_roots (is_root f.1) (is_root g.1) (is_root h.1) p q
   where
-    by_roots : (a b c : Bool) → (a || (not b && int_le f.0 g.0)) ≡ true → (b || (not c && int_le g.0 h.0)) ≡ true → (a || (not c && int_le f.0 h.0)) ≡ true
+    by_roots : (a b c : Bool) → (a || (not b && int_le f.0 g.0)) ≡ true → (b || (not c && int_le g.0 h.0)) ≡ true
+        → (a || (not c && int_le f.0 h.0)) ≡ true
     by_roots true b c p q = refl
     by_roots false true c p q = absurd cc
     by_roots false false true p q = absurd cc

@@ -84,7 +84,8 @@ ended exact t end h (inl (lf, e)) = subst (IsEndedAs exact t) (sym e) (exact-ope
 ended exact t end h (inl (crlf, e)) =
     subst (IsEndedAs exact t) (sym e)
     (record {
-      trailing = ap (λ b. if b then but_last (t ++ (carriage_return ∷ [])) else t ++ (carriage_return ∷ [])) (ends-snoc t) ∙ but-last-snoc t carriage_return;
+      trailing = ap (λ b. if b then but_last (t ++ (carriage_return ∷ [])) else t ++ (carriage_return ∷ [])) (ends-snoc t)
+          ∙ but-last-snoc t carriage_return;
       newline = ap (λ b. if b then carriage_return ∷ newline else newline) (ends-snoc t);
     })
 ended exact t end h (inr e) = subst (IsEndedAs exact t) (sym e) (exact-open t [] (line-end-closed t h) refl refl)

@@ -2,7 +2,8 @@
 use Rattle.std.proofs.Common.{◌≡◌, ◌⊎◌, sym, ap, subst, ◌∙◌, ◌<◌, arith, inl, inr, true, Bool, List, [], ◌∷◌, ◌++◌, refl, false}
 use Rattle.std.specs.Prelude.{Contains, map, filter, if◌then◌else◌}
 use Rattle.std.specs.List.{list_all, AllByRecursion}
-use Rattle.std.proofs.lemmas.List.Elements.{Contains-append_left, Contains-append_right, Contains-append_cases, Contains-push, Contains-push_cases}
+use Rattle.std.proofs.lemmas.List.Elements.{Contains-append_left, Contains-append_right, Contains-append_cases, Contains-push}
+use Rattle.std.proofs.lemmas.List.Elements.{Contains-push_cases}
 use Rattle.toml_edit_laws.proofs.common.Tests.{and_left, and_right}
 use Rattle.toml_edit_laws.proofs.common.Each.{all-map}
 
@@ -72,7 +73,8 @@ pub of-filtered : {A : Type 0} (test : A → Bool) (x : A) (xs : List A) → Amo
 of-filtered test x [] h = elim h [ ]
 of-filtered test x (y ∷ ys) h = by_test (test y) h (of-filtered test x ys)
   where
-    by_test : (b : Bool) → Among x (if b then y ∷ filter test ys else filter test ys) → (Among x (filter test ys) → Among x ys) → Among x (y ∷ ys)
+    by_test : (b : Bool) → Among x (if b then y ∷ filter test ys else filter test ys) → (Among x (filter test ys) → Among x ys)
+        → Among x (y ∷ ys)
     by_test true (inl e) ih = inl e
     by_test true (inr g) ih = inr (ih g)
     by_test false g ih = inr (ih g)

@@ -12,7 +12,8 @@ use Rattle.toml_edit_model.specs.Order.{insert_by, sorted_by}
 
 -- ---- what holds of each element
 
-pub all-sorted : {A : Type 0} (P : A → Type 0) (before : A → A → Bool) (xs : List A) → AllByRecursion P xs → AllByRecursion P (sorted_by before xs)
+pub all-sorted : {A : Type 0} (P : A → Type 0) (before : A → A → Bool) (xs : List A) → AllByRecursion P xs
+    → AllByRecursion P (sorted_by before xs)
 all-sorted P before [] h = tt
 all-sorted P before (x ∷ xs) h = all-insert P before x (sorted_by before xs) h.0 (all-sorted P before xs h.1)
 
@@ -112,7 +113,8 @@ abbrev pub passes_first : {A : Type 0} → (A → Bool) → (A → Bool) → Lis
 passes_first test other [] = false
 passes_first test other (x ∷ xs) = if other x then false else (if test x then true else passes_first test other xs)
 
-pub place-first : {A : Type 0} (test other : A → Bool) (xs : List A) → nat_lt (position_or_len test xs) (position_or_len other xs) ≡ passes_first test other xs
+pub place-first : {A : Type 0} (test other : A → Bool) (xs : List A) → nat_lt (position_or_len test xs) (position_or_len other xs)
+    ≡ passes_first test other xs
 place-first test other [] = refl
 place-first test other (x ∷ xs) =
     by_test (test x) (other x) (position_or_len test xs) (position_or_len other xs) (passes_first test other xs) (place-first test other xs)
@@ -144,11 +146,13 @@ first-filter part test other (x ∷ xs) =
     ]
 
 -- tests that agree on the elements
-pub first-alike : {A : Type 0} (P : A → Type 0) (test other test2 other2 : A → Bool) → ((x : A) → P x → (test x ≡ test2 x) × (other x ≡ other2 x))
+pub first-alike : {A : Type 0} (P : A → Type 0) (test other test2 other2 : A → Bool)
+    → ((x : A) → P x → (test x ≡ test2 x) × (other x ≡ other2 x))
     → (xs : List A) → AllByRecursion P xs → passes_first test other xs ≡ passes_first test2 other2 xs
 first-alike P test other test2 other2 same [] h = refl
 first-alike P test other test2 other2 same (x ∷ xs) h =
-    rw (same x h.0).0 (rw (same x h.0).1 (ap (λ b. if other2 x then false else (if test2 x then true else b)) (first-alike P test other test2 other2 same xs h.1)))
+    rw (same x h.0).0 (rw (same x h.0).1 (ap (λ b. if other2 x then false
+    else (if test2 x then true else b)) (first-alike P test other test2 other2 same xs h.1)))
 
 pub int_le-total : (a b : ℤ) → int_le a b ≡ false → int_le b a ≡ true
 int_le-total a b h = grind (arith, ints)
@@ -162,7 +166,8 @@ and-clash true false h p q = cc
 and-clash false b h p q = cc
 
 -- where no element passes both, and some passes the second, the second passes first unless the first does
-pub passes-back : {A : Type 0} (test other : A → Bool) (xs : List A) (y : A) → AllByRecursion (λ x. (test x && other x) ≡ false) xs → Among y xs → other y ≡ true
+pub passes-back : {A : Type 0} (test other : A → Bool) (xs : List A) (y : A) → AllByRecursion (λ x. (test x && other x) ≡ false) xs
+    → Among y xs → other y ≡ true
     → passes_first test other xs ≡ false → passes_first other test xs ≡ true
 passes-back test other [] y h m e f = elim m [ ]
 passes-back test other (x ∷ xs) y h m e f =
@@ -203,7 +208,8 @@ first-of test other R (x ∷ xs) h g =
     ]
 
 -- an element of a kind that goes before all of another kind makes its kind first
-pub goes-first : {A : Type 0} (test other : A → Bool) (R : A → A → Type 0) → ((x y : A) → R x y → R y x → ⊥) → (xs : List A) (u : A) → AllPairs R xs
+pub goes-first : {A : Type 0} (test other : A → Bool) (R : A → A → Type 0) → ((x y : A) → R x y → R y x → ⊥) → (xs : List A) (u : A)
+    → AllPairs R xs
     → Among u xs → test u ≡ true → AllByRecursion (λ w. other w ≡ true → R u w) xs → passes_first test other xs ≡ true
 goes-first test other R clash [] u g m e h = elim m [ ]
 goes-first test other R clash (x ∷ xs) u g m e h =

@@ -50,7 +50,8 @@ pairs-of {A} P R S (x ∷ xs) f h g = (each xs h.1 g.0, pairs-of P R S xs f h.1 
     each [] p r = tt
     each (y ∷ ys) p r = (f x y h.0 p.0 r.0, each ys p.1 r.1)
 
-pub pairs-across : {A : Type 0} (R : A → A → Type 0) (xs ys : List A) → AllPairs R (xs ++ ys) → AllByRecursion (λ x. AllByRecursion (R x) ys) xs
+pub pairs-across : {A : Type 0} (R : A → A → Type 0) (xs ys : List A) → AllPairs R (xs ++ ys)
+    → AllByRecursion (λ x. AllByRecursion (R x) ys) xs
 pairs-across R [] ys h = tt
 pairs-across R (x ∷ xs) ys h = (all-back (R x) xs ys h.0, pairs-across R xs ys h.1)
 

@@ -38,7 +38,8 @@ same_path-swap p q = by_test (same_path p q) refl
     by_test : (b : Bool) → same_path p q ≡ b → b ≡ same_path q p
     by_test true e = sym (subst (λ r. same_path r p ≡ true) (same_path-is p q e) (same_path-refl p))
     by_test false e =
-        sym (false-by (same_path q p) (λ g. true-false (same_path p q) (subst (λ r. same_path r q ≡ true) (same_path-is q p g) (same_path-refl q)) e))
+        sym (false-by (same_path q p) (λ g. true-false (same_path p q) (subst (λ r. same_path r q
+        ≡ true) (same_path-is q p g) (same_path-refl q)) e))
 
 -- paths with the same beginning
 pub same_path-after : (p q r : Path) → same_path (p ++ q) (p ++ r) ≡ same_path q r

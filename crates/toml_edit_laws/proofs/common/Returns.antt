@@ -49,7 +49,8 @@ front-is f v t =
     (append_assoc f.before_equals (codes "=" ++ (f.after_equals ++ v)) t
     ∙ ap (λ x. f.before_equals ++ (codes "=" ++ x)) (append_assoc f.after_equals v t)))
 
-pub frame-split : (mode : Mode) (f : Frame) (v end : Text) → frame_text f v ++ end ≡ frame_text (returned-frame mode f end) v ++ after-return mode end
+pub frame-split : (mode : Mode) (f : Frame) (v end : Text) → frame_text f v ++ end ≡ frame_text (returned-frame mode f end) v
+    ++ after-return mode end
 frame-split mode f v end =
     let kept = with_return mode f.trailing end in
     let rest = after-return mode end in
@@ -62,7 +63,8 @@ frame-split mode f v end =
 pub frame-returned : (mode : Mode) (source : Text) (i : ℕ) (f : Frame) (v end : Text) → Stands source i (frame_text f v ++ end)
     → Stands source i (frame_text (returned-frame mode f end) v)
 frame-returned mode source i f v end h =
-    stands-left source i (frame_text (returned-frame mode f end) v) (after-return mode end) (subst (Stands source i) (frame-split mode f v end) h)
+    stands-left source i (frame_text (returned-frame mode f end) v) (after-return mode end)
+    (subst (Stands source i) (frame-split mode f v end) h)
 
 pub header-returned : (mode : Mode) (source : Text) (i : ℕ) (h : Header) (end : Text) → Stands source i (statement_text (header h end))
     → Stands source i (statement_text (header (returned-header mode h end) (after-return mode end)))
@@ -79,9 +81,12 @@ PartsStartAscii exact end = StartsAscii (but_last end) × StartsAscii (last_of e
 pub parts-start : (mode : Mode) (end : Text) → IsEnd end → PartsStartAscii mode end
 parts-start plain end (inl e) = newline-starts end e
 parts-start plain end (inr e) = subst StartsAscii (sym e) (let none : 0 < 128 = omega arith in none)
-parts-start exact end (inl (lf, e)) = subst (PartsStartAscii exact) (sym e) (let small : (0 < 128) × (10 < 128) = (omega arith, omega arith) in small)
-parts-start exact end (inl (crlf, e)) = subst (PartsStartAscii exact) (sym e) (let small : (13 < 128) × (10 < 128) = (omega arith, omega arith) in small)
-parts-start exact end (inr e) = subst (PartsStartAscii exact) (sym e) (let small : (0 < 128) × (0 < 128) = (omega arith, omega arith) in small)
+parts-start exact end (inl (lf, e)) =
+    subst (PartsStartAscii exact) (sym e) (let small : (0 < 128) × (10 < 128) = (omega arith, omega arith) in small)
+parts-start exact end (inl (crlf, e)) =
+    subst (PartsStartAscii exact) (sym e) (let small : (13 < 128) × (10 < 128) = (omega arith, omega arith) in small)
+parts-start exact end (inr e) =
+    subst (PartsStartAscii exact) (sym e) (let small : (0 < 128) × (0 < 128) = (omega arith, omega arith) in small)
 
 pub returned-starts : (mode : Mode) (t end : Text) → IsLineEnd t → PartsStartAscii mode end → StartsAscii (with_return mode t end)
 returned-starts plain t end h g = line_end-starts t h

@@ -45,7 +45,8 @@ find-there {A = A} test (y ∷ ys) x m e =
     elim (cases_Bool (test y)) [
       | inl f ↦ (y, rw f refl)
       | inr f ↦
-          let rest : (z : A) × (find test ys ≡ Some z) = elim m [ inl is ↦ true-false (test y) (ap test (sym is) ∙ e) f | inr n ↦ find-there test ys x n e ] in
+          let rest : (z : A) × (find test ys ≡ Some z) =
+          elim m [ inl is ↦ true-false (test y) (ap test (sym is) ∙ e) f | inr n ↦ find-there test ys x n e ] in
           (rest.0, rw f rest.1)
     ]
 

@@ -10,7 +10,8 @@ use Rattle.toml_edit_laws.proofs.common.Tests.{if-true, if-false}
 use Rattle.toml_edit_model.specs.Order.{insert_by, sorted_by}
 
 -- what holds of an inserted element and the others
-all-inserted : {A : Type 0} (P : A → Type 0) (before : A → A → Bool) (a : A) (xs : List A) → AllByRecursion P (insert_by before a xs) → P a × AllByRecursion P xs
+all-inserted : {A : Type 0} (P : A → Type 0) (before : A → A → Bool) (a : A) (xs : List A) → AllByRecursion P (insert_by before a xs) → P a
+    × AllByRecursion P xs
 all-inserted P before a [] h = (h.0, tt)
 all-inserted {A} P before a (x ∷ xs) h = by_test (before a x) h (all-inserted P before a xs)
   where
@@ -35,7 +36,8 @@ pairs-sorted R before swap (x ∷ xs) h =
     pairs-insert R before swap x (sorted_by before xs) (all-sorted (R x) before xs h.0) (pairs-sorted R before swap xs h.1)
 
 -- what comes before all goes first
-pub insert-first : {A : Type 0} (before : A → A → Bool) (a : A) (xs : List A) → AllByRecursion (λ b. before a b ≡ true) xs → insert_by before a xs ≡ a ∷ xs
+pub insert-first : {A : Type 0} (before : A → A → Bool) (a : A) (xs : List A) → AllByRecursion (λ b. before a b ≡ true) xs
+    → insert_by before a xs ≡ a ∷ xs
 insert-first before a [] h = refl
 insert-first before a (b ∷ xs) h = if-true (before a b) (a ∷ b ∷ xs) (b ∷ insert_by before a xs) h.0
 
@@ -62,7 +64,8 @@ module _ {A : Type 0} (le : A → A → Bool)
   filter-insert test a [] h = refl
   filter-insert test a (b ∷ xs) h = by_order (le a b) refl (filter-insert test a xs h.1)
     where
-      goes_first : (c : Bool) (ys : List A) → insert_by le a ys ≡ a ∷ ys → (if c then a ∷ ys else ys) ≡ (if c then insert_by le a ys else ys)
+      goes_first : (c : Bool) (ys : List A) → insert_by le a ys ≡ a ∷ ys → (if c then a ∷ ys else ys)
+          ≡ (if c then insert_by le a ys else ys)
       goes_first true ys e = sym e
       goes_first false ys e = refl
 
@@ -73,12 +76,17 @@ module _ {A : Type 0} (le : A → A → Bool)
       goes_later false true all rest e ih = ap (λ ys. b ∷ ys) ih
       goes_later false false all rest e ih = ih
 
-      by_order : (c : Bool) → le a b ≡ c → filter test (insert_by le a xs) ≡ (if test a then insert_by le a (filter test xs) else filter test xs)
-          → filter test (if c then a ∷ b ∷ xs else b ∷ insert_by le a xs) ≡ (if test a then insert_by le a (filter test (b ∷ xs)) else filter test (b ∷ xs))
+      by_order : (c : Bool) → le a b ≡ c → filter test (insert_by le a xs)
+          ≡ (if test a then insert_by le a (filter test xs) else filter test xs)
+          → filter test (if c then a ∷ b ∷ xs else b ∷ insert_by le a xs)
+          ≡ (if test a then insert_by le a (filter test (b ∷ xs)) else filter test (b ∷ xs))
       by_order true e ih =
           goes_first (test a) (filter test (b ∷ xs))
           (insert-first le a (filter test (b ∷ xs))
-          (all-filter (λ x. le a x ≡ true) test (b ∷ xs) (e, all-map (λ x. le b x ≡ true) (λ x. le a x ≡ true) xs (λ x g. le-trans a b x e g) h.0)))
+          (all-filter (λ x. le a x ≡ true) test (b ∷ xs) (
+            e,
+            all-map (λ x. le b x ≡ true) (λ x. le a x ≡ true) xs (λ x g. le-trans a b x e g) h.0,
+          )))
       by_order false e ih = goes_later (test a) (test b) (filter test (insert_by le a xs)) (filter test xs) e ih
 
   pub filter-sorted : (test : A → Bool) (xs : List A) → filter test (sorted_by le xs) ≡ sorted_by le (filter test xs)
@@ -94,11 +102,13 @@ module _ {A : Type 0} (le : A → A → Bool)
       by_test false = refl
 
 -- the others of a list with an inserted element
-pairs-inserted : {A : Type 0} (R : A → A → Type 0) (before : A → A → Bool) (a : A) (xs : List A) → AllPairs R (insert_by before a xs) → AllPairs R xs
+pairs-inserted : {A : Type 0} (R : A → A → Type 0) (before : A → A → Bool) (a : A) (xs : List A) → AllPairs R (insert_by before a xs)
+    → AllPairs R xs
 pairs-inserted R before a [] h = tt
 pairs-inserted {A} R before a (x ∷ xs) h = by_test (before a x) h (pairs-inserted R before a xs)
   where
-    by_test : (b : Bool) → AllPairs R (if b then a ∷ x ∷ xs else x ∷ insert_by before a xs) → (AllPairs R (insert_by before a xs) → AllPairs R xs) → AllPairs R (x ∷ xs)
+    by_test : (b : Bool) → AllPairs R (if b then a ∷ x ∷ xs else x ∷ insert_by before a xs)
+        → (AllPairs R (insert_by before a xs) → AllPairs R xs) → AllPairs R (x ∷ xs)
     by_test true g ih = g.1
     by_test false g ih = ((all-inserted (R x) before a xs g.0).1, ih g.1)
 
@@ -161,7 +171,15 @@ module _ {A : Type 0} (le : A → A → Bool) (Q : A → Type 0) (a b : A)
           → OneApart Q a b (if c then x ∷ a ∷ back else a ∷ insert_by le x back) (if d then x ∷ b ∷ back else b ∷ insert_by le x back)
       by_test true true e = record { front = x ∷ []; back = back; first = refl; second = refl; all_front = (q, tt); all_back = g }
       by_test false false e =
-          record { front = []; back = insert_by le x back; first = refl; second = refl; all_front = tt; all_back = all-insert Q le x back q g }
+          record {
+            front = [];
+            back = insert_by le x back;
+            first = refl;
+            second = refl;
+            all_front = tt;
+            all_back =
+                all-insert Q le x back q g;
+          }
       by_test true false e = absurd cc
       by_test false true e = absurd cc
   other-apart x (y ∷ front) back q f g = by_test (le x y) (other-apart x front back q f.1 g)

@@ -30,7 +30,8 @@ stands-right source i a b h =
 pub stands-whole : (source : Text) → Stands source 0 source
 stands-whole source = record { before = []; after = []; text = sym (append-nil source); place = refl }
 
-cut : (before t after : Text) (n : ℕ) → n ≡ length before + length t - length before → take n (drop (length before) (before ++ (t ++ after))) ≡ t
+cut : (before t after : Text) (n : ℕ) → n ≡ length before + length t - length before
+    → take n (drop (length before) (before ++ (t ++ after))) ≡ t
 cut before t after n e =
     ap (take n) (drop-append_seam before (t ++ after))
     ∙ ap (λ m. take m (t ++ after)) (let f : n ≡ length t = omega arith in f)

@@ -74,7 +74,8 @@ same_text-swap t u = by_test (same_text t u) refl
     by_test : (b : Bool) → same_text t u ≡ b → b ≡ same_text u t
     by_test true e = sym (subst (λ v. same_text v t ≡ true) (same_text-is t u e) (same_text-refl t))
     by_test false e =
-        sym (false-by (same_text u t) (λ g. true-false (same_text t u) (subst (λ v. same_text v u ≡ true) (same_text-is u t g) (same_text-refl u)) e))
+        sym (false-by (same_text u t) (λ g. true-false (same_text t u) (subst (λ v. same_text v u
+        ≡ true) (same_text-is u t g) (same_text-refl u)) e))
 
 pub append-nil : {A : Type 0} (xs : List A) → xs ++ [] ≡ xs
 append-nil [] = refl

@@ -55,7 +55,8 @@ end-shown exact t h = refl
 pub white-feed : (t : Text) → IsWhiteSpace t → has_byte line_feed t ≡ false
 white-feed [] h = refl
 white-feed (c ∷ t) h =
-    rw (no-byte is_blank line_feed (λ e. let clash : is_blank line_feed ≡ true = e in cc) c (and_left (is_blank c) _ h)) (white-feed t (and_right (is_blank c) _ h))
+    rw (no-byte is_blank line_feed (λ e. let clash : is_blank line_feed ≡ true = e in cc) c (and_left (is_blank c) _ h))
+    (white-feed t (and_right (is_blank c) _ h))
 
 pub empty-end : IsLineEnd []
 empty-end = ([], [], refl, inl refl, refl)

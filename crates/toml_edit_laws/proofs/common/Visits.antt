@@ -1,6 +1,7 @@
 -- The visits of a print: their places, their order, and which are below the root.
 use Rattle.std.proofs.Common.{false, ◌≡◌, true, refl, ◌∷◌, ◌++◌, Bool, ℤ, List, [], suc, ℕ}
-use Rattle.toml_edit_model.specs.HeaderOrder.{Visit, is_root, places_from, place_of, PlacedVisit, comes_before, slots_walk, items_walk, node_walk}
+use Rattle.toml_edit_model.specs.HeaderOrder.{Visit, is_root, places_from, place_of, PlacedVisit, comes_before, slots_walk, items_walk}
+use Rattle.toml_edit_model.specs.HeaderOrder.{node_walk}
 use Rattle.toml_edit_model.specs.Paths.{Step, same_step, Path, to_key, to_element}
 use Rattle.toml_edit_laws.proofs.common.PathLaws.{same_step-refl}
 use Rattle.toml_edit_laws.proofs.common.Tests.{and_both}
@@ -22,12 +23,15 @@ pub below-more : (p : Path) (s : Step) (r : Path) → is_below p (p ++ (s ∷ r)
 below-more [] s r = refl
 below-more (t ∷ p) s r = and_both (same_step t t) (is_below p (p ++ (s ∷ r))) (same_step-refl t) (below-more p s r)
 
-pub places-all : (P : Visit → Type 0) (seen : ℤ) (vs : List Visit) → AllByRecursion P vs → AllByRecursion (λ (v : PlacedVisit). P v.1) (places_from seen vs)
+pub places-all : (P : Visit → Type 0) (seen : ℤ) (vs : List Visit) → AllByRecursion P vs
+    → AllByRecursion (λ (v : PlacedVisit). P v.1) (places_from seen vs)
 places-all P seen [] h = tt
 places-all P seen (v ∷ vs) h = by_test v.fields.is_dotted (places-all P seen vs h.1) (places-all P (place_of seen v) vs h.1)
   where
-    by_test : (b : Bool) → AllByRecursion (λ (v : PlacedVisit). P v.1) (places_from seen vs) → AllByRecursion (λ (v : PlacedVisit). P v.1) (places_from (place_of seen v) vs)
-        → AllByRecursion (λ (v : PlacedVisit). P v.1) (if b then places_from seen vs else (place_of seen v, v) ∷ places_from (place_of seen v) vs)
+    by_test : (b : Bool) → AllByRecursion (λ (v : PlacedVisit). P v.1) (places_from seen vs)
+        → AllByRecursion (λ (v : PlacedVisit). P v.1) (places_from (place_of seen v) vs)
+        → AllByRecursion (λ (v : PlacedVisit). P v.1) (if b then places_from seen vs else (place_of seen v, v)
+        ∷ places_from (place_of seen v) vs)
     by_test true g k = g
     by_test false g k = (h.0, k)
 
@@ -50,7 +54,8 @@ before-total g h e = by_tests (is_root g.1) (is_root h.1) e
 pub before-trans : (a b c : PlacedVisit) → comes_before a b ≡ true → comes_before b c ≡ true → comes_before a c ≡ true
 before-trans a b c h g = by_roots (is_root a.1) (is_root b.1) (is_root c.1) h g
   where
-    by_roots : (x y z : Bool) → (x || (not y && int_le a.0 b.0)) ≡ true → (y || (not z && int_le b.0 c.0)) ≡ true → (x || (not z && int_le a.0 c.0)) ≡ true
+    by_roots : (x y z : Bool) → (x || (not y && int_le a.0 b.0)) ≡ true → (y || (not z && int_le b.0 c.0)) ≡ true
+        → (x || (not z && int_le a.0 c.0)) ≡ true
     by_roots true y z h g = refl
     by_roots false true z h g = absurd cc
     by_roots false false true h g = absurd cc
@@ -65,10 +70,14 @@ mutual
   node-below (inline f ss) p ks b h = tt
   node-below nothing p ks b h = tt
 
-  pub items-below : (xs : Items) (p : Path) (ks : List Key) (n : ℕ) → is_empty ks ≡ false → AllByRecursion IsBelowRoot (items_walk xs p ks n)
+  pub items-below : (xs : Items) (p : Path) (ks : List Key) (n : ℕ) → is_empty ks ≡ false
+      → AllByRecursion IsBelowRoot (items_walk xs p ks n)
   items-below no_items p ks n h = tt
-  items-below (item (table f ss) xs) p ks n h =
-      (h, all-append IsBelowRoot (slots_walk ss (to_element p n) ks) (items_walk xs p ks (suc n)) (slots-below ss (to_element p n) ks) (items-below xs p ks (suc n) h))
+  items-below (item (table f ss) xs) p ks n h = (
+    h,
+    all-append IsBelowRoot (slots_walk ss (to_element p n) ks) (items_walk xs p ks (suc n)) (slots-below ss (to_element p n) ks)
+        (items-below xs p ks (suc n) h),
+  )
   items-below (item (tables e ys) xs) p ks n h = items-below xs p ks n h
   items-below (item (leaf s r d) xs) p ks n h = items-below xs p ks n h
   items-below (item (list f ys) xs) p ks n h = items-below xs p ks n h

@@ -24,21 +24,25 @@ pub agree-first : {S : Type 0} (may : Role → Role → Bool) (earlier : List (M
     → agree may earlier (m ∷ rest) ≡ (is_none (find (clash may m) earlier) && agree may earlier rest)
 agree-first may [] m rest = refl
 agree-first may (e ∷ earlier) m rest =
-    ap (λ b. ((not (same_path e.path m.path) || may e.role m.role) && list_all (λ n. not (same_path e.path n.path) || may e.role n.role) rest) && b) (agree-first may earlier m rest)
-    ∙ by_test (same_path e.path m.path) (may e.role m.role) (list_all (λ n. not (same_path e.path n.path) || may e.role n.role) rest) (agree may earlier rest) (find (clash may m) earlier)
+    ap (λ b. ((not (same_path e.path m.path) || may e.role m.role)
+    && list_all (λ n. not (same_path e.path n.path) || may e.role n.role) rest) && b) (agree-first may earlier m rest)
+    ∙ by_test (same_path e.path m.path) (may e.role m.role) (list_all (λ n. not (same_path e.path n.path) || may e.role n.role) rest)
+    (agree may earlier rest) (find (clash may m) earlier)
   where
     by_others : (c d f : Bool) → (c && (f && d)) ≡ (f && (c && d))
     by_others true d f = refl
     by_others false d true = refl
     by_others false d false = refl
 
-    by_test : (a b c d : Bool) (o : Option (Mention _)) → (((not a || b) && c) && (is_none o && d)) ≡ (is_none (if a && not b then Some e else o) && (c && d))
+    by_test : (a b c d : Bool) (o : Option (Mention _)) → (((not a || b) && c) && (is_none o && d))
+        ≡ (is_none (if a && not b then Some e else o) && (c && d))
     by_test true true c d o = by_others c d (is_none o)
     by_test true false c d o = refl
     by_test false b c d o = by_others c d (is_none o)
 
 -- They agree exactly where none clashes.
-pub agree-clash : {S : Type 0} (may : Role → Role → Bool) (earlier later : List (Mention S)) → agree may earlier later ≡ is_none (first_clash may earlier later)
+pub agree-clash : {S : Type 0} (may : Role → Role → Bool) (earlier later : List (Mention S)) → agree may earlier later
+    ≡ is_none (first_clash may earlier later)
 agree-clash may earlier [] = agree-none may earlier
 agree-clash may earlier (m ∷ rest) =
     agree-first may earlier m rest ∙ by_find (find (clash may m) earlier) refl (agree-clash may earlier rest)
@@ -55,16 +59,19 @@ clash-none may (m ∷ rest) = clash-none may rest
 
 -- ---- one step further down
 
-find-inside : {S : Type 0} (may : Role → Role → Bool) (s : Step) (m e : Mention S) (p : Path) (others : Option (Mention S)) (under_it : List (Mention S))
+find-inside : {S : Type 0} (may : Role → Role → Bool) (s : Step) (m e : Mention S) (p : Path) (others : Option (Mention S))
+    (under_it : List (Mention S))
     → e.path ≡ p → others ≡ option_map (deeper s) (find (clash may m) under_it)
-    → (if same_path p (s ∷ m.path) && not (may e.role m.role) then Some e else others) ≡ option_map (deeper s) (find (clash may m) (inside s e p ++ under_it))
+    → (if same_path p (s ∷ m.path) && not (may e.role m.role) then Some e else others)
+    ≡ option_map (deeper s) (find (clash may m) (inside s e p ++ under_it))
 find-inside may s m e [] others under_it here h = h
 find-inside {S} may s m e (t ∷ p) others under_it here h = by_step (same_step t s) refl
   where
     by_clash : (b : Bool) → t ≡ s
         → (if b then Some e else others) ≡ option_map (deeper s) (if b then Some (record e { path = p }) else find (clash may m) under_it)
     by_clash true same =
-        let back : deeper s (record e { path = p }) ≡ e = ap (λ (q : Path). record e { path = q }) (ap (λ (u : Step). u ∷ p) (sym same) ∙ sym here) in
+        let back : deeper s (record e { path = p }) ≡ e =
+        ap (λ (q : Path). record e { path = q }) (ap (λ (u : Step). u ∷ p) (sym same) ∙ sym here) in
         ap (λ (x : Mention S). Some x) (sym back)
     by_clash false same = h
 
@@ -90,7 +97,8 @@ clash-deeper may s earlier [] = refl
 clash-deeper {S} may s earlier (m ∷ rest) =
     by_find (find (clash may m) (under s earlier)) (find-deeper may s m earlier) refl (clash-deeper may s earlier rest)
   where
-    by_find : (o : Option (Mention S)) → find (clash may (deeper s m)) earlier ≡ option_map (deeper s) (find (clash may m) (under s earlier))
+    by_find : (o : Option (Mention S)) → find (clash may (deeper s m)) earlier
+        ≡ option_map (deeper s) (find (clash may m) (under s earlier))
         → find (clash may m) (under s earlier) ≡ o
         → first_clash may earlier (all_deeper s rest) ≡ option_map (both_deeper s) (first_clash may (under s earlier) rest)
         → first_clash may earlier (all_deeper s (m ∷ rest)) ≡ option_map (both_deeper s) (first_clash may (under s earlier) (m ∷ rest))
@@ -100,12 +108,14 @@ clash-deeper {S} may s earlier (m ∷ rest) =
 -- ---- what stands at a path
 
 -- the first mention at the path clashes where its role does
-pub clash-at : {S : Type 0} (may : Role → Role → Bool) (m e : Mention S) (earlier : List (Mention S)) → first_at m.path earlier ≡ Some e → may e.role m.role ≡ false
+pub clash-at : {S : Type 0} (may : Role → Role → Bool) (m e : Mention S) (earlier : List (Mention S)) → first_at m.path earlier ≡ Some e
+    → may e.role m.role ≡ false
     → find (clash may m) earlier ≡ Some e
 clash-at may m e [] h off = h
 clash-at {S} may m e (x ∷ earlier) h off = by_path (same_path x.path m.path) h (λ g. clash-at may m e earlier g off)
   where
-    by_path : (b : Bool) → (if b then Some x else first_at m.path earlier) ≡ Some e → (first_at m.path earlier ≡ Some e → find (clash may m) earlier ≡ Some e)
+    by_path : (b : Bool) → (if b then Some x else first_at m.path earlier) ≡ Some e
+        → (first_at m.path earlier ≡ Some e → find (clash may m) earlier ≡ Some e)
         → (if b && not (may x.role m.role) then Some x else find (clash may m) earlier) ≡ Some e
     by_path true h ih =
         let same : x ≡ e = cc in
@@ -114,7 +124,8 @@ clash-at {S} may m e (x ∷ earlier) h off = by_path (same_path x.path m.path) h
     by_path false h ih = ih h
 
 -- none clashes where all roles at the path may meet it
-pub clash-free : {S : Type 0} (may : Role → Role → Bool) (m : Mention S) (earlier : List (Mention S)) → some_at (λ r. not (may r m.role)) m.path earlier ≡ false
+pub clash-free : {S : Type 0} (may : Role → Role → Bool) (m : Mention S) (earlier : List (Mention S))
+    → some_at (λ r. not (may r m.role)) m.path earlier ≡ false
     → find (clash may m) earlier ≡ None
 clash-free may m [] h = refl
 clash-free may m (x ∷ earlier) h =
@@ -127,11 +138,13 @@ clash-free may m (x ∷ earlier) h =
     by_clash false h ih = ih h
 
 -- a role that some mention at the path has
-pub role-at : {S : Type 0} (test : Role → Bool) (p : Path) (ms : List (Mention S)) (m : Mention S) → first_at p ms ≡ Some m → test m.role ≡ true → some_at test p ms ≡ true
+pub role-at : {S : Type 0} (test : Role → Bool) (p : Path) (ms : List (Mention S)) (m : Mention S) → first_at p ms ≡ Some m → test m.role
+    ≡ true → some_at test p ms ≡ true
 role-at test p [] m h e = absurd cc
 role-at {S} test p (x ∷ ms) m h e = by_path (same_path x.path p) h (λ g. role-at test p ms m g e)
   where
-    by_path : (b : Bool) → (if b then Some x else first_at p ms) ≡ Some m → (first_at p ms ≡ Some m → some_at test p ms ≡ true) → ((b && test x.role) || some_at test p ms) ≡ true
+    by_path : (b : Bool) → (if b then Some x else first_at p ms) ≡ Some m → (first_at p ms ≡ Some m → some_at test p ms ≡ true)
+        → ((b && test x.role) || some_at test p ms) ≡ true
     by_path true h ih =
         let same : x ≡ m = cc in
         ap (λ (y : Mention S). test y.role || some_at test p ms) same ∙ ap (λ b. b || some_at test p ms) e
@@ -139,19 +152,23 @@ role-at {S} test p (x ∷ ms) m h e = by_path (same_path x.path p) h (λ g. role
 
 -- a role that may not meet it isn't at its path
 apart : {S : Type 0} (may : Role → Role → Bool) (second : Role → Bool) (x : Mention S) (later : List (Mention S))
-    → ((q : Role) → second q ≡ true → may x.role q ≡ false) → list_all (λ n. not (same_path x.path n.path) || may x.role n.role) later ≡ true
+    → ((q : Role) → second q ≡ true → may x.role q ≡ false) → list_all (λ n. not (same_path x.path n.path) || may x.role n.role) later
+    ≡ true
     → some_at second x.path later ≡ false
 apart may second x [] off h = refl
 apart {S} may second x (n ∷ later) off h =
     by_role (same_path n.path x.path && second n.role) refl
-    (apart may second x later off (and_right (not (same_path x.path n.path) || may x.role n.role) (list_all (λ n. not (same_path x.path n.path) || may x.role n.role) later) h))
+    (apart may second x later off (and_right (not (same_path x.path n.path)
+    || may x.role n.role) (list_all (λ n. not (same_path x.path n.path) || may x.role n.role) later) h))
   where
-    by_role : (b : Bool) → (same_path n.path x.path && second n.role) ≡ b → some_at second x.path later ≡ false → (b || some_at second x.path later) ≡ false
+    by_role : (b : Bool) → (same_path n.path x.path && second n.role) ≡ b → some_at second x.path later ≡ false
+        → (b || some_at second x.path later) ≡ false
     by_role true g ih =
         let same : n.path ≡ x.path = same_path-is n.path x.path (and_left (same_path n.path x.path) (second n.role) g) in
         let meet : (not (same_path x.path x.path) || may x.role n.role) ≡ true =
         ap (λ p. not (same_path x.path p) || may x.role n.role) (sym same)
-        ∙ and_left (not (same_path x.path n.path) || may x.role n.role) (list_all (λ n. not (same_path x.path n.path) || may x.role n.role) later) h in
+        ∙ and_left (not (same_path x.path n.path) || may x.role n.role) (list_all (λ n. not (same_path x.path n.path)
+        || may x.role n.role) later) h in
         let met : may x.role n.role ≡ true = ap (λ b. not b || may x.role n.role) (sym (same_path-refl x.path)) ∙ meet in
         true-false (may x.role n.role) met (off n.role (and_right (same_path n.path x.path) (second n.role) g))
     by_role false g ih = ih
@@ -163,9 +180,11 @@ pub agree-apart : {S : Type 0} (may : Role → Role → Bool) (first second : Ro
 agree-apart may first second p [] later off h e = absurd cc
 agree-apart {S} may first second p (x ∷ earlier) later off h e =
     by_first (same_path x.path p && first x.role) refl e
-    (agree-apart may first second p earlier later off (and_right (list_all (λ n. not (same_path x.path n.path) || may x.role n.role) later) (agree may earlier later) h))
+    (agree-apart may first second p earlier later off (and_right (list_all (λ n. not (same_path x.path n.path) || may x.role n.role) later)
+    (agree may earlier later) h))
   where
-    by_first : (b : Bool) → (same_path x.path p && first x.role) ≡ b → (b || some_at first p earlier) ≡ true → (some_at first p earlier ≡ true → some_at second p later ≡ false)
+    by_first : (b : Bool) → (same_path x.path p && first x.role) ≡ b → (b || some_at first p earlier) ≡ true
+        → (some_at first p earlier ≡ true → some_at second p later ≡ false)
         → some_at second p later ≡ false
     by_first true g e ih =
         subst (λ q. some_at second q later ≡ false) (same_path-is x.path p (and_left (same_path x.path p) (first x.role) g))

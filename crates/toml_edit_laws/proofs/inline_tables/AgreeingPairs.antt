@@ -9,10 +9,12 @@ use Rattle.toml_edit_model.specs.Paths.{Step, at_key, Path, same_step, same_path
 use Rattle.toml_edit_model.specs.Accepted.{agree}
 use Rattle.toml_edit_laws.proofs.common.Tests.{true-false}
 use Rattle.toml_edit_laws.proofs.mentions.GatherLaws.{all_deeper, own-first}
-use Rattle.toml_edit_laws.proofs.inline_tables.PairMentions.{AreOfPairs, of_none, of_both, of_under, of_line, own-line, lines-deeper, some_at-deeper}
+use Rattle.toml_edit_laws.proofs.inline_tables.PairMentions.{AreOfPairs, of_none, of_both, of_under, of_line, own-line, lines-deeper}
+use Rattle.toml_edit_laws.proofs.inline_tables.PairMentions.{some_at-deeper}
 use Rattle.toml_edit_laws.proofs.inline_tables.AgreeLaws.{agree-apart}
 use Rattle.toml_edit_laws.proofs.mentions.SomeAt.{some_at-append, some_at-under}
-use Rattle.toml_edit_model.specs.Roles.{Role, dotted_role, implied_role, header_role, array_role, value_role, continued_role, may_meet_inline, is_value_role, is_dotted_role}
+use Rattle.toml_edit_model.specs.Roles.{Role, dotted_role, implied_role, header_role, array_role, value_role, continued_role}
+use Rattle.toml_edit_model.specs.Roles.{may_meet_inline, is_value_role, is_dotted_role}
 use Rattle.toml_edit_model.specs.TableMentions.{under, own, some_at}
 
 abbrev pub is_other_role : Role → Bool
@@ -57,11 +59,13 @@ some_at-none test s (m ∷ ms) = some_at-none test s ms
 
 unmixed-below : {S : Type 0} (source : S) (start : ℕ) (g : Segment) (ms : List (Mention S)) → own ms ≡ [] → AreUnmixed ms
     → AreUnmixed (mention_of source start (to_key [] g.key) dotted_role g ∷ all_deeper (at_key g.key) ms)
-unmixed-below source start g ms h u [] e = true-false (some_at is_value_role [] (all_deeper (at_key g.key) ms)) e (some_at-none is_value_role (at_key g.key) ms)
+unmixed-below source start g ms h u [] e =
+    true-false (some_at is_value_role [] (all_deeper (at_key g.key) ms)) e (some_at-none is_value_role (at_key g.key) ms)
 unmixed-below source start g ms h u (t ∷ p) e =
     ap (λ b. ((same_step (at_key g.key) t && same_path [] p) && true) || b) (some_at-deeper is_dotted_role (at_key g.key) t p ms)
     ∙ by_step (same_step (at_key g.key) t)
-    (ap (λ b. ((same_step (at_key g.key) t && same_path [] p) && false) || b) (sym (some_at-deeper is_value_role (at_key g.key) t p ms)) ∙ e)
+    (ap (λ b. ((same_step (at_key g.key) t && same_path [] p) && false) || b) (sym (some_at-deeper is_value_role (at_key g.key) t p ms))
+    ∙ e)
   where
     by_path : (p : Path) → some_at is_value_role p ms ≡ true → ((same_path [] p && true) || some_at is_dotted_role p ms) ≡ false
     by_path [] e = true-false (some_at is_value_role [] ms) e (own-unmentioned is_value_role ms h)
@@ -78,22 +82,32 @@ unmixed-below source start g ms h u (t ∷ p) e =
 
 unmixed-line : {S : Type 0} (source : S) (start : ℕ) (segments : List Segment) → AreUnmixed (line_mentions source start [] segments)
 unmixed-line source start [] = λ p h. refl
-unmixed-line source start (g ∷ []) = λ p h. or_from (same_path (to_key [] g.key) p && false) false (and-false (same_path (to_key [] g.key) p)) refl
+unmixed-line source start (g ∷ []) =
+    λ p h. or_from (same_path (to_key [] g.key) p && false) false (and-false (same_path (to_key [] g.key) p)) refl
 unmixed-line source start (g ∷ h ∷ rest) =
-    subst (λ ms. AreUnmixed (mention_of source start (to_key [] g.key) dotted_role g ∷ ms)) (sym (lines-deeper source (next_start start g) (at_key g.key) [] (h ∷ rest)))
-    (unmixed-below source start g (line_mentions source (next_start start g) [] (h ∷ rest)) (own-line source (next_start start g) (h ∷ rest))
+    subst (λ ms. AreUnmixed (mention_of source start (to_key [] g.key) dotted_role g ∷ ms))
+    (sym (lines-deeper source (next_start start g) (at_key g.key) [] (h ∷ rest)))
+    (unmixed-below source start g (line_mentions source (next_start start g) [] (h ∷ rest)) (own-line source (next_start start g) (h
+    ∷ rest))
     (unmixed-line source (next_start start g) (h ∷ rest)))
 
-plain-line : {S : Type 0} (source : S) (start : ℕ) (p : Path) (segments : List Segment) (q : Path) → some_at is_other_role q (line_mentions source start p segments) ≡ false
+plain-line : {S : Type 0} (source : S) (start : ℕ) (p : Path) (segments : List Segment) (q : Path)
+    → some_at is_other_role q (line_mentions source start p segments) ≡ false
 plain-line source start p [] q = refl
 plain-line source start p (g ∷ []) q = or_from (same_path (to_key p g.key) q && false) false (and-false (same_path (to_key p g.key) q)) refl
 plain-line source start p (g ∷ h ∷ rest) q =
-    or_from (same_path (to_key p g.key) q && false) (some_at is_other_role q (line_mentions source (next_start start g) (to_key p g.key) (h ∷ rest)))
+    or_from (same_path (to_key p g.key) q && false) (some_at is_other_role q (line_mentions source (next_start start g) (to_key p g.key) (h
+    ∷ rest)))
     (and-false (same_path (to_key p g.key) q)) (plain-line source (next_start start g) (to_key p g.key) (h ∷ rest) q)
 
 pub agreeing-line : {S : Type 0} (source : S) (start : ℕ) (segments : List Segment) → AreAgreeing (line_mentions source start [] segments)
 agreeing-line source start segments =
-    record { pairs = of_line source start segments; unmixed = unmixed-line source start segments; plain = plain-line source start [] segments }
+    record {
+      pairs = of_line source start segments;
+      unmixed = unmixed-line source start segments;
+      plain =
+          plain-line source start [] segments;
+    }
 
 -- ---- pairs after pairs
 
@@ -119,15 +133,19 @@ dotted-apart array_role q h g = refl
 dotted-apart continued_role q h g = refl
 
 -- Pairs that agree with agreeing ones before them do all agree.
-pub agreeing-both : {S : Type 0} (xs ys : List (Mention S)) → AreAgreeing xs → AreAgreeing ys → agree may_meet_inline xs ys ≡ true → AreAgreeing (xs ++ ys)
+pub agreeing-both : {S : Type 0} (xs ys : List (Mention S)) → AreAgreeing xs → AreAgreeing ys → agree may_meet_inline xs ys ≡ true
+    → AreAgreeing (xs ++ ys)
 agreeing-both xs ys g h e =
     record {
       pairs = of_both xs ys g.pairs h.pairs;
-      unmixed = λ p v. some_at-append is_dotted_role p xs ys ∙ apart p (some_at is_value_role p xs) refl (some_at is_dotted_role p xs) refl (sym (some_at-append is_value_role p xs ys) ∙ v);
-      plain = λ p. some_at-append is_other_role p xs ys ∙ or_from (some_at is_other_role p xs) (some_at is_other_role p ys) (g.plain p) (h.plain p);
+      unmixed = λ p v. some_at-append is_dotted_role p xs ys
+          ∙ apart p (some_at is_value_role p xs) refl (some_at is_dotted_role p xs) refl (sym (some_at-append is_value_role p xs ys) ∙ v);
+      plain = λ p. some_at-append is_other_role p xs ys ∙ or_from (some_at is_other_role p xs) (some_at is_other_role p ys) (g.plain p)
+          (h.plain p);
     }
   where
-    apart : (p : Path) (v : Bool) → some_at is_value_role p xs ≡ v → (d : Bool) → some_at is_dotted_role p xs ≡ d → (v || some_at is_value_role p ys) ≡ true
+    apart : (p : Path) (v : Bool) → some_at is_value_role p xs ≡ v → (d : Bool) → some_at is_dotted_role p xs ≡ d
+        → (v || some_at is_value_role p ys) ≡ true
         → (some_at is_dotted_role p xs || some_at is_dotted_role p ys) ≡ false
     apart p true a d b v =
         or_from (some_at is_dotted_role p xs) (some_at is_dotted_role p ys) (g.unmixed p a)

@@ -7,9 +7,11 @@ use Rattle.toml_edit_model.specs.Accepted.{agree, all_agree}
 use Rattle.toml_edit_model.specs.TreeOf.{Form, Entry, entry_of, entries}
 use Rattle.toml_edit_laws.proofs.common.Tests.{and_left, and_right}
 use Rattle.toml_edit_laws.proofs.common.Members.{Among, among-left, among-right, among-cases}
-use Rattle.toml_edit_laws.proofs.mentions.KeyMentions.{below, line-role, line-named, line-closed, line-alone, line-shows, line-source, twin, agree-may}
+use Rattle.toml_edit_laws.proofs.mentions.KeyMentions.{below, line-role, line-named, line-closed, line-alone, line-shows, line-source, twin}
+use Rattle.toml_edit_laws.proofs.mentions.KeyMentions.{agree-may}
 use Rattle.toml_edit_laws.proofs.mentions.KeptMentions.{moved, Lifted, under-has, under-is, HaveNoHeaders}
-use Rattle.toml_edit_model.specs.Roles.{Role, dotted_role, implied_role, header_role, array_role, value_role, continued_role, may_meet_inline, is_header_role}
+use Rattle.toml_edit_model.specs.Roles.{Role, dotted_role, implied_role, header_role, array_role, value_role, continued_role}
+use Rattle.toml_edit_model.specs.Roles.{may_meet_inline, is_header_role}
 use Rattle.toml_edit_model.specs.TableMentions.{under}
 
 -- The mentions at and below a key: of dotted keys and of values, each named by the last key of its path, together with each key on
@@ -17,7 +19,8 @@ use Rattle.toml_edit_model.specs.TableMentions.{under}
 pub record AgreeingMentions {S : Type 0} (ms : List (Mention S)) : Type 0 where
   pub roles : (m : Mention S) → Among m ms → (m.role ≡ dotted_role) ⊎ (m.role ≡ value_role)
   pub named : (m : Mention S) → Among m ms → (q : Path) (s : Step) → m.path ≡ q ++ (s ∷ []) → s ≡ at_key m.segment.key
-  pub closed : (m : Mention S) → Among m ms → (s : Step) (q r : Path) → m.path ≡ s ∷ (q ++ r) → (n : Mention S) × Among n ms × (n.path ≡ s ∷ q)
+  pub closed : (m : Mention S) → Among m ms → (s : Step) (q r : Path) → m.path ≡ s ∷ (q ++ r) → (n : Mention S) × Among n ms
+      × (n.path ≡ s ∷ q)
   pub alone : (m n : Mention S) → Among m ms → Among n ms → m.role ≡ value_role → (r : Path) → n.path ≡ m.path ++ r → n ≡ m
   pub shows : (m : Mention S) → Among m ms → m.role ≡ dotted_role
       → (n : Mention S) × (s : Step) × (r : Path) × Among n ms × (n.path ≡ m.path ++ (s ∷ r))
@@ -55,11 +58,13 @@ module _ {S : Type 0} (s : Step) (ms : List (Mention S)) (h : AgreeingMentions m
   tails : (p q : Path) → s ∷ p ≡ s ∷ q → p ≡ q
   tails p q e = cc
 
-  alone-under : (m n : Mention S) → Among m (under s ms) → Among n (under s ms) → m.role ≡ value_role → (r : Path) → n.path ≡ m.path ++ r → n ≡ m
+  alone-under : (m n : Mention S) → Among m (under s ms) → Among n (under s ms) → m.role ≡ value_role → (r : Path) → n.path ≡ m.path ++ r
+      → n ≡ m
   alone-under m n a b v r e =
       let up = under-is s m ms a in
       let above = under-is s n ms b in
-      let one = h.alone up.mention above.mention up.among above.among (same-role m up ∙ v) r (above.path ∙ ap (λ p. s ∷ p) e ∙ ap (λ p. p ++ r) (sym up.path)) in
+      let one = h.alone up.mention above.mention up.among above.among (same-role m up ∙ v) r (above.path ∙ ap (λ p. s ∷ p) e
+      ∙ ap (λ p. p ++ r) (sym up.path)) in
       let path = tails n.path m.path (sym above.path ∙ ap (λ k. k.path) one ∙ up.path) in
       above.same ∙ ap (λ k. moved k n.path) one ∙ ap (moved up.mention) path ∙ sym up.same
 
@@ -68,8 +73,13 @@ module _ {S : Type 0} (s : Step) (ms : List (Mention S)) (h : AgreeingMentions m
   shows-under m a d =
       let up = under-is s m ms a in
       let found = h.shows up.mention up.among (same-role m up ∙ d) in
-      let path = found.4 ∙ ap (λ p. p ++ (found.1 ∷ found.2)) up.path in
-      (moved found.0 (m.path ++ (found.1 ∷ found.2)), found.1, found.2, under-has s (m.path ++ (found.1 ∷ found.2)) found.0 ms found.3 path, refl)
+      let path = found.4 ∙ ap (λ p. p ++ (found.1 ∷ found.2)) up.path in (
+        moved found.0 (m.path ++ (found.1 ∷ found.2)),
+        found.1,
+        found.2,
+        under-has s (m.path ++ (found.1 ∷ found.2)) found.0 ms found.3 path,
+        refl,
+      )
 
   pub under-agrees : AgreeingMentions (under s ms)
   under-agrees =
@@ -133,10 +143,12 @@ module _ (form : Form) where
   cross may earlier start number (pair f v ps) i h m n a b e =
       elim (among-cases n (own_mentions i f v) (entries form ps (after_pair i f v)) b) [
         | inl g ↦
-            let t = twin (entry_of form i f v) (record { frame = f; value = v }) (i + length f.leading) (start + length f.leading) [] f.path n g in
+            let t = twin (entry_of form i f v) (record { frame = f; value = v }) (i + length f.leading) (start
+            + length f.leading) [] f.path n g in
             subst (λ r. may m.role r ≡ true) t.3 (agree-may may earlier _ m t.0 (and_left _ _ h) a t.1 (e ∙ sym t.2))
         | inr g ↦
-            cross may earlier (start + length (frame_text f (value_text v)) + 1) (suc number) ps (after_pair i f v) (and_right _ _ h) m n a g e
+            cross may earlier (start + length (frame_text f (value_text v))
+            + 1) (suc number) ps (after_pair i f v) (and_right _ _ h) m n a g e
       ]
 
   entry-roles : (ps : Pairs) (i : ℕ) (m : Mention Entry) → Among m (entries form ps i) → (m.role ≡ dotted_role) ⊎ (m.role ≡ value_role)
@@ -204,11 +216,13 @@ module _ (form : Form) where
             elim (among-cases n (own_mentions i f w) (rest_of f w ps i) b) [
               | inl y ↦
                   let at = entry-below ps (after_pair i f w) m x in
-                  let met = line-closed (entry_of form i f w) (i + length f.leading) [] f.path n y at.0 at.1 r (e ∙ ap (λ p. p ++ r) at.2) in
+                  let met = line-closed (entry_of form i f w) (i + length f.leading) [] f.path n y at.0 at.1 r (e
+                  ∙ ap (λ p. p ++ r) at.2) in
                   let t = twin (entry_of form i f w) own_source (i + length f.leading) (start + length f.leading) [] f.path met.0 met.1 in
                   absurd (no-value-last t.0.role (subst (λ k. may_meet_inline t.0.role k ≡ true) v
                   (cross may_meet_inline _ _ 0 ps (after_pair i f w) (and_left _ _ h) t.0 m t.1 x (t.2 ∙ met.2 ∙ sym at.2))))
-              | inr y ↦ entry-alone (start + length (frame_text f (value_text w)) + 1) (suc number) ps (after_pair i f w) (and_right _ _ h) m n x y v r e
+              | inr y ↦ entry-alone (start + length (frame_text f (value_text w))
+                  + 1) (suc number) ps (after_pair i f w) (and_right _ _ h) m n x y v r e
             ]
       ]
     where

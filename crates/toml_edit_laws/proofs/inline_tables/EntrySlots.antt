@@ -19,7 +19,8 @@ module _ (form : Form) where
   IsEntryNode ms m n = AreEntrySlots form ms (m ∷ []) (slot (key_of form m.source.leaf m) n no_slots)
 
   -- the item only needs what is mentioned under its key
-  pub node-same : (ms others : List (Mention Entry)) (m : Mention Entry) (n : Node) → under (at_key m.segment.key) ms ≡ under (at_key m.segment.key) others
+  pub node-same : (ms others : List (Mention Entry)) (m : Mention Entry) (n : Node) → under (at_key m.segment.key) ms
+      ≡ under (at_key m.segment.key) others
       → IsEntryNode ms m n → IsEntryNode others m n
   node-same ms others m nothing e h = (refl, h.1, tt)
   node-same ms others m (leaf s r d) e h = (refl, h.1, tt)
@@ -54,7 +55,8 @@ module _ (form : Form) where
   slots-kept ms others (m ∷ ks) (slot l n ss) e h =
       (h.0, (node-same ms others m n (e m.segment.key) (refl, h.1, tt)).1, slots-kept ms others ks ss e h.2)
 
-  pub slots-add : (ms ks : List (Mention Entry)) (m : Mention Entry) (n : Node) (ss : Slots) → AreEntrySlots form ms ks ss → IsEntryNode ms m n
+  pub slots-add : (ms ks : List (Mention Entry)) (m : Mention Entry) (n : Node) (ss : Slots) → AreEntrySlots form ms ks ss
+      → IsEntryNode ms m n
       → AreEntrySlots form ms (ks ++ (m ∷ [])) (with_slot ss (key_of form m.source.leaf m) n)
   slots-add ms [] m n no_slots h i = i
   slots-add ms [] m n (slot l o ss) h i = absurd h
@@ -67,7 +69,8 @@ module _ (form : Form) where
   IsFound ms (Some m) (Some n) = IsEntryNode ms m n
   IsFound ms _ _ = ⊥
 
-  pub slots-find : (ms ks : List (Mention Entry)) (k : Text) (ss : Slots) → AreEntrySlots form ms ks ss → IsFound ms (first_of_key k ks) (node_at k ss)
+  pub slots-find : (ms ks : List (Mention Entry)) (k : Text) (ss : Slots) → AreEntrySlots form ms ks ss
+      → IsFound ms (first_of_key k ks) (node_at k ss)
   slots-find ms [] k no_slots h = tt
   slots-find ms [] k (slot l n ss) h = absurd h
   slots-find ms (m ∷ ks) k no_slots h = absurd h
@@ -89,7 +92,8 @@ module _ (form : Form) where
   slots-change ms others [] k m n (slot l o ss) e d f i h = absurd h
   slots-change ms others (j ∷ ks) k m n no_slots e d f i h = absurd h
   slots-change ms others (j ∷ ks) k m n (slot l o ss) e d f i h =
-      subst (λ (x : Key). AreEntrySlots form others (j ∷ ks) (if same_text k x.name then slot l n ss else slot l o (with_node k n ss))) (sym h.0)
+      subst (λ (x : Key). AreEntrySlots form others (j ∷ ks) (if same_text k x.name then slot l n ss else slot l o (with_node k n ss)))
+      (sym h.0)
       (by_test (same_text k j.segment.key) refl f (λ g. slots-change ms others ks k m n ss e d.1 g i h.2))
     where
       by_test : (b : Bool) → same_text k j.segment.key ≡ b → (if b then Some j else first_of_key k ks) ≡ Some m
@@ -111,27 +115,32 @@ module _ (form : Form) where
       (ends_path m.role ≡ false) × (f ≡ path_fields (key_extent form m))
       × AreEntrySlots form (under (at_key m.segment.key) ms) (kept (under (at_key m.segment.key) ms)) ss
 
-  pub not-value : (v : Value) (i : ℕ) (before after : Text) (f : InlineFields) (ss : Slots) → f.is_dotted ≡ true → IsValueNode form v i before after (inline f ss) → ⊥
+  pub not-value : (v : Value) (i : ℕ) (before after : Text) (f : InlineFields) (ss : Slots) → f.is_dotted ≡ true
+      → IsValueNode form v i before after (inline f ss) → ⊥
   not-value (scalar s t) i before after f ss d h = h
   not-value (array es comma t) i before after f ss d h = h
   not-value (inline_table ps comma t) i before after f ss d h = let e = ap (λ (x : InlineFields). x.is_dotted) h.0 in absurd cc
 
   -- an inline table that says that it is dotted is no value, so it is made by a path
-  pub node-dotted : (ms : List (Mention Entry)) (m : Mention Entry) (f : InlineFields) (ss : Slots) → f.is_dotted ≡ true → IsEntryNode ms m (inline f ss)
+  pub node-dotted : (ms : List (Mention Entry)) (m : Mention Entry) (f : InlineFields) (ss : Slots) → f.is_dotted ≡ true
+      → IsEntryNode ms m (inline f ss)
       → IsDottedTable ms m f ss
   node-dotted ms m f ss d h = by_end (ends_path m.role) h.1
     where
       by_end : (b : Bool) → MatchBool b (IsValueNode form m.source.value m.source.start m.source.before m.source.after (inline f ss))
-          ((f ≡ path_fields (key_extent form m)) × AreEntrySlots form (under (at_key m.segment.key) ms) (kept (under (at_key m.segment.key) ms)) ss)
+          ((f ≡ path_fields (key_extent form m)) × AreEntrySlots form (under (at_key m.segment.key) ms)
+          (kept (under (at_key m.segment.key) ms)) ss)
           → (b ≡ false) × (f ≡ path_fields (key_extent form m))
           × AreEntrySlots form (under (at_key m.segment.key) ms) (kept (under (at_key m.segment.key) ms)) ss
       by_end true h = absurd (not-value m.source.value m.source.start m.source.before m.source.after f ss d h)
       by_end false h = (refl, h.0, h.1)
 
-  pub dotted-node : (ms : List (Mention Entry)) (m : Mention Entry) (f : InlineFields) (ss : Slots) → IsDottedTable ms m f ss → IsEntryNode ms m (inline f ss)
+  pub dotted-node : (ms : List (Mention Entry)) (m : Mention Entry) (f : InlineFields) (ss : Slots) → IsDottedTable ms m f ss
+      → IsEntryNode ms m (inline f ss)
   dotted-node ms m f ss h = (
     refl,
     subst (λ b. MatchBool b (IsValueNode form m.source.value m.source.start m.source.before m.source.after (inline f ss))
-        ((f ≡ path_fields (key_extent form m)) × AreEntrySlots form (under (at_key m.segment.key) ms) (kept (under (at_key m.segment.key) ms)) ss)) (sym h.0) (h.1, h.2),
+        ((f ≡ path_fields (key_extent form m)) × AreEntrySlots form (under (at_key m.segment.key) ms)
+        (kept (under (at_key m.segment.key) ms)) ss)) (sym h.0) (h.1, h.2),
     tt,
   )

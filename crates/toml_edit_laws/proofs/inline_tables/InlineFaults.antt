@@ -1,5 +1,6 @@
 -- The first fault among the pairs of an inline table is where one can't be added to the slots of those before it.
-use Rattle.std.proofs.Common.{◌≡◌, refl, sym, ◌∙◌, ap, subst, ℕ, suc, ◌+◌, Bool, true, false, List, [], ◌∷◌, ◌++◌, append_assoc, length, Option, Some, None}
+use Rattle.std.proofs.Common.{◌≡◌, refl, sym, ◌∙◌, ap, subst, ℕ, suc, ◌+◌, Bool, true, false, List, [], ◌∷◌, ◌++◌, append_assoc, length}
+use Rattle.std.proofs.Common.{Option, Some, None}
 use Rattle.std.specs.Prelude.{◌&&◌, MatchBool, if◌then◌else◌, map, is_some, option_map}
 use Rattle.std.specs.List.{list_all}
 use Rattle.std.proofs.lemmas.List.{map-append}
@@ -7,10 +8,12 @@ use Rattle.toml_edit_model.specs.Text.{Text}
 use Rattle.toml_edit_model.specs.Syntax.{Frame, Value, scalar, array, inline_table, Pairs, no_pairs, pair}
 use Rattle.toml_edit_model.specs.Paths.{Mention, PairSource, line_mentions, pair_mentions}
 use Rattle.toml_edit_model.specs.Accepted.{agree, all_agree}
-use Rattle.toml_edit_model.specs.Faults.{Fault, fault, first_clash, type_name, scalar_type, duplicate_key, cannot_extend, is_inline, clash_message, pair_clash, pair_clashes}
+use Rattle.toml_edit_model.specs.Faults.{Fault, fault, first_clash, type_name, scalar_type, duplicate_key, cannot_extend, is_inline}
+use Rattle.toml_edit_model.specs.Faults.{clash_message, pair_clash, pair_clashes}
 use Rattle.toml_edit_model.specs.Tree.{Node, leaf, list, inline, Items, no_items, item, Slots, no_slots}
 use Rattle.toml_edit_model.specs.TreeOf.{Form, Entry, entry_of, entries, IsValueNode, AreEntrySlots}
-use Rattle.toml_edit_laws.specs.InlineTree.{add_entry, entry_clash, pair_path, next_pair, followed_by, end_of_pairs, AreKeyed, ArePairNodes, clash_or_later, entries_clash, way_message, way_fault, BeginWith}
+use Rattle.toml_edit_laws.specs.InlineTree.{add_entry, entry_clash, pair_path, next_pair, followed_by, end_of_pairs, AreKeyed, ArePairNodes}
+use Rattle.toml_edit_laws.specs.InlineTree.{clash_or_later, entries_clash, way_message, way_fault, BeginWith}
 use Rattle.toml_edit_laws.proofs.common.Tests.{append-nil, and_left, and_right, and_both, true-false}
 use Rattle.toml_edit_laws.proofs.inline_tables.AgreeLaws.{agree-clash, all_agree-next}
 use Rattle.toml_edit_laws.proofs.inline_tables.AgreeingPairs.{AreAgreeing, agreeing-none, agreeing-line, agreeing-both}
@@ -27,7 +30,8 @@ use Rattle.toml_edit_model.specs.TableMentions.{kept}
 abbrev value_clash : Option (Mention Value × Mention Value) → List Fault
 value_clash None = []
 value_clash (Some c) =
-    fault (if is_inline c.1.source then duplicate_key else clash_message c.1.role c.0.role (type_name c.1.source)) c.0.start (length c.0.segment.spelled) ∷ []
+    fault (if is_inline c.1.source then duplicate_key else clash_message c.1.role c.0.role (type_name c.1.source)) c.0.start
+    (length c.0.segment.spelled) ∷ []
 
 abbrev value_clashes : List (Mention Value) → List (List (Mention Value)) → List Fault
 value_clashes earlier [] = []
@@ -43,7 +47,8 @@ value_of_pair s = s.value
 abbrev value_of_entry : Entry → Value
 value_of_entry e = e.value
 
-clash-of-values : (o : Option (Mention PairSource × Mention PairSource)) → pair_clash o ≡ value_clash (option_map (both_sourced value_of_pair) o)
+clash-of-values : (o : Option (Mention PairSource × Mention PairSource)) → pair_clash o
+    ≡ value_clash (option_map (both_sourced value_of_pair) o)
 clash-of-values None = refl
 clash-of-values (Some c) = refl
 
@@ -57,7 +62,8 @@ clashes-of-values earlier start number (pair f v ps) =
     let here : map (sourced value_of_pair) m ≡ values = line-sourced value_of_pair source (start + length f.leading) [] f.path in
     ap (λ fs. fs ++ pair_clashes (earlier ++ m) (pair_mentions (next_pair start f v) ps))
     (clash-of-values (first_clash may_meet_inline earlier m)
-    ∙ ap value_clash (sym (clash-sourced value_of_pair may_meet_inline earlier m) ∙ ap (first_clash may_meet_inline (map (sourced value_of_pair) earlier)) here))
+    ∙ ap value_clash (sym (clash-sourced value_of_pair may_meet_inline earlier m)
+    ∙ ap (first_clash may_meet_inline (map (sourced value_of_pair) earlier)) here))
     ∙ ap (λ fs. value_clash (first_clash may_meet_inline (map (sourced value_of_pair) earlier) values) ++ fs)
     (clashes-of-values (earlier ++ m) (next_pair start f v) (suc number) ps
     ∙ ap (λ es. value_clashes es (value_paths (next_pair start f v) ps))
@@ -67,7 +73,8 @@ clashes-of-values earlier start number (pair f v ps) =
 
 -- what to say where the earlier role is a value's, or isn't
 abbrev said : Bool → Role → Value → Text
-said is_value later v = if is_inline v then duplicate_key else if is_value && extends later then cannot_extend (type_name v) else duplicate_key
+said is_value later v = if is_inline v then duplicate_key else if is_value && extends later then cannot_extend (type_name v)
+    else duplicate_key
 
 said-other : (later : Role) (v : Value) → duplicate_key ≡ said false later v
 said-other later v = by_inline (is_inline v)
@@ -77,8 +84,10 @@ said-other later v = by_inline (is_inline v)
     by_inline false = refl
 
 module _ (form : Form) where
-  said-value : (later : Role) (v : Value) (i : ℕ) (before after : Text) (n : Node) → IsValueNode form v i before after n → way_message later n ≡ said true later v
-  said-value later (scalar s t) i before after (leaf r spelling d) h = ap (λ x. if extends later then cannot_extend (scalar_type x) else duplicate_key) h.0
+  said-value : (later : Role) (v : Value) (i : ℕ) (before after : Text) (n : Node) → IsValueNode form v i before after n
+      → way_message later n ≡ said true later v
+  said-value later (scalar s t) i before after (leaf r spelling d) h =
+      ap (λ x. if extends later then cannot_extend (scalar_type x) else duplicate_key) h.0
   said-value later (scalar s t) i before after n h = absurd h
   said-value later (array es comma t) i before after (list f xs) h = refl
   said-value later (array es comma t) i before after n h = absurd h
@@ -89,20 +98,25 @@ module _ (form : Form) where
   said-dotted later (inline f ss) h = refl
   said-dotted later n h = absurd h
 
-  said-way : (later : Role) (e : Mention Entry) (n : Node) → IsInTheWay form e n → way_message later n ≡ said (is_value_role e.role) later e.source.value
+  said-way : (later : Role) (e : Mention Entry) (n : Node) → IsInTheWay form e n → way_message later n
+      ≡ said (is_value_role e.role) later e.source.value
   said-way later e n h = by_value (is_value_role e.role) h
     where
-      by_value : (b : Bool) → MatchBool b (IsValueNode form e.source.value e.source.start e.source.before e.source.after n) (IsDotted form n) → way_message later n ≡ said b later e.source.value
+      by_value : (b : Bool) → MatchBool b (IsValueNode form e.source.value e.source.start e.source.before e.source.after n)
+          (IsDotted form n) → way_message later n ≡ said b later e.source.value
       by_value true h = said-value later e.source.value e.source.start e.source.before e.source.after n h
       by_value false h = said-dotted later n h ∙ said-other later e.source.value
 
-  path-values : (f : Frame) (v : Value) (start : ℕ) → map (sourced value_of_entry) (pair_path form start f v) ≡ line_mentions v (start + length f.leading) [] f.path
+  path-values : (f : Frame) (v : Value) (start : ℕ) → map (sourced value_of_entry) (pair_path form start f v)
+      ≡ line_mentions v (start + length f.leading) [] f.path
   path-values f v start = line-sourced value_of_entry (entry_of form start f v) (start + length f.leading) [] f.path
 
   values-after : (f : Frame) (v : Value) (start : ℕ) (ms : List (Mention Entry))
-      → map (sourced value_of_entry) (ms ++ pair_path form start f v) ≡ map (sourced value_of_entry) ms ++ line_mentions v (start + length f.leading) [] f.path
+      → map (sourced value_of_entry) (ms ++ pair_path form start f v) ≡ map (sourced value_of_entry) ms
+      ++ line_mentions v (start + length f.leading) [] f.path
   values-after f v start ms =
-      map-append (sourced value_of_entry) ms (pair_path form start f v) ∙ ap (λ es. map (sourced value_of_entry) ms ++ es) (path-values f v start)
+      map-append (sourced value_of_entry) ms (pair_path form start f v)
+      ∙ ap (λ es. map (sourced value_of_entry) ms ++ es) (path-values f v start)
 
   -- the fault of a clash with slots
   abbrev way_faults : Option (Mention Entry × Node) → List Fault
@@ -121,7 +135,8 @@ module _ (form : Form) where
   -- ---- one pair
 
   -- the fault of a pair after agreeing ones is that of its clash with their slots
-  one-fault : (f : Frame) (v : Value) (start : ℕ) (ms : List (Mention Entry)) (ss : Slots) → AreAgreeing ms → AreEntrySlots form ms (kept ms) ss
+  one-fault : (f : Frame) (v : Value) (start : ℕ) (ms : List (Mention Entry)) (ss : Slots) → AreAgreeing ms
+      → AreEntrySlots form ms (kept ms) ss
       → value_clash (first_clash may_meet_inline (map (sourced value_of_entry) ms) (line_mentions v (start + length f.leading) [] f.path))
       ≡ way_faults (entry_clash (pair_path form start f v) ss)
   one-fault f v start ms ss are h =
@@ -139,9 +154,11 @@ module _ (form : Form) where
   first-all no_pairs start ns ms ss keyed nodes are h = refl
   first-all (pair f v ps) start no_items ms ss keyed nodes are h = absurd nodes
   first-all (pair f v ps) start (item n ns) ms ss keyed nodes are h =
-      subst (λ fs. BeginWith (clash_or_later (entry_clash path ss) (add_entry form path n ss) (entries_clash form ps (next_pair start f v) ns)) (fs ++ others)) (sym (one-fault f v start ms ss are h))
+      subst (λ fs. BeginWith (clash_or_later (entry_clash path ss) (add_entry form path n ss)
+      (entries_clash form ps (next_pair start f v) ns)) (fs ++ others)) (sym (one-fault f v start ms ss are h))
       (by_clash (entry_clash path ss) refl (add_entry form path n ss) refl
-      (λ between added agreed. subst (λ es. BeginWith (entries_clash form ps (next_pair start f v) ns between) (value_clashes es (value_paths (next_pair start f v) ps))) (values-after f v start ms)
+      (λ between added agreed. subst (λ es. BeginWith (entries_clash form ps (next_pair start f v) ns between)
+      (value_clashes es (value_paths (next_pair start f v) ps))) (values-after f v start ms)
       (first-all ps (next_pair start f v) ns (ms ++ path) between keyed.1 nodes.1
       (agreeing-both ms path are (agreeing-line (entry_of form start f v) (start + length f.leading) f.path) agreed)
       (entry_added form start f v ms n ss between nodes.0 are.pairs h added))))
@@ -159,10 +176,12 @@ module _ (form : Form) where
       alike = entry_clashes form (entry_of form start f v) (start + length f.leading) f.path ms ss are h
 
       agreement : agree may_meet_inline ms path ≡ is_none (entry_clash path ss)
-      agreement = agree-clash may_meet_inline ms path ∙ sym (same-none form (entry_clash path ss) (first_clash may_meet_inline ms path) alike)
+      agreement = agree-clash may_meet_inline ms path ∙ sym
+          (same-none form (entry_clash path ss) (first_clash may_meet_inline ms path) alike)
 
       by_clash : (o : Option (Mention Entry × Node)) → entry_clash path ss ≡ o → (added : Option Slots) → add_entry form path n ss ≡ added
-          → ((between : Slots) → add_entry form path n ss ≡ Some between → agree may_meet_inline ms path ≡ true → BeginWith (entries_clash form ps (next_pair start f v) ns between) others)
+          → ((between : Slots) → add_entry form path n ss ≡ Some between → agree may_meet_inline ms path ≡ true
+          → BeginWith (entries_clash form ps (next_pair start f v) ns between) others)
           → BeginWith (clash_or_later o added (entries_clash form ps (next_pair start f v) ns)) (way_faults o ++ others)
       by_clash (Some c) e added g on = (others, refl)
       by_clash None e (Some between) g on = on between g (agreement ∙ ap is_none e)
@@ -188,11 +207,13 @@ module _ (form : Form) where
       let others = entry_paths form ps (next_pair start f v) in
       let here = all_agree-next may_meet_inline ms path others ∙ h in
       let rest = list_all (agree may_meet_inline (ms ++ path)) others && all_agree may_meet_inline others in
-      ap (λ o. value_clash o ++ value_clashes (map (sourced value_of_entry) ms ++ line_mentions v (start + length f.leading) [] f.path) (value_paths (next_pair start f v) ps))
+      ap (λ o. value_clash o ++ value_clashes (map (sourced value_of_entry) ms
+      ++ line_mentions v (start + length f.leading) [] f.path) (value_paths (next_pair start f v) ps))
       (ap (first_clash may_meet_inline (map (sourced value_of_entry) ms)) (sym (path-values f v start))
       ∙ clash-sourced value_of_entry may_meet_inline ms path
       ∙ ap (option_map (both_sourced value_of_entry))
-      (none-is (first_clash may_meet_inline ms path) (sym (agree-clash may_meet_inline ms path) ∙ and_left (agree may_meet_inline ms path) rest here)))
+      (none-is (first_clash may_meet_inline ms path) (sym (agree-clash may_meet_inline ms path)
+      ∙ and_left (agree may_meet_inline ms path) rest here)))
       ∙ ap (λ es. value_clashes es (value_paths (next_pair start f v) ps)) (sym (values-after f v start ms))
       ∙ no-faults ps (next_pair start f v) (ms ++ path) (and_right (agree may_meet_inline ms path) rest here)
     where
@@ -204,7 +225,8 @@ module _ (form : Form) where
       → value_clashes (map (sourced value_of_entry) ms) (value_paths start (followed_by ps qs))
       ≡ value_clashes (map (sourced value_of_entry) ms) (value_paths start ps)
       ++ value_clashes (map (sourced value_of_entry) (ms ++ entries form ps start)) (value_paths (end_of_pairs start ps) qs)
-  clashes-followed no_pairs qs start ms = ap (λ es. value_clashes (map (sourced value_of_entry) es) (value_paths start qs)) (sym (append-nil ms))
+  clashes-followed no_pairs qs start ms =
+      ap (λ es. value_clashes (map (sourced value_of_entry) es) (value_paths start qs)) (sym (append-nil ms))
   clashes-followed (pair f v ps) qs start ms =
       let path = pair_path form start f v in
       let values = line_mentions v (start + length f.leading) [] f.path in
@@ -213,27 +235,33 @@ module _ (form : Form) where
       ap (λ fs. here ++ fs)
       (ap (λ es. value_clashes es (value_paths (next_pair start f v) (followed_by ps qs))) (sym (values-after f v start ms))
       ∙ clashes-followed ps qs (next_pair start f v) (ms ++ path)
-      ∙ ap (λ es. value_clashes es (value_paths (next_pair start f v) ps) ++ value_clashes (map (sourced value_of_entry) ((ms ++ path) ++ entries form ps (next_pair start f v))) (value_paths (end_of_pairs (next_pair start f v) ps) qs))
+      ∙ ap (λ es. value_clashes es (value_paths (next_pair start f v) ps)
+      ++ value_clashes (map (sourced value_of_entry) ((ms ++ path) ++ entries form ps (next_pair start f v)))
+      (value_paths (end_of_pairs (next_pair start f v) ps) qs))
       (values-after f v start ms)
       ∙ ap (λ us. more ++ value_clashes (map (sourced value_of_entry) us) (value_paths (end_of_pairs (next_pair start f v) ps) qs))
       (append_assoc ms path (entries form ps (next_pair start f v))))
-      ∙ sym (append_assoc here more (value_clashes (map (sourced value_of_entry) (ms ++ (path ++ entries form ps (next_pair start f v)))) (value_paths (end_of_pairs (next_pair start f v) ps) qs)))
+      ∙ sym (append_assoc here more (value_clashes (map (sourced value_of_entry) (ms ++ (path ++ entries form ps (next_pair start f v))))
+      (value_paths (end_of_pairs (next_pair start f v) ps) qs)))
 
   -- A pair that clashes with the slots of agreeing pairs before it is the first fault.
   pub clash_fault : (ps : Pairs) (f : Frame) (v : Value) (more : Pairs) (start number : ℕ) (ss : Slots) (c : Mention Entry × Node)
       → all_agree may_meet_inline (pair_mentions start ps) ≡ true → AreAgreeing (entries form ps start)
-      → AreEntrySlots form (entries form ps start) (kept (entries form ps start)) ss → entry_clash (pair_path form (end_of_pairs start ps) f v) ss ≡ Some c
+      → AreEntrySlots form (entries form ps start) (kept (entries form ps start)) ss
+      → entry_clash (pair_path form (end_of_pairs start ps) f v) ss ≡ Some c
       → BeginWith (Some c) (pair_clashes [] (pair_mentions start (followed_by ps (pair f v more))))
   clash_fault ps f v more start number ss c right are h e =
       let end = end_of_pairs start ps in
       let ms = entries form ps start in
-      let others = value_clashes (map (sourced value_of_entry) ms ++ line_mentions v (end + length f.leading) [] f.path) (value_paths (next_pair end f v) more) in (
+      let others = value_clashes (map (sourced value_of_entry) ms
+      ++ line_mentions v (end + length f.leading) [] f.path) (value_paths (next_pair end f v) more) in (
         others,
         clashes-of-values [] start number (followed_by ps (pair f v more))
             ∙ clashes-followed ps (pair f v more) start []
             ∙ ap (λ fs. fs ++ value_clashes (map (sourced value_of_entry) ms) (value_paths end (pair f v more)))
             (no-faults ps start []
-            (and_both (list_all (agree may_meet_inline []) (entry_paths form ps start)) (all_agree may_meet_inline (entry_paths form ps start))
+            (and_both (list_all (agree may_meet_inline []) (entry_paths form ps start))
+            (all_agree may_meet_inline (entry_paths form ps start))
             (all-with-none form (entry_paths form ps start)) (agreement-of form ps start start number ∙ right)))
             ∙ ap (λ fs. fs ++ others) (one-fault f v end ms ss are h ∙ ap way_faults e),
       )

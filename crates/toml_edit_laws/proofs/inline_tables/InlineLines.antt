@@ -11,10 +11,13 @@ use Rattle.toml_edit_model.specs.Tree.{Key, Node, nothing, leaf, list, inline, t
 use Rattle.toml_edit_model.specs.TreeOf.{owned_in, Entry, IsValueNode, AreEntrySlots}
 use Rattle.toml_edit_model.specs.Print.{Line, segments, last_leaf, is_line_node, value_of, inside_lines, lines_inside, line_of}
 use Rattle.toml_edit_laws.proofs.common.Tests.{same_text-is}
-use Rattle.toml_edit_laws.proofs.mentions.GatheredLines.{first_key, rest_of, has_first, keys_before, group, group-part, group-sorted, rests, alone, go_on, AllFilled, AllPart}
+use Rattle.toml_edit_laws.proofs.mentions.GatheredLines.{first_key, rest_of, has_first, keys_before, group, group-part, group-sorted, rests}
+use Rattle.toml_edit_laws.proofs.mentions.GatheredLines.{alone, go_on, AllFilled, AllPart}
 use Rattle.toml_edit_laws.proofs.mentions.Leaders.{group-ranked, leaders, leading, AreRanked, Leads, gathered}
-use Rattle.toml_edit_laws.proofs.mentions.MentionGroups.{lower, first_mention, below_start, flat_lines, under-lower, below-lines, kept-lower, kept-lines}
-use Rattle.toml_edit_laws.proofs.mentions.KeptPaths.{AreKept, kept_below, group-kept, kept-here, key_segment, segments-bare, last-key, key-shown}
+use Rattle.toml_edit_laws.proofs.mentions.MentionGroups.{lower, first_mention, below_start, flat_lines, under-lower, below-lines}
+use Rattle.toml_edit_laws.proofs.mentions.MentionGroups.{kept-lower, kept-lines}
+use Rattle.toml_edit_laws.proofs.mentions.KeptPaths.{AreKept, kept_below, group-kept, kept-here, key_segment, segments-bare, last-key}
+use Rattle.toml_edit_laws.proofs.mentions.KeptPaths.{key-shown}
 use Rattle.toml_edit_laws.proofs.common.Each.{all-filter, all_pass, all-map}
 use Rattle.toml_edit_model.specs.Order.{sorted_by}
 use Rattle.toml_edit_model.specs.Roles.{value_role, dotted_role}
@@ -36,7 +39,8 @@ lines-append Is (l ∷ ls) [] ms ys h g = absurd h
 lines-append Is (l ∷ ls) (x ∷ xs) ms ys h g = (h.0, lines-append Is ls xs ms ys h.1 g)
 
 -- what holds of each line of a table holds of one that leads
-leader-has : {X : Type 0} (P : X → Type 0) (path_of : X → List Segment) (xs : List X) (x : X) → AllByRecursion P xs → Leads path_of xs x → P x
+leader-has : {X : Type 0} (P : X → Type 0) (path_of : X → List Segment) (xs : List X) (x : X) → AllByRecursion P xs → Leads path_of xs x
+    → P x
 leader-has P path_of xs x h leads =
     (subst (AllByRecursion P) leads.1 (all-filter P (λ y. has_first (first_key (path_of x)) (path_of y)) xs h)).0
 
@@ -64,10 +68,12 @@ module _ (mode : Mode) where
   -- one key further down, where that key is kept and printed so
   pub keys-down : (kept_at : Path → Option Segment) (p : Path) (ks : List Key) (k : Key) (s : Segment) (ss : List Segment)
       → kept_at (to_key p s.key) ≡ Some s → key_segment mode k ≡ s → has_first s.key ss ≡ true
-      → map (key_segment mode) ks ++ kept_below kept_at p ss ≡ map (key_segment mode) (ks ++ one k) ++ kept_below kept_at (to_key p s.key) (rest_of ss)
+      → map (key_segment mode) ks ++ kept_below kept_at p ss ≡ map (key_segment mode) (ks ++ one k)
+      ++ kept_below kept_at (to_key p s.key) (rest_of ss)
   keys-down kept_at p ks k s [] here shown h = absurd cc
   keys-down kept_at p ks k s (t ∷ ts) here shown h =
-      ap (λ key. map (key_segment mode) ks ++ (unwrap_or (kept_at (to_key p key)) t ∷ kept_below kept_at (to_key p key) ts)) (sym (same_text-is s.key t.key h))
+      ap (λ key. map (key_segment mode) ks ++ (unwrap_or (kept_at (to_key p key)) t ∷ kept_below kept_at (to_key p key) ts))
+      (sym (same_text-is s.key t.key h))
       ∙ ap (λ o. map (key_segment mode) ks ++ (unwrap_or o t ∷ kept_below kept_at (to_key p s.key) ts)) here
       ∙ ap (λ r. map (key_segment mode) ks ++ (r ∷ kept_below kept_at (to_key p s.key) ts)) (sym shown)
       ∙ sym (append_assoc (map (key_segment mode) ks) (one (key_segment mode k)) (kept_below kept_at (to_key p s.key) ts))
@@ -86,10 +92,12 @@ module _ (mode : Mode) where
       → last_leaf ks ≡ (entry x).leaf → segments mode ks ≡ unspaced_ends (full x)
       → (is_line_node n ≡ true) × Prints (record { keys = ks; item = n; value = value_of mode n }) x
 
-  module _ {X : Type 0} (entry : X → Entry) (rank_of : Path → ℕ) (kept_at : Path → Option Segment) (full : X → List Segment) (Prints : Line → X → Type 0) where
+  module _ {X : Type 0} (entry : X → Entry) (rank_of : Path → ℕ) (kept_at : Path → Option Segment) (full : X → List Segment) (Prints : Line
+      → X → Type 0) where
     -- Pairs whose keys pass through this path: their segments from there on and where these begin, the keys down to the path, and
     -- the mentions.
-    pub record IsLevel (p : Path) (path_of : X → List Segment) (start : X → ℕ) (ks : List Key) (xs : List X) (ms : List (Mention Entry)) : Type 0 where
+    pub record IsLevel (p : Path) (path_of : X → List Segment) (start : X
+        → ℕ) (ks : List Key) (xs : List X) (ms : List (Mention Entry)) : Type 0 where
       pub filled : AllFilled path_of xs
       pub part : AllPart path_of xs
       pub spaced : AllByRecursion (λ x. AllByRecursion IsSpacedSegment (path_of x)) xs
@@ -111,7 +119,8 @@ module _ (mode : Mode) where
     level-below : (p : Path) (path_of : X → List Segment) (start : X → ℕ) (ks : List Key) (xs : List X) (ms : List (Mention Entry))
         (x : X) (s r : Segment) (rest : List Segment) (k : Key)
         → IsLevel p path_of start ks xs ms → Leads path_of xs x → path_of x ≡ s ∷ r ∷ rest → key_segment mode k ≡ s
-        → IsLevel (to_key p s.key) (rests path_of) (λ y. below_start (start y) (path_of y)) (ks ++ one k) (group s.key path_of xs) (under (at_key s.key) ms)
+        → IsLevel (to_key p s.key) (rests path_of) (λ y. below_start (start y) (path_of y)) (ks
+        ++ one k) (group s.key path_of xs) (under (at_key s.key) ms)
     level-below p path_of start ks xs ms x s r rest k h leads is shown =
         let lead : group s.key path_of xs ≡ x ∷ leads.0 = subst (λ ss. group (first_key ss) path_of xs ≡ x ∷ leads.0) is leads.1 in
         let parts : AllPart (rests path_of) (group s.key path_of xs) = group-part s.key path_of xs h.part in
@@ -121,16 +130,22 @@ module _ (mode : Mode) where
               (go_on (rests path_of) x leads.0 (subst (AllPart (rests path_of)) lead parts) (ap (λ ss. is_empty (rest_of ss)) is));
           part = parts;
           spaced =
-              all-map (λ y. AllByRecursion IsSpacedSegment (path_of y)) (λ y. AllByRecursion IsSpacedSegment (rests path_of y)) (group s.key path_of xs)
-              (λ y g. rest-spaced (path_of y) g) (all-filter (λ y. AllByRecursion IsSpacedSegment (path_of y)) (λ y. has_first s.key (path_of y)) xs h.spaced);
+              all-map (λ y. AllByRecursion IsSpacedSegment (path_of y)) (λ y. AllByRecursion IsSpacedSegment (rests path_of y))
+              (group s.key path_of xs)
+              (λ y g. rest-spaced (path_of y) g) (all-filter (λ y. AllByRecursion IsSpacedSegment (path_of y))
+              (λ y. has_first s.key (path_of y)) xs h.spaced);
           ranked = group-ranked rank_of p path_of xs s.key h.ranked;
           kept = group-kept kept_at p path_of xs s.key h.kept;
-          mentioned = ap lower (under-lower (at_key s.key) ms ∙ ap (under (at_key s.key)) h.mentioned) ∙ below-lines entry start path_of s.key xs;
+          mentioned = ap lower (under-lower (at_key s.key) ms ∙ ap (under (at_key s.key)) h.mentioned)
+              ∙ below-lines entry start path_of s.key xs;
           spelled =
               all-map (λ y. (full y ≡ map (key_segment mode) ks ++ kept_below kept_at p (path_of y)) × (has_first s.key (path_of y) ≡ true))
-              (λ y. full y ≡ map (key_segment mode) (ks ++ one k) ++ kept_below kept_at (to_key p s.key) (rests path_of y)) (group s.key path_of xs)
-              (λ y g. g.0 ∙ keys-down kept_at p ks k s (path_of y) (kept-here kept_at p path_of xs x s (r ∷ rest) h.kept is leads) shown g.1)
-              (all_pass (λ y. full y ≡ map (key_segment mode) ks ++ kept_below kept_at p (path_of y)) (λ y. has_first s.key (path_of y)) xs h.spelled);
+              (λ y. full y ≡ map (key_segment mode) (ks ++ one k)
+              ++ kept_below kept_at (to_key p s.key) (rests path_of y)) (group s.key path_of xs)
+              (λ y g. g.0 ∙ keys-down kept_at p ks k s (path_of y) (kept-here kept_at p path_of xs x s (r ∷ rest) h.kept is leads) shown
+              g.1)
+              (all_pass (λ y. full y ≡ map (key_segment mode) ks
+              ++ kept_below kept_at p (path_of y)) (λ y. has_first s.key (path_of y)) xs h.spelled);
           printed = all-filter (PrintsPair entry full Prints) (λ y. has_first s.key (path_of y)) xs h.printed;
         }
 
@@ -144,9 +159,11 @@ module _ (mode : Mode) where
         let lead : group s.key path_of xs ≡ x ∷ leads.0 = subst (λ ts. group (first_key ts) path_of xs ≡ x ∷ leads.0) is leads.1 in
         let others : leads.0 ≡ [] =
         alone (rests path_of) x leads.0 (subst (AllPart (rests path_of)) lead (group-part s.key path_of xs h.part)) (ap rest_of is) in
-        let spaced = subst (AllByRecursion IsSpacedSegment) is (leader-has (λ y. AllByRecursion IsSpacedSegment (path_of y)) path_of xs x h.spaced leads) in
+        let spaced = subst (AllByRecursion IsSpacedSegment) is
+        (leader-has (λ y. AllByRecursion IsSpacedSegment (path_of y)) path_of xs x h.spaced leads) in
         let shown : key_segment mode k ≡ s =
-        ap (key_segment mode) slot_is.0 ∙ key-shown mode (entry x).leaf (mention_of (entry x) (start x) (one (at_key s.key)) value_role s) spaced.0 in
+        ap (key_segment mode) slot_is.0 ∙ key-shown mode (entry x).leaf (mention_of (entry x) (start x) (one (at_key s.key)) value_role s)
+        spaced.0 in
         let full_is : full x ≡ map (key_segment mode) ks ++ one s =
         leader-has (λ y. full y ≡ map (key_segment mode) ks ++ kept_below kept_at p (path_of y)) path_of xs x h.spelled leads
         ∙ ap (λ ts. map (key_segment mode) ks ++ kept_below kept_at p ts) is
@@ -156,7 +173,8 @@ module _ (mode : Mode) where
         ∙ ap unspaced_ends (map-append (key_segment mode) ks (one k) ∙ ap (λ t. map (key_segment mode) ks ++ one t) shown ∙ sym full_is) in
         let leaf_is : last_leaf (ks ++ one k) ≡ (entry x).leaf = last-key ks k ∙ ap (λ j. j.leaf) slot_is.0 in
         let printed = leader-has (PrintsPair entry full Prints) path_of xs x h.printed leads n (ks ++ one k) slot_is.1 leaf_is spelled in
-        subst (λ ys. AreLines Prints (slot_lines (is_line_node n) (ks ++ one k) n) (sorted_by (before p path_of) ys)) (sym (lead ∙ ap (λ ys. x ∷ ys) others))
+        subst (λ ys. AreLines Prints (slot_lines (is_line_node n) (ks ++ one k) n) (sorted_by (before p path_of) ys)) (sym (lead
+        ∙ ap (λ ys. x ∷ ys) others))
         (subst (λ b. AreLines Prints (slot_lines b (ks ++ one k) n) (one x)) (sym printed.0) (printed.1, tt))
 
     -- the lines of a slot whose key ends no path
@@ -168,13 +186,17 @@ module _ (mode : Mode) where
         → AreLines Prints (slot_lines (is_line_node n) (ks ++ one k) n) (sorted_by (before p path_of) (group s.key path_of xs))
     path-slot p path_of start ks xs ms rest x s r more k n ss h leads is slot_is inside =
         let made = made-inside (entry x) (start x) (one (at_key s.key)) s ms rest k n ss slot_is in
-        let spaced = subst (AllByRecursion IsSpacedSegment) is (leader-has (λ y. AllByRecursion IsSpacedSegment (path_of y)) path_of xs x h.spaced leads) in
+        let spaced = subst (AllByRecursion IsSpacedSegment) is
+        (leader-has (λ y. AllByRecursion IsSpacedSegment (path_of y)) path_of xs x h.spaced leads) in
         let shown : key_segment mode k ≡ s =
-        ap (key_segment mode) slot_is.0 ∙ key-shown mode (entry x).leaf (mention_of (entry x) (start x) (one (at_key s.key)) dotted_role s) spaced.0 in
-        let lines = inside (to_key p s.key) (rests path_of) (λ y. below_start (start y) (path_of y)) (ks ++ one k) (group s.key path_of xs) (under (at_key s.key) ms)
+        ap (key_segment mode) slot_is.0 ∙ key-shown mode (entry x).leaf (mention_of (entry x) (start x) (one (at_key s.key)) dotted_role s)
+        spaced.0 in
+        let lines = inside (to_key p s.key) (rests path_of) (λ y. below_start (start y) (path_of y)) (ks
+        ++ one k) (group s.key path_of xs) (under (at_key s.key) ms)
         (level-below p path_of start ks xs ms x s r more k h leads is shown) made.1 in
         subst (λ ys. AreLines Prints (slot_lines (is_line_node n) (ks ++ one k) n) ys) (sym (group-sorted rank_of p s.key path_of xs))
-        (subst (λ b. AreLines Prints (slot_lines b (ks ++ one k) n) (sorted_by (before (to_key p s.key) (rests path_of)) (group s.key path_of xs))) (sym made.0) lines)
+        (subst (λ b. AreLines Prints (slot_lines b (ks ++ one k) n)
+        (sorted_by (before (to_key p s.key) (rests path_of)) (group s.key path_of xs))) (sym made.0) lines)
 
     -- the lines of the slots of these leaders
     abbrev AreSlots : Slots → Type 0
@@ -182,51 +204,62 @@ module _ (mode : Mode) where
         (p : Path) (path_of : X → List Segment) (start : X → ℕ) (ks : List Key) (xs : List X) (ms : List (Mention Entry)) (ls : List X)
         → IsLevel p path_of start ks xs ms → AllByRecursion (λ x. (is_empty (path_of x) ≡ false) × Leads path_of xs x) ls
         → AreEntrySlots (owned_in mode) ms (flat_map (λ x. first_mention (entry x) (start x) (path_of x)) ls) ss
-        → AreLines Prints (inside_lines mode ss ks) (flat_map (λ x. sorted_by (before p path_of) (group (first_key (path_of x)) path_of xs)) ls)
+        → AreLines Prints (inside_lines mode ss ks) (flat_map (λ x. sorted_by (before p path_of) (group (first_key (path_of x)) path_of xs))
+        ls)
 
     one-slot : (k : Key) (n : Node) (ss : Slots) (p : Path) (path_of : X → List Segment) (start : X → ℕ) (ks : List Key) (xs : List X)
         (ms : List (Mention Entry)) (x : X) (ls : List X) (ts : List Segment) → path_of x ≡ ts → is_empty ts ≡ false
         → IsInside n
         → (AreEntrySlots (owned_in mode) ms (flat_map (λ y. first_mention (entry y) (start y) (path_of y)) ls) ss
-        → AreLines Prints (inside_lines mode ss ks) (flat_map (λ y. sorted_by (before p path_of) (group (first_key (path_of y)) path_of xs)) ls))
+        → AreLines Prints (inside_lines mode ss ks) (flat_map (λ y. sorted_by (before p path_of) (group (first_key (path_of y)) path_of xs))
+        ls))
         → IsLevel p path_of start ks xs ms → Leads path_of xs x
-        → AreEntrySlots (owned_in mode) ms (first_mention (entry x) (start x) ts ++ flat_map (λ y. first_mention (entry y) (start y) (path_of y)) ls) (slot k n ss)
+        → AreEntrySlots (owned_in mode) ms (first_mention (entry x) (start x) ts
+        ++ flat_map (λ y. first_mention (entry y) (start y) (path_of y)) ls) (slot k n ss)
         → AreLines Prints (inside_lines mode (slot k n ss) ks)
-        (sorted_by (before p path_of) (group (first_key ts) path_of xs) ++ flat_map (λ y. sorted_by (before p path_of) (group (first_key (path_of y)) path_of xs)) ls)
+        (sorted_by (before p path_of) (group (first_key ts) path_of xs)
+        ++ flat_map (λ y. sorted_by (before p path_of) (group (first_key (path_of y)) path_of xs)) ls)
     one-slot k n ss p path_of start ks xs ms x ls [] is e inside others h leads slot_is = absurd cc
     one-slot k n ss p path_of start ks xs ms x ls (s ∷ []) is e inside others h leads slot_is =
         lines-append Prints (slot_lines (is_line_node n) (ks ++ one k) n) (sorted_by (before p path_of) (group s.key path_of xs))
         (inside_lines mode ss ks) (flat_map (λ y. sorted_by (before p path_of) (group (first_key (path_of y)) path_of xs)) ls)
-        (value-slot p path_of start ks xs ms (flat_map (λ y. first_mention (entry y) (start y) (path_of y)) ls) x s k n ss h leads is slot_is)
+        (value-slot p path_of start ks xs ms (flat_map (λ y. first_mention (entry y) (start y) (path_of y)) ls) x s k n ss h leads is
+        slot_is)
         (others slot_is.2)
     one-slot k n ss p path_of start ks xs ms x ls (s ∷ r ∷ more) is e inside others h leads slot_is =
         lines-append Prints (slot_lines (is_line_node n) (ks ++ one k) n) (sorted_by (before p path_of) (group s.key path_of xs))
         (inside_lines mode ss ks) (flat_map (λ y. sorted_by (before p path_of) (group (first_key (path_of y)) path_of xs)) ls)
-        (path-slot p path_of start ks xs ms (flat_map (λ y. first_mention (entry y) (start y) (path_of y)) ls) x s r more k n ss h leads is slot_is inside)
+        (path-slot p path_of start ks xs ms (flat_map (λ y. first_mention (entry y) (start y) (path_of y)) ls) x s r more k n ss h leads is
+        slot_is inside)
         (others slot_is.2)
 
-    no-slot : (ms : List (Mention Entry)) (source : Entry) (start : ℕ) (ts : List Segment) (rest : List (Mention Entry)) → is_empty ts ≡ false
+    no-slot : (ms : List (Mention Entry)) (source : Entry) (start : ℕ) (ts : List Segment) (rest : List (Mention Entry)) → is_empty ts
+        ≡ false
         → AreEntrySlots (owned_in mode) ms (first_mention source start ts ++ rest) no_slots → ⊥
     no-slot ms source start [] rest e h = cc
     no-slot ms source start (s ∷ ts) rest e h = h
 
-    from-slots : (p : Path) (path_of : X → List Segment) (start : X → ℕ) (ks : List Key) (xs : List X) (ms : List (Mention Entry)) (ss : Slots)
+    from-slots : (p : Path) (path_of : X → List Segment) (start : X
+        → ℕ) (ks : List Key) (xs : List X) (ms : List (Mention Entry)) (ss : Slots)
         → IsLevel p path_of start ks xs ms → AreEntrySlots (owned_in mode) ms (kept ms) ss → AreSlots ss
         → AreLines Prints (inside_lines mode ss ks) (sorted_by (before p path_of) xs)
     from-slots p path_of start ks xs ms ss h is slots =
         let kept_is : kept ms ≡ flat_map (λ x. first_mention (entry x) (start x) (path_of x)) (leaders [] path_of xs) =
         kept-lower ms ∙ ap kept h.mentioned ∙ kept-lines entry start path_of xs h.filled in
         subst (AreLines Prints (inside_lines mode ss ks)) (sym (gathered rank_of p path_of xs h.filled h.ranked))
-        (slots p path_of start ks xs ms (leaders [] path_of xs) h (leading path_of xs h.filled) (subst (λ ns. AreEntrySlots (owned_in mode) ms ns ss) kept_is is))
+        (slots p path_of start ks xs ms (leaders [] path_of xs) h (leading path_of xs h.filled)
+        (subst (λ ns. AreEntrySlots (owned_in mode) ms ns ss) kept_is is))
 
     mutual
       slots-inside : (ss : Slots) → AreSlots ss
       slots-inside no_slots p path_of start ks xs ms [] h leads is = tt
       slots-inside no_slots p path_of start ks xs ms (x ∷ ls) h leads is =
-          absurd (no-slot ms (entry x) (start x) (path_of x) (flat_map (λ y. first_mention (entry y) (start y) (path_of y)) ls) leads.0.0 is)
+          absurd (no-slot ms (entry x) (start x) (path_of x) (flat_map (λ y. first_mention (entry y) (start y) (path_of y)) ls) leads.0.0
+          is)
       slots-inside (slot k n ss) p path_of start ks xs ms [] h leads is = absurd is
       slots-inside (slot k n ss) p path_of start ks xs ms (x ∷ ls) h leads is =
-          one-slot k n ss p path_of start ks xs ms x ls (path_of x) refl leads.0.0 (node-inside n) (slots-inside ss p path_of start ks xs ms ls h leads.1) h leads.0.1 is
+          one-slot k n ss p path_of start ks xs ms x ls (path_of x) refl leads.0.0 (node-inside n)
+          (slots-inside ss p path_of start ks xs ms ls h leads.1) h leads.0.1 is
 
       node-inside : (n : Node) → IsInside n
       node-inside (inline f ss) p path_of start ks xs ms h is = from-slots p path_of start ks xs ms ss h is (slots-inside ss)
@@ -237,7 +270,8 @@ module _ (mode : Mode) where
       node-inside (tables e us) p path_of start ks xs ms h is = absurd is
 
     -- The lines inside are those of the pairs in their order.
-    pub lines-inside : (ss : Slots) (p : Path) (path_of : X → List Segment) (start : X → ℕ) (ks : List Key) (xs : List X) (ms : List (Mention Entry))
+    pub lines-inside : (ss : Slots) (p : Path) (path_of : X → List Segment) (start : X
+        → ℕ) (ks : List Key) (xs : List X) (ms : List (Mention Entry))
         → IsLevel p path_of start ks xs ms → AreEntrySlots (owned_in mode) ms (kept ms) ss
         → AreLines Prints (inside_lines mode ss ks) (sorted_by (before p path_of) xs)
     lines-inside ss p path_of start ks xs ms h is = from-slots p path_of start ks xs ms ss h is (slots-inside ss)

@@ -1,5 +1,6 @@
 -- The pairs of an inline table are added one after another: whether it goes through, what it gives, and the first fault.
-use Rattle.std.proofs.Common.{◌≡◌, refl, sym, ◌∙◌, ap, subst, ℕ, suc, ◌+◌, true, false, List, [], ◌∷◌, ◌++◌, append_assoc, length, Option, Some, None}
+use Rattle.std.proofs.Common.{◌≡◌, refl, sym, ◌∙◌, ap, subst, ℕ, suc, ◌+◌, true, false, List, [], ◌∷◌, ◌++◌, append_assoc, length, Option}
+use Rattle.std.proofs.Common.{Some, None}
 use Rattle.std.specs.Prelude.{◌&&◌, map, is_some, option_and_then}
 use Rattle.std.specs.List.{list_all}
 use Rattle.toml_edit_model.specs.Syntax.{Pairs, no_pairs, pair}
@@ -7,7 +8,8 @@ use Rattle.toml_edit_model.specs.Paths.{Mention, PairSource, line_mentions, pair
 use Rattle.toml_edit_model.specs.Accepted.{agree, all_agree}
 use Rattle.toml_edit_model.specs.Tree.{Node, Items, no_items, item, Slots, no_slots}
 use Rattle.toml_edit_model.specs.TreeOf.{Form, Entry, entry_of, entries, AreEntrySlots}
-use Rattle.toml_edit_laws.specs.InlineTree.{add_entry, pair_path, next_pair, AreKeyed, ArePairNodes, add_entries, entry_clash, clash_or_later, entries_clash}
+use Rattle.toml_edit_laws.specs.InlineTree.{add_entry, pair_path, next_pair, AreKeyed, ArePairNodes, add_entries, entry_clash}
+use Rattle.toml_edit_laws.specs.InlineTree.{clash_or_later, entries_clash}
 use Rattle.toml_edit_laws.proofs.common.Tests.{append-nil}
 use Rattle.toml_edit_laws.proofs.common.OptionSteps.{bind_some, is_none}
 use Rattle.toml_edit_laws.proofs.inline_tables.AgreeLaws.{all_agree-next}
@@ -44,7 +46,8 @@ module _ (form : Form) where
       (entry_added form start f v ms n ss between nodes.0 are h added) rest)
 
   -- If all pairs can be added, their slots are those of all their mentions.
-  pub entries_added : (ps : Pairs) (start : ℕ) (ns : Items) (ss : Slots) → ArePairNodes form ps start ns → add_entries form ps start ns no_slots ≡ Some ss
+  pub entries_added : (ps : Pairs) (start : ℕ) (ns : Items) (ss : Slots) → ArePairNodes form ps start ns
+      → add_entries form ps start ns no_slots ≡ Some ss
       → AreEntrySlots form (entries form ps start) (kept (entries form ps start)) ss
   entries_added ps start ns ss nodes e = add-all ps start ns [] no_slots ss nodes of_none tt e
 
@@ -60,7 +63,8 @@ module _ (form : Form) where
       (bare-paths ps (next_pair start f v) (next_pair place f v) (suc number))
 
   -- wherever the table begins, and whatever is told of its pairs
-  pub agreement-of : (ps : Pairs) (start place number : ℕ) → all_agree may_meet_inline (entry_paths ps start) ≡ all_agree may_meet_inline (pair_mentions place ps)
+  pub agreement-of : (ps : Pairs) (start place number : ℕ) → all_agree may_meet_inline (entry_paths ps start)
+      ≡ all_agree may_meet_inline (pair_mentions place ps)
   agreement-of ps start place number =
       sym (all_agree-bare may_meet_inline (entry_paths ps start))
       ∙ ap (all_agree may_meet_inline) (bare-paths ps start place number)
@@ -73,7 +77,8 @@ module _ (form : Form) where
   goes-all no_pairs start ns ms ss keyed nodes are h = refl
   goes-all (pair f v ps) start no_items ms ss keyed nodes are h = absurd nodes
   goes-all (pair f v ps) start (item n ns) ms ss keyed nodes are h =
-      by_entry (add_entry form path n ss) refl (entry_goes form (entry_of form start f v) (start + length f.leading) f.path ms n ss keyed.0 are h)
+      by_entry (add_entry form path n ss) refl (entry_goes form (entry_of form start f v) (start
+      + length f.leading) f.path ms n ss keyed.0 are h)
       (λ between added agreed. goes-all ps (next_pair start f v) ns (ms ++ path) between keyed.1 nodes.1
       (agreeing-both ms path are (agreeing-line (entry_of form start f v) (start + length f.leading) f.path) agreed)
       (entry_added form start f v ms n ss between nodes.0 are.pairs h added))
@@ -87,7 +92,8 @@ module _ (form : Form) where
 
       by_entry : (o : Option Slots) → add_entry form path n ss ≡ o → is_some (add_entry form path n ss) ≡ agree may_meet_inline ms path
           → ((between : Slots) → add_entry form path n ss ≡ Some between → agree may_meet_inline ms path ≡ true
-          → is_some (add_entries form ps (next_pair start f v) ns between) ≡ (list_all (agree may_meet_inline (ms ++ path)) others && all_agree may_meet_inline others))
+          → is_some (add_entries form ps (next_pair start f v) ns between)
+          ≡ (list_all (agree may_meet_inline (ms ++ path)) others && all_agree may_meet_inline others))
           → is_some (option_and_then (add_entries form ps (next_pair start f v) ns) (add_entry form path n ss))
           ≡ (agree may_meet_inline ms path && (list_all (agree may_meet_inline (ms ++ path)) others && all_agree may_meet_inline others))
       by_entry None e g ih =
@@ -95,7 +101,8 @@ module _ (form : Form) where
           rw e (ap (λ b. b && (list_all (agree may_meet_inline (ms ++ path)) others && all_agree may_meet_inline others)) (sym off))
       by_entry (Some between) e g ih =
           let on : agree may_meet_inline ms path ≡ true = sym g ∙ ap is_some e in
-          rw e (ih between e on ∙ ap (λ b. b && (list_all (agree may_meet_inline (ms ++ path)) others && all_agree may_meet_inline others)) (sym on))
+          rw e (ih between e on ∙ ap (λ b. b && (list_all (agree may_meet_inline (ms ++ path)) others && all_agree may_meet_inline others))
+          (sym on))
 
   pub all-with-none : (mss : List (List (Mention Entry))) → list_all (agree may_meet_inline []) mss ≡ true
   all-with-none [] = refl
@@ -115,15 +122,18 @@ module _ (form : Form) where
   entries_or_clash no_pairs start ns ss keyed nodes = refl
   entries_or_clash (pair f v ps) start no_items ss keyed nodes = absurd nodes
   entries_or_clash (pair f v ps) start (item n ns) ss keyed nodes =
-      by_entry (add_entry form path n ss) (entry_clash path ss) (entry_or_clash form (entry_of form start f v) (start + length f.leading) f.path n ss keyed.0)
+      by_entry (add_entry form path n ss) (entry_clash path ss) (entry_or_clash form (entry_of form start f v) (start
+      + length f.leading) f.path n ss keyed.0)
       (λ between. entries_or_clash ps (next_pair start f v) ns between keyed.1 nodes.1)
     where
       path : List (Mention Entry)
       path = pair_path form start f v
 
       by_entry : (o : Option Slots) (c : Option (Mention Entry × Node)) → is_some o ≡ is_none c
-          → ((between : Slots) → is_some (add_entries form ps (next_pair start f v) ns between) ≡ is_none (entries_clash form ps (next_pair start f v) ns between))
-          → is_some (option_and_then (add_entries form ps (next_pair start f v) ns) o) ≡ is_none (clash_or_later c o (entries_clash form ps (next_pair start f v) ns))
+          → ((between : Slots) → is_some (add_entries form ps (next_pair start f v) ns between)
+          ≡ is_none (entries_clash form ps (next_pair start f v) ns between))
+          → is_some (option_and_then (add_entries form ps (next_pair start f v) ns) o)
+          ≡ is_none (clash_or_later c o (entries_clash form ps (next_pair start f v) ns))
       by_entry None None e ih = absurd cc
       by_entry None (Some c) e ih = refl
       by_entry (Some between) None e ih = ih between

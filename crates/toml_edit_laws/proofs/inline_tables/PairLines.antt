@@ -41,7 +41,8 @@ stands-comes {S = S} rank_of source other start next p (s ∷ ss) (r ∷ rs) =
     ]
 
 -- Lines sorted by their mentions are sorted by their keys.
-pub sorted-mentions : {S X : Type 0} (rank_of : Path → ℕ) (source : X → S) (start : X → ℕ) (p : Path) (path_of : X → List Segment) (xs : List X)
+pub sorted-mentions : {S X : Type 0} (rank_of : Path → ℕ) (source : X → S) (start : X → ℕ) (p : Path) (path_of : X
+    → List Segment) (xs : List X)
     → sorted_by (stands_before rank_of) (map (λ x. line_mentions (source x) (start x) p (path_of x)) xs)
     ≡ map (λ x. line_mentions (source x) (start x) p (path_of x)) (sorted_by (λ x y. keys_before rank_of p (path_of x) (path_of y)) xs)
 sorted-mentions {S = S} {X = X} rank_of source start p path_of xs =
@@ -63,7 +64,8 @@ abbrev agrees : {S : Type 0} → Mention S → Mention S → Bool
 agrees m n = not (same_path m.path n.path) || may_meet_inline m.role n.role
 
 -- all but the first of both agree
-agree-rest : {S : Type 0} (m n : Mention S) (ms ns : List (Mention S)) → agree may_meet_inline (m ∷ ms) (n ∷ ns) ≡ true → agree may_meet_inline ms ns ≡ true
+agree-rest : {S : Type 0} (m n : Mention S) (ms ns : List (Mention S)) → agree may_meet_inline (m ∷ ms) (n ∷ ns) ≡ true
+    → agree may_meet_inline ms ns ≡ true
 agree-rest {S = S} m n ms ns h = each ms (and_right (list_all (agrees m) (n ∷ ns)) (agree may_meet_inline ms (n ∷ ns)) h)
   where
     each : (xs : List (Mention S)) → agree may_meet_inline xs (n ∷ ns) ≡ true → agree may_meet_inline xs ns ≡ true
@@ -82,7 +84,8 @@ meet-first : {S : Type 0} (source other : S) (start next : ℕ) (p : Path) (s r 
 meet-first source other start next p s r a b e h = rw (same_path-key p s.key r.key, e) at h
 
 -- where roles may not meet, keys differ
-differ-first : {S : Type 0} (source other : S) (start next : ℕ) (p : Path) (s r : Segment) (a b : Role) (ms ns : List (Mention S)) → may_meet_inline a b ≡ false
+differ-first : {S : Type 0} (source other : S) (start next : ℕ) (p : Path) (s r : Segment) (a b : Role) (ms ns : List (Mention S))
+    → may_meet_inline a b ≡ false
     → agree may_meet_inline (mention_of source start (to_key p s.key) a s ∷ ms) (mention_of other next (to_key p r.key) b r ∷ ns) ≡ true
     → same_text s.key r.key ≡ false
 differ-first source other start next p s r a b ms ns clash h =
@@ -93,16 +96,19 @@ differ-first source other start next p s r a b ms ns clash h =
     (agree-first (mention_of source start (to_key p s.key) a s) (mention_of other next (to_key p r.key) b r) ms ns h)) clash)
 
 -- Pairs that agree part ways.
-pub agree-parts : {S : Type 0} (source other : S) (start next : ℕ) (p : Path) (ss rs : List Segment) → is_empty ss ≡ false → is_empty rs ≡ false
+pub agree-parts : {S : Type 0} (source other : S) (start next : ℕ) (p : Path) (ss rs : List Segment) → is_empty ss ≡ false → is_empty rs
+    ≡ false
     → agree may_meet_inline (line_mentions source start p ss) (line_mentions other next p rs) ≡ true → part_ways ss rs ≡ true
 agree-parts source other start next p [] rs e g h = absurd cc
 agree-parts source other start next p (s ∷ ss) [] e g h = absurd cc
 agree-parts source other start next p (s ∷ []) (r ∷ []) e g h =
     rw (differ-first source other start next p s r value_role value_role [] [] refl h) refl
 agree-parts source other start next p (s ∷ []) (r ∷ q ∷ rs) e g h =
-    rw (differ-first source other start next p s r value_role dotted_role [] (line_mentions other (next_start next r) (to_key p r.key) (q ∷ rs)) refl h) refl
+    rw (differ-first source other start next p s r value_role dotted_role [] (line_mentions other (next_start next r) (to_key p r.key) (q
+    ∷ rs)) refl h) refl
 agree-parts source other start next p (s ∷ t ∷ ss) (r ∷ []) e g h =
-    rw (differ-first source other start next p s r dotted_role value_role (line_mentions source (next_start start s) (to_key p s.key) (t ∷ ss)) [] refl h) refl
+    rw (differ-first source other start next p s r dotted_role value_role (line_mentions source (next_start start s) (to_key p s.key) (t
+    ∷ ss)) [] refl h) refl
 agree-parts {S = S} source other start next p (s ∷ t ∷ ss) (r ∷ q ∷ rs) e g h =
     let more : List (Mention S) = line_mentions source (next_start start s) (to_key p s.key) (t ∷ ss) in
     let later : Text → List (Mention S) = λ k. line_mentions other (next_start next r) (to_key p k) (q ∷ rs) in
@@ -111,7 +117,8 @@ agree-parts {S = S} source other start next p (s ∷ t ∷ ss) (r ∷ q ∷ rs) 
           rw x
           (agree-parts source other (next_start start s) (next_start next r) (to_key p s.key) (t ∷ ss) (q ∷ rs) refl refl
           (subst (λ k. agree may_meet_inline more (later k) ≡ true) (sym (same_text-is s.key r.key x))
-          (agree-rest (mention_of source start (to_key p s.key) dotted_role s) (mention_of other next (to_key p r.key) dotted_role r) more (later r.key) h)))
+          (agree-rest (mention_of source start (to_key p s.key) dotted_role s) (mention_of other next (to_key p r.key) dotted_role r) more
+          (later r.key) h)))
       | inr x ↦ rw x refl
     ]
 

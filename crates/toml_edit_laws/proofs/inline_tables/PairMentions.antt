@@ -31,7 +31,8 @@ pub of_both : {S : Type 0} (xs ys : List (Mention S)) → AreOfPairs xs → AreO
 of_both xs ys g h =
     record {
       named = all-append IsNamed xs ys g.named h.named;
-      headless = λ p. some_at-append is_header_role p xs ys ∙ or_from (some_at is_header_role p xs) (some_at is_header_role p ys) (g.headless p) (h.headless p);
+      headless = λ p. some_at-append is_header_role p xs ys
+          ∙ or_from (some_at is_header_role p xs) (some_at is_header_role p ys) (g.headless p) (h.headless p);
       closed = λ q s p e.
           let both = sym (some_at-append any_role (q ++ (s ∷ [])) xs ys) ∙ e in
           some_at-append any_role (q ++ (s ∷ p)) xs ys
@@ -45,7 +46,8 @@ of_under s ms h =
     record {
       named = under-named s ms h.named;
       headless = λ p. some_at-under is_header_role s p ms ∙ h.headless (s ∷ p);
-      closed = λ q t p e. some_at-under any_role s (q ++ (t ∷ p)) ms ∙ h.closed (s ∷ q) t p (sym (some_at-under any_role s (q ++ (t ∷ [])) ms) ∙ e);
+      closed = λ q t p e. some_at-under any_role s (q ++ (t ∷ p)) ms
+          ∙ h.closed (s ∷ q) t p (sym (some_at-under any_role s (q ++ (t ∷ [])) ms) ∙ e);
     }
 
 -- ---- the mentions of one pair
@@ -56,7 +58,8 @@ pub lines-deeper : {S : Type 0} (source : S) (start : ℕ) (s : Step) (p : Path)
 lines-deeper source start s p [] = refl
 lines-deeper source start s p (g ∷ []) = refl
 lines-deeper source start s p (g ∷ h ∷ rest) =
-    ap (λ ms. mention_of source start (to_key (s ∷ p) g.key) dotted_role g ∷ ms) (lines-deeper source (next_start start g) s (to_key p g.key) (h ∷ rest))
+    ap (λ ms. mention_of source start (to_key (s ∷ p) g.key) dotted_role g
+    ∷ ms) (lines-deeper source (next_start start g) s (to_key p g.key) (h ∷ rest))
 
 pub own-line : {S : Type 0} (source : S) (start : ℕ) (segments : List Segment) → own (line_mentions source start [] segments) ≡ []
 own-line source start [] = refl
@@ -65,11 +68,14 @@ own-line source start (g ∷ h ∷ rest) =
     ap own (lines-deeper source (next_start start g) (at_key g.key) [] (h ∷ rest))
     ∙ own-deeper (at_key g.key) (line_mentions source (next_start start g) [] (h ∷ rest))
 
-headless-line : {S : Type 0} (source : S) (start : ℕ) (p : Path) (segments : List Segment) → AreHeadless (line_mentions source start p segments)
+headless-line : {S : Type 0} (source : S) (start : ℕ) (p : Path) (segments : List Segment)
+    → AreHeadless (line_mentions source start p segments)
 headless-line source start p [] q = refl
-headless-line source start p (g ∷ []) q = or_from (same_path (to_key p g.key) q && false) false (and-false (same_path (to_key p g.key) q)) refl
+headless-line source start p (g ∷ []) q =
+    or_from (same_path (to_key p g.key) q && false) false (and-false (same_path (to_key p g.key) q)) refl
 headless-line source start p (g ∷ h ∷ rest) q =
-    or_from (same_path (to_key p g.key) q && false) (some_at is_header_role q (line_mentions source (next_start start g) (to_key p g.key) (h ∷ rest)))
+    or_from (same_path (to_key p g.key) q && false) (some_at is_header_role q (line_mentions source (next_start start g) (to_key p g.key) (h
+    ∷ rest)))
     (and-false (same_path (to_key p g.key) q)) (headless-line source (next_start start g) (to_key p g.key) (h ∷ rest) q)
 
 pub some_at-deeper : {S : Type 0} (test : Role → Bool) (s t : Step) (p : Path) (ms : List (Mention S))
@@ -100,7 +106,8 @@ not-empty : (q : Path) (t : Step) (p : Path) → same_path [] (q ++ (t ∷ p)) �
 not-empty [] t p = refl
 not-empty (u ∷ q) t p = refl
 
-closed-below : {S : Type 0} (s : Step) (m : Mention S) (ms : List (Mention S)) → m.path ≡ s ∷ [] → AreClosed ms → AreClosed (m ∷ all_deeper s ms)
+closed-below : {S : Type 0} (s : Step) (m : Mention S) (ms : List (Mention S)) → m.path ≡ s ∷ [] → AreClosed ms
+    → AreClosed (m ∷ all_deeper s ms)
 closed-below s m ms here h [] t p e = at-front s m ms here t p ∙ by_test (same_step s t) (sym (at-front s m ms here t []) ∙ e)
   where
     by_test : (b : Bool) → (b && true) ≡ false → (b && (same_path [] p || some_at any_role p ms)) ≡ false
@@ -118,18 +125,27 @@ closed-below s m ms here h (u ∷ q) t p e =
 
 closed-line : {S : Type 0} (source : S) (start : ℕ) (segments : List Segment) → AreClosed (line_mentions source start [] segments)
 closed-line source start [] = λ q s p e. refl
-closed-line source start (g ∷ []) = closed-below (at_key g.key) (mention_of source start (to_key [] g.key) value_role g) [] refl (λ q s p e. refl)
+closed-line source start (g ∷ []) =
+    closed-below (at_key g.key) (mention_of source start (to_key [] g.key) value_role g) [] refl (λ q s p e. refl)
 closed-line source start (g ∷ h ∷ rest) =
-    subst (λ ms. AreClosed (mention_of source start (to_key [] g.key) dotted_role g ∷ ms)) (sym (lines-deeper source (next_start start g) (at_key g.key) [] (h ∷ rest)))
-    (closed-below (at_key g.key) (mention_of source start (to_key [] g.key) dotted_role g) (line_mentions source (next_start start g) [] (h ∷ rest)) refl
+    subst (λ ms. AreClosed (mention_of source start (to_key [] g.key) dotted_role g ∷ ms))
+    (sym (lines-deeper source (next_start start g) (at_key g.key) [] (h ∷ rest)))
+    (closed-below (at_key g.key) (mention_of source start (to_key [] g.key) dotted_role g) (line_mentions source (next_start start g) [] (h
+    ∷ rest)) refl
     (closed-line source (next_start start g) (h ∷ rest)))
 
 pub of_line : {S : Type 0} (source : S) (start : ℕ) (segments : List Segment) → AreOfPairs (line_mentions source start [] segments)
 of_line source start segments =
-    record { named = line-named source start [] segments; headless = headless-line source start [] segments; closed = closed-line source start segments }
+    record {
+      named = line-named source start [] segments;
+      headless = headless-line source start [] segments;
+      closed =
+          closed-line source start segments;
+    }
 
 -- its first mention alone
-pub of_first : {S : Type 0} (source : S) (start : ℕ) (g : Segment) → AreOfPairs (mention_of source start (to_key [] g.key) dotted_role g ∷ [])
+pub of_first : {S : Type 0} (source : S) (start : ℕ) (g : Segment)
+    → AreOfPairs (mention_of source start (to_key [] g.key) dotted_role g ∷ [])
 of_first source start g =
     record {
       named = (inr ([], refl), tt);

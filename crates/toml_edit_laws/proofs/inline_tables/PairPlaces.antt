@@ -35,7 +35,8 @@ module _ (mode : Mode) where
   pairs_at no_pairs i start number = []
   pairs_at (pair f v ps) i start number =
       record { frame = f; value = v; place = i; number = number; start = start }
-      ∷ pairs_at ps (i + length (frame_text f (value_text v)) + 1) (start + length (frame_text (shown_frame mode f) (value_text (normal_value mode v))) + 1) (suc number)
+      ∷ pairs_at ps (i + length (frame_text f (value_text v)) + 1) (start
+      + length (frame_text (shown_frame mode f) (value_text (normal_value mode v))) + 1) (suc number)
 
   abbrev pub pair_entry : PairAt → Entry
   pair_entry x = entry_of (owned_in mode) x.place x.frame x.value
@@ -50,23 +51,28 @@ module _ (mode : Mode) where
   abbrev pub normal_line : PairAt → List (Mention PairSource)
   normal_line x = line_mentions (normal_source x) (normal_start x) [] (pair_path x)
 
-  pub entries-are : (ps : Pairs) (i start number : ℕ) → entries (owned_in mode) ps i ≡ flat_lines pair_entry entry_start pair_path (pairs_at ps i start number)
+  pub entries-are : (ps : Pairs) (i start number : ℕ) → entries (owned_in mode) ps i
+      ≡ flat_lines pair_entry entry_start pair_path (pairs_at ps i start number)
   entries-are no_pairs i start number = refl
   entries-are (pair f v ps) i start number =
       ap (λ ms. line_mentions (entry_of (owned_in mode) i f v) (i + length f.leading) [] f.path ++ ms)
-      (entries-are ps (i + length (frame_text f (value_text v)) + 1) (start + length (frame_text (shown_frame mode f) (value_text (normal_value mode v))) + 1) (suc number))
+      (entries-are ps (i + length (frame_text f (value_text v)) + 1) (start
+      + length (frame_text (shown_frame mode f) (value_text (normal_value mode v))) + 1) (suc number))
 
-  pub mentions-are : (ps : Pairs) (i start number : ℕ) → pair_mentions start (normal_pairs mode ps) ≡ map normal_line (pairs_at ps i start number)
+  pub mentions-are : (ps : Pairs) (i start number : ℕ) → pair_mentions start (normal_pairs mode ps)
+      ≡ map normal_line (pairs_at ps i start number)
   mentions-are no_pairs i start number = refl
   mentions-are (pair f v ps) i start number =
       ap (λ mss. normal_line (record { frame = f; value = v; place = i; number = number; start = start }) ∷ mss)
-      (mentions-are ps (i + length (frame_text f (value_text v)) + 1) (start + length (frame_text (shown_frame mode f) (value_text (normal_value mode v))) + 1) (suc number))
+      (mentions-are ps (i + length (frame_text f (value_text v)) + 1) (start
+      + length (frame_text (shown_frame mode f) (value_text (normal_value mode v))) + 1) (suc number))
 
   pub pairs-filled : (ps : Pairs) (i start number : ℕ) → ArePairs ps → AllFilled pair_path (pairs_at ps i start number)
   pairs-filled no_pairs i start number h = tt
   pairs-filled (pair f v ps) i start number h = (
     filled-path f.path h.0.1.begins,
-    pairs-filled ps (i + length (frame_text f (value_text v)) + 1) (start + length (frame_text (shown_frame mode f) (value_text (normal_value mode v))) + 1) (suc number) h.2,
+    pairs-filled ps (i + length (frame_text f (value_text v)) + 1) (start
+        + length (frame_text (shown_frame mode f) (value_text (normal_value mode v))) + 1) (suc number) h.2,
   )
 
   pub pairs-spaced : (ps : Pairs) (i start number : ℕ) → ArePairs ps
@@ -74,11 +80,13 @@ module _ (mode : Mode) where
   pairs-spaced no_pairs i start number h = tt
   pairs-spaced (pair f v ps) i start number h = (
     h.0.0.segments,
-    pairs-spaced ps (i + length (frame_text f (value_text v)) + 1) (start + length (frame_text (shown_frame mode f) (value_text (normal_value mode v))) + 1) (suc number) h.2,
+    pairs-spaced ps (i + length (frame_text f (value_text v)) + 1) (start
+        + length (frame_text (shown_frame mode f) (value_text (normal_value mode v))) + 1) (suc number) h.2,
   )
 
   -- a pair that agrees with those after it parts ways with each
-  parts-with : (f : Frame) (source : PairSource) (first : ℕ) (ps : Pairs) (i start number at at_number : ℕ) → is_empty f.path ≡ false → ArePairs ps
+  parts-with : (f : Frame) (source : PairSource) (first : ℕ) (ps : Pairs) (i start number at at_number : ℕ) → is_empty f.path ≡ false
+      → ArePairs ps
       → list_all (agree may_meet_inline (line_mentions source first [] f.path)) (pair_mentions at ps) ≡ true
       → AllByRecursion (λ y. part_ways f.path (pair_path y) ≡ true) (pairs_at ps i start number)
   parts-with f source first no_pairs i start number at at_number full h g = tt
@@ -89,7 +97,8 @@ module _ (mode : Mode) where
       let later : ℕ = at + length (frame_text e (value_text v)) + 1 in (
         agree-parts source next first (at + length e.leading) [] f.path e.path full (filled-path e.path h.0.1.begins)
             (and_left test (list_all (agree may_meet_inline here) (pair_mentions later ps)) g),
-        parts-with f source first ps (i + length (frame_text e (value_text v)) + 1) (start + length (frame_text (shown_frame mode e) (value_text (normal_value mode v))) + 1) (suc number)
+        parts-with f source first ps (i + length (frame_text e (value_text v)) + 1) (start
+            + length (frame_text (shown_frame mode e) (value_text (normal_value mode v))) + 1) (suc number)
             later (suc at_number) full h.2 (and_right test (list_all (agree may_meet_inline here) (pair_mentions later ps)) g),
       )
 
@@ -103,7 +112,8 @@ module _ (mode : Mode) where
       let test : Bool = list_all (agree may_meet_inline (line_mentions source (at + length f.leading) [] f.path)) rest in
       let next : ℕ = i + length (frame_text f (value_text v)) + 1 in
       let next_normal : ℕ = start + length (frame_text (shown_frame mode f) (value_text (normal_value mode v))) + 1 in (
-        parts-with f source (at + length f.leading) ps next next_normal (suc number) later (suc at_number) (filled-path f.path h.0.1.begins) h.2
+        parts-with f source (at + length f.leading) ps next next_normal (suc number) later (suc at_number) (filled-path f.path h.0.1.begins)
+            h.2
             (and_left test (all_agree may_meet_inline rest) g),
         pairs-part ps next next_normal (suc number) later (suc at_number) h.2 (and_right test (all_agree may_meet_inline rest) g),
       )

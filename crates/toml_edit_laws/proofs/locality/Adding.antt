@@ -1,5 +1,6 @@
 -- A value added under a new key: one statement more, after the others of its block.
-use Rattle.std.proofs.Common.{◌≡◌, refl, sym, ◌∙◌, ap, subst, Bool, true, false, List, [], ◌∷◌, ◌++◌, append_assoc, append-nil, inl, inr, None}
+use Rattle.std.proofs.Common.{◌≡◌, refl, sym, ◌∙◌, ap, subst, Bool, true, false, List, [], ◌∷◌, ◌++◌, append_assoc, append-nil, inl, inr}
+use Rattle.std.proofs.Common.{None}
 use Rattle.std.specs.Prelude.{◌&&◌, ◌||◌, not, map}
 use Rattle.std.specs.List.{AllByRecursion}
 use Rattle.std.proofs.lemmas.List.{map-append}
@@ -13,7 +14,8 @@ use Rattle.toml_edit_model.specs.Print.{Line, table_lines, below, is_line_node, 
 use Rattle.toml_edit_model.specs.Slots.{Slot, keyed, lookup_slot}
 use Rattle.toml_edit_model.specs.Lists.{slot_list}
 use Rattle.toml_edit_laws.proofs.locality.Slots.{slots_under}
-use Rattle.toml_edit_laws.specs.Locality.{Turn, into_table, into_element, Leads, root_visit, edited, value_line, is_plain_value, has_block, OneMore, Added, element_count, texts, framed}
+use Rattle.toml_edit_laws.specs.Locality.{Turn, into_table, into_element, Leads, root_visit, edited, value_line, is_plain_value, has_block}
+use Rattle.toml_edit_laws.specs.Locality.{OneMore, Added, element_count, texts, framed}
 use Rattle.toml_edit_laws.proofs.common.Tests.{and_left, and_right, not-true, true-false}
 use Rattle.toml_edit_laws.proofs.common.PathLaws.{front-refl}
 use Rattle.toml_edit_laws.proofs.locality.Blocks.{Block, block_of, blocks, blocks-append, is_headed, block_header, block_printed}
@@ -22,7 +24,8 @@ use Rattle.toml_edit_laws.proofs.locality.Slots.{HaveOtherKeys, none-there, slot
 use Rattle.toml_edit_laws.proofs.locality.Splice.{LineSplice, BlockSplice, other-lines-out, other-blocks-out}
 use Rattle.toml_edit_laws.proofs.locality.Along.{Whole, tree_blocks, whole-tree}
 use Rattle.toml_edit_laws.proofs.locality.Sound.{Steady, SlotsAreSound, steady-parts, along-sound, sound-append}
-use Rattle.toml_edit_laws.proofs.locality.Printing.{printed_all, with_lines, printed-tree, are-outside, block-out, Parted, parted, header-same, lined, headed-behind}
+use Rattle.toml_edit_laws.proofs.locality.Printing.{printed_all, with_lines, printed-tree, are-outside, block-out, Parted, parted}
+use Rattle.toml_edit_laws.proofs.locality.Printing.{header-same, lined, headed-behind}
 use Rattle.toml_edit_laws.proofs.locality.Edited.{firm-visits, steady-same, whole-steady, stays-steady}
 use Rattle.toml_edit_laws.proofs.locality.Texts.{print-framed, edited-framed, texts-append}
 use Rattle.toml_edit_laws.proofs.locality.Values.{plain-value, plain-undotted, line-value, no-value-walk, value-sound, slot-line}
@@ -37,18 +40,21 @@ leads-keys [] s v h e = subst (λ (x : Visit). is_empty x.keys ≡ false) e h
 leads-keys (into_table k ∷ way) s v h (l, f, ss, eq, rest) =
     leads-keys way (visit_of (to_key s.path l.name) (s.keys ++ (l ∷ [])) false f ss) v (not_empty-last s.keys l) rest
 leads-keys (into_element k i ∷ way) s v h (l, e, xs, before, f, ss, after, eq, items, place, rest) =
-    leads-keys way (visit_of (to_element (to_key s.path l.name) (element_count before)) (s.keys ++ (l ∷ [])) true f ss) v (not_empty-last s.keys l) rest
+    leads-keys way (visit_of (to_element (to_key s.path l.name) (element_count before)) (s.keys ++ (l ∷ [])) true f ss) v
+    (not_empty-last s.keys l) rest
 
 leads-root : (way : List Turn) (t : Tree) (v : Visit) → Leads way (root_visit t) v → is_root v ≡ true → root_visit t ≡ v
 leads-root [] t v e h = e
 leads-root (into_table k ∷ way) t v (l, f, ss, eq, rest) h =
     true-false (is_root v) h (leads-keys way (visit_of (to_key [] l.name) (l ∷ []) false f ss) v refl rest)
 leads-root (into_element k i ∷ way) t v (l, e, xs, before, f, ss, after, eq, items, place, rest) h =
-    true-false (is_root v) h (leads-keys way (visit_of (to_element (to_key [] l.name) (element_count before)) (l ∷ []) true f ss) v refl rest)
+    true-false (is_root v) h (leads-keys way (visit_of (to_element (to_key [] l.name) (element_count before)) (l ∷ []) true f ss) v refl
+    rest)
 
 module _ (mode : Mode) where
   -- a table with a block isn't dotted
-  block-undotted : (way : List Turn) (t : Tree) (v : Visit) → t.root.is_dotted ≡ false → Leads way (root_visit t) v → has_block mode v ≡ true
+  block-undotted : (way : List Turn) (t : Tree) (v : Visit) → t.root.is_dotted ≡ false → Leads way (root_visit t) v → has_block mode v
+      ≡ true
       → v.fields.is_dotted ≡ false
   block-undotted way t v root e h = by_test (is_root v) refl h
     where
@@ -64,7 +70,8 @@ module _ (mode : Mode) where
       by_test false e g = and_right (not v.fields.is_dotted) (has_header mode v) g
 
   -- a block with one line more
-  more-line : (b : Block) (ls : List Line) (x : Line) (before after : List Printed) → ls ≡ b.lines ++ (x ∷ []) → block_header mode (with_lines b ls) ≡ block_header mode b
+  more-line : (b : Block) (ls : List Line) (x : Line) (before after : List Printed) → ls ≡ b.lines ++ (x ∷ [])
+      → block_header mode (with_lines b ls) ≡ block_header mode b
       → before ++ (block_printed mode (with_lines b ls) ++ after) ≡ before ++ (block_printed mode b ++ (printed_line mode b.path x ∷ after))
   more-line b ls x before after e d =
       ap (λ z. before ++ ((z ++ map (printed_line mode b.path) ls) ++ after)) d
@@ -96,7 +103,8 @@ module _ (mode : Mode) where
     new-line : is_line_node n ≡ true
     new-line = line-value n (plain-value n plain) (plain-undotted n plain)
 
-    more-lines : (lk : List Key) → table_lines mode (slots_under g v.slots) lk ≡ table_lines mode v.slots lk ++ (value_line mode (lk ++ (k ∷ [])) n ∷ [])
+    more-lines : (lk : List Key) → table_lines mode (slots_under g v.slots) lk ≡ table_lines mode v.slots lk
+        ++ (value_line mode (lk ++ (k ∷ [])) n ∷ [])
     more-lines lk =
         lines-append mode (slot_list v.slots) (keyed k n ∷ []) lk
         ∙ ap (λ z. table_lines mode z lk ++ (slot_lines mode k n lk ++ [])) (slots_from-list v.slots)
@@ -119,7 +127,8 @@ module _ (mode : Mode) where
           out_back = tt;
         }
 
-    edit-blocks : BlockSplice mode q itself [] [] (blocks mode (slots_walk v.slots v.path v.keys)) (blocks mode (slots_walk (slots_under g v.slots) v.path v.keys))
+    edit-blocks : BlockSplice mode q itself [] [] (blocks mode (slots_walk v.slots v.path v.keys))
+        (blocks mode (slots_walk (slots_under g v.slots) v.path v.keys))
     edit-blocks =
         let own = node_walk n q (v.keys ++ (k ∷ [])) false in
         record {
@@ -129,7 +138,8 @@ module _ (mode : Mode) where
           second = ap (λ z. map itself (blocks mode z))
               (walk-append (slot_list v.slots) (keyed k n ∷ []) v.path v.keys
               ∙ ap (λ z. slots_walk z v.path v.keys ++ (own ++ [])) (slots_from-list v.slots)
-              ∙ ap (λ z. slots_walk v.slots v.path v.keys ++ (z ++ [])) (no-value-walk n q (v.keys ++ (k ∷ [])) false (plain-value n plain)))
+              ∙ ap (λ z. slots_walk v.slots v.path v.keys ++ (z ++ [])) (no-value-walk n q (v.keys
+              ++ (k ∷ [])) false (plain-value n plain)))
               ∙ ap (map itself) (blocks-append mode (slots_walk v.slots v.path v.keys) []);
           out_front = subst (λ z. AllByRecursion (IsBlockOut q) (blocks mode (slots_walk z v.path v.keys))) (slots_from-list v.slots)
               (other-blocks-out mode q v.path k.name (front-refl q) v.keys (slot_list v.slots) others);
@@ -137,7 +147,8 @@ module _ (mode : Mode) where
         }
 
     whole : Whole mode q itself v g M N [] [] (tree_blocks mode t) (tree_blocks mode u)
-    whole = whole-tree mode q itself v g M N [] [] (at_key k.name) (front-refl q) edit-lines edit-blocks way t made (firm-visits mode t st) leads
+    whole = whole-tree mode q itself v g M N [] [] (at_key k.name) (front-refl q) edit-lines edit-blocks way t made (firm-visits mode t st)
+        leads
 
     own : (whole.block ≡ block_of mode v) × (whole.lines ≡ table_lines mode (slots_under g v.slots) []) × (whole.keys ≡ [])
     own = elim whole.own [ inl e ↦ e | inr e ↦ true-false v.fields.is_dotted e (block-undotted way t v st.root leads has) ]
@@ -180,7 +191,8 @@ module _ (mode : Mode) where
         (plain-undotted n plain, value-sound n (plain-value n plain), tt))
 
     new-steady : Steady mode u
-    new-steady = whole-steady mode q itself v g M N [] [] (λ b s. s) (λ b s. s) way t st new-sound whole (steady-same whole.block whole.lines as-before) tt
+    new-steady = whole-steady mode q itself v g M N [] [] (λ b s. s) (λ b s. s) way t st new-sound whole
+        (steady-same whole.block whole.lines as-before) tt
 
     two-blocks : Parted mode q whole.block changed_block (printed_all mode (whole.front ++ (whole.block ∷ (whole.middle ++ whole.back))))
         (printed_all mode (whole.front ++ (changed_block ∷ (whole.middle ++ whole.back))))
@@ -201,7 +213,8 @@ module _ (mode : Mode) where
     second-list =
         let p = two-blocks in
         printed-tree mode u new-steady
-        ∙ ap (printed_all mode) (sym (map-itself (tree_blocks mode u)) ∙ whole.second ∙ map-itself (whole.front ++ (changed_block ∷ (whole.middle ++ whole.back))))
+        ∙ ap (printed_all mode) (sym (map-itself (tree_blocks mode u)) ∙ whole.second
+        ∙ map-itself (whole.front ++ (changed_block ∷ (whole.middle ++ whole.back))))
         ∙ p.second ∙ more-line whole.block whole.lines new_line p.front p.back one-line (header-same mode whole.block whole.lines as-before)
         ∙ ap (λ (z : Block). p.front ++ (block_printed mode z ++ (printed_line mode z.path new_line ∷ p.back))) own.0
 
@@ -218,7 +231,8 @@ module _ (mode : Mode) where
               (block-out mode q (block_of mode v) (apart-above v.path q (at_key k.name) (front-refl q), lines-are-out v.path [] refl));
           others_after = are-outside q p.back p.out_back;
           text = print-framed mode t ∙ ap (λ z. framed mode t (texts z)) first-list
-              ∙ ap (framed mode t) (texts-append p.front (printed_table mode true v ++ p.back) ∙ ap (λ z. texts p.front ++ z) (texts-append (printed_table mode true v) p.back));
+              ∙ ap (framed mode t) (texts-append p.front (printed_table mode true v ++ p.back)
+              ∙ ap (λ z. texts p.front ++ z) (texts-append (printed_table mode true v) p.back));
           other_text = edited-framed mode way g t ∙ ap (λ z. framed mode t (texts z)) second-list
               ∙ ap (framed mode t) (texts-append p.front (printed_table mode true v ++ (printed_line mode v.path new_line ∷ p.back))
               ∙ ap (λ z. texts p.front ++ z) (texts-append (printed_table mode true v) (printed_line mode v.path new_line ∷ p.back)));

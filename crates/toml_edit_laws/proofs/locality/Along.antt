@@ -5,7 +5,8 @@ use Rattle.std.specs.List.{AllByRecursion}
 use Rattle.std.proofs.lemmas.Bool.{cases_Bool}
 use Rattle.toml_edit_model.specs.Mode.{Mode}
 use Rattle.toml_edit_model.specs.Paths.{Step, at_key, at_element, Path, to_key, to_element}
-use Rattle.toml_edit_model.specs.Tree.{Key, Extent, TableFields, Node, table, tables, Items, Slots, ItemsAreWellMade, SlotsAreWellMade, Tree}
+use Rattle.toml_edit_model.specs.Tree.{Key, Extent, TableFields, Node, table, tables, Items, Slots, ItemsAreWellMade, SlotsAreWellMade}
+use Rattle.toml_edit_model.specs.Tree.{Tree}
 use Rattle.toml_edit_model.specs.HeaderOrder.{Visit, visit_of, node_walk, items_walk, slots_walk}
 use Rattle.toml_edit_model.specs.Print.{Line, table_lines, below}
 use Rattle.toml_edit_model.specs.Slots.{Slot, keyed, on_item, changed_at}
@@ -29,7 +30,8 @@ pub leads-front : (way : List Turn) (s v : Visit) → Leads way s v → is_front
 leads-front [] s v e = subst (λ (x : Visit). is_front s.path x.path ≡ true) e (front-refl s.path)
 leads-front (into_table k ∷ way) s v (l, f, ss, e, rest) =
     let p : Path = to_key s.path l.name in
-    front-through s.path p v.path (front-more s.path (at_key l.name ∷ [])) (leads-front way (visit_of p (s.keys ++ (l ∷ [])) false f ss) v rest)
+    front-through s.path p v.path (front-more s.path (at_key l.name ∷ []))
+    (leads-front way (visit_of p (s.keys ++ (l ∷ [])) false f ss) v rest)
 leads-front (into_element k i ∷ way) s v (l, e, xs, before, f, ss, after, d, c, b, rest) =
     let r : Path = to_key s.path l.name in
     let p : Path = to_element r (element_count before) in
@@ -41,7 +43,8 @@ module _ (mode : Mode) where
   abbrev pub tree_blocks : Tree → List Block
   tree_blocks t = block_of mode (root_visit t) ∷ blocks mode (slots_walk t.slots [] [])
 
-  module _ (q : Path) (h : Block → Block) (v : Visit) (g : List (Slot Node) → List (Slot Node)) (M N : List Key → List Line) (m n : List Block) where
+  module _ (q : Path) (h : Block → Block) (v : Visit) (g : List (Slot Node) → List (Slot Node)) (M N : List Key
+      → List Line) (m n : List Block) where
     -- the lines change in the block in which the table itself has lines
     pub record Here (s : Visit) (bp : Path) (lk : List Key) (ss : Slots) : Type 0 where
       pub keys : List Key
@@ -66,7 +69,8 @@ module _ (mode : Mode) where
       pub out_front : AllByRecursion (IsBlockOut q) front
       pub out_middle : AllByRecursion (IsBlockOut q) middle
       pub out_back : AllByRecursion (IsBlockOut q) back
-      pub own : ((block ≡ block_of mode v) × (lines ≡ table_lines mode (slots_under g v.slots) []) × (keys ≡ [])) ⊎ (v.fields.is_dotted ≡ true)
+      pub own : ((block ≡ block_of mode v) × (lines ≡ table_lines mode (slots_under g v.slots) []) × (keys ≡ []))
+          ⊎ (v.fields.is_dotted ≡ true)
 
     -- the lines change in a block further below
     pub record Deep (s : Visit) (bp : Path) (lk : List Key) (ss : Slots) : Type 0 where
@@ -91,7 +95,8 @@ module _ (mode : Mode) where
           middle = w.middle;
           back = w.back ++ y;
           first = e ∙ ap (λ z. x ++ (z ++ y)) w.first ∙ regroup w.block m w;
-          second = ap (map h) d ∙ map-widened h x new (w.front ++ (other ∷ (w.middle ++ (n ++ w.back)))) y w.second ∙ ap (map h) (regroup other n w);
+          second = ap (map h) d ∙ map-widened h x new (w.front ++ (other ∷ (w.middle ++ (n ++ w.back)))) y w.second
+              ∙ ap (map h) (regroup other n w);
           out_path = w.out_path;
           out_front = all-append (IsBlockOut q) x w.front ox w.out_front;
           out_middle = w.out_middle;
@@ -99,7 +104,8 @@ module _ (mode : Mode) where
           own = w.own;
         }
       where
-        regroup : (b : Block) (p : List Block) (w : Whole old new) → x ++ ((w.front ++ (b ∷ (w.middle ++ (p ++ w.back)))) ++ y) ≡ (x ++ w.front) ++ (b ∷ (w.middle ++ (p ++ (w.back ++ y))))
+        regroup : (b : Block) (p : List Block) (w : Whole old new) → x ++ ((w.front ++ (b ∷ (w.middle ++ (p ++ w.back)))) ++ y)
+            ≡ (x ++ w.front) ++ (b ∷ (w.middle ++ (p ++ (w.back ++ y))))
         regroup b p w = simp append_assoc
 
     -- a table that isn't dotted has the block that changes, or it is further below
@@ -130,7 +136,8 @@ module _ (mode : Mode) where
     close s ss out (inr d) =
         let w = d.whole in
         let other : Block = record w.block { lines = w.lines } in
-        let stays : block_of mode (visit_of s.path s.keys s.is_element s.fields ss) ≡ block_of mode s = ap (λ z. record (block_of mode s) { lines = z }) d.same in
+        let stays : block_of mode (visit_of s.path s.keys s.is_element s.fields ss) ≡ block_of mode s =
+        ap (λ z. record (block_of mode s) { lines = z }) d.same in
         record {
           block = w.block;
           lines = w.lines;
@@ -153,7 +160,8 @@ module _ (mode : Mode) where
 
     module _ (s : Visit) (bp : Path) (lk : List Key) (l : Key) (new : Slots) where
       -- into a dotted table: its lines are of the same block
-      dotted-step : (f : TableFields) (ss us : Slots) → f.is_dotted ≡ true → Around mode q s bp lk (keyed l (table f ss)) (keyed l (table f us)) new
+      dotted-step : (f : TableFields) (ss us : Slots) → f.is_dotted ≡ true
+          → Around mode q s bp lk (keyed l (table f ss)) (keyed l (table f us)) new
           → Changes (visit_of (to_key s.path l.name) (s.keys ++ (l ∷ [])) false f ss) bp (lk ++ (l ∷ [])) us
           → Changes s bp lk new
       dotted-step f ss us e a (inl c) =
@@ -163,14 +171,17 @@ module _ (mode : Mode) where
           inl (record {
             keys = c.keys;
             at = c.at;
-            lines = widen-lines mode q bp (M c.keys) (N c.keys) (table_lines mode ss deeper) (table_lines mode us deeper) a.lines_front a.lines_back (table_lines mode s.slots lk) (table_lines mode new lk)
+            lines = widen-lines mode q bp (M c.keys) (N c.keys) (table_lines mode ss deeper) (table_lines mode us deeper) a.lines_front
+                a.lines_back (table_lines mode s.slots lk) (table_lines mode new lk)
                 (a.old_lines ∙ ap (λ b. a.lines_front ++ ((if b then table_lines mode ss deeper else []) ++ a.lines_back)) e)
                 (a.new_lines ∙ ap (λ b. a.lines_front ++ ((if b then table_lines mode us deeper else []) ++ a.lines_back)) e)
                 a.out_lines_front a.out_lines_back c.lines;
             below_it = widen-blocks mode q h m n (blocks mode (slots_walk ss p ks)) (blocks mode (slots_walk us p ks)) a.front a.back
                 (blocks mode (slots_walk s.slots s.path s.keys)) (blocks mode (slots_walk new s.path s.keys))
-                (a.old_blocks ∙ ap (λ b. a.front ++ ((if b then blocks mode (slots_walk ss p ks) else block_of mode (visit_of p ks false f ss) ∷ blocks mode (slots_walk ss p ks)) ++ a.back)) e)
-                (a.new_blocks ∙ ap (λ b. a.front ++ ((if b then blocks mode (slots_walk us p ks) else block_of mode (visit_of p ks false f us) ∷ blocks mode (slots_walk us p ks)) ++ a.back)) e)
+                (a.old_blocks ∙ ap (λ b. a.front ++ ((if b then blocks mode (slots_walk ss p ks)
+                else block_of mode (visit_of p ks false f ss) ∷ blocks mode (slots_walk ss p ks)) ++ a.back)) e)
+                (a.new_blocks ∙ ap (λ b. a.front ++ ((if b then blocks mode (slots_walk us p ks)
+                else block_of mode (visit_of p ks false f us) ∷ blocks mode (slots_walk us p ks)) ++ a.back)) e)
                 a.out_front a.out_back c.below_it;
             own = elim c.own [
               | inl d ↦ inr (subst (λ (x : Visit). x.fields.is_dotted ≡ true) d.0 e)
@@ -191,8 +202,10 @@ module _ (mode : Mode) where
                 (all-append (IsLineOut q bp) (table_lines mode ss deeper) a.lines_back d.out a.out_lines_back));
             whole = widen-whole (blocks mode (slots_walk ss p ks)) (blocks mode (slots_walk us p ks)) a.front a.back
                 (blocks mode (slots_walk s.slots s.path s.keys)) (blocks mode (slots_walk new s.path s.keys))
-                (a.old_blocks ∙ ap (λ b. a.front ++ ((if b then blocks mode (slots_walk ss p ks) else block_of mode (visit_of p ks false f ss) ∷ blocks mode (slots_walk ss p ks)) ++ a.back)) e)
-                (a.new_blocks ∙ ap (λ b. a.front ++ ((if b then blocks mode (slots_walk us p ks) else block_of mode (visit_of p ks false f us) ∷ blocks mode (slots_walk us p ks)) ++ a.back)) e)
+                (a.old_blocks ∙ ap (λ b. a.front ++ ((if b then blocks mode (slots_walk ss p ks)
+                else block_of mode (visit_of p ks false f ss) ∷ blocks mode (slots_walk ss p ks)) ++ a.back)) e)
+                (a.new_blocks ∙ ap (λ b. a.front ++ ((if b then blocks mode (slots_walk us p ks)
+                else block_of mode (visit_of p ks false f us) ∷ blocks mode (slots_walk us p ks)) ++ a.back)) e)
                 a.out_front a.out_back d.whole;
           })
 
@@ -203,17 +216,21 @@ module _ (mode : Mode) where
           → blocks mode (node_walk z.item (to_key s.path z.key.name) (s.keys ++ (z.key ∷ [])) false) ≡ other
           → Whole old other → Deep s bp lk new
       deep-step y z old other a ey ez by bz w =
-          let was : table_lines mode s.slots lk ≡ a.lines_front ++ a.lines_back = a.old_lines ∙ ap (λ x. a.lines_front ++ (x ++ a.lines_back)) ey in
+          let was : table_lines mode s.slots lk ≡ a.lines_front ++ a.lines_back = a.old_lines
+          ∙ ap (λ x. a.lines_front ++ (x ++ a.lines_back)) ey in
           record {
             same = a.new_lines ∙ ap (λ x. a.lines_front ++ (x ++ a.lines_back)) ez ∙ sym was;
-            out = subst (λ x. AllByRecursion (IsLineOut q bp) x) (sym was) (all-append (IsLineOut q bp) a.lines_front a.lines_back a.out_lines_front a.out_lines_back);
-            whole = widen-whole old other a.front a.back (blocks mode (slots_walk s.slots s.path s.keys)) (blocks mode (slots_walk new s.path s.keys))
+            out = subst (λ x. AllByRecursion (IsLineOut q bp) x) (sym was)
+                (all-append (IsLineOut q bp) a.lines_front a.lines_back a.out_lines_front a.out_lines_back);
+            whole = widen-whole old other a.front a.back (blocks mode (slots_walk s.slots s.path s.keys))
+                (blocks mode (slots_walk new s.path s.keys))
                 (a.old_blocks ∙ ap (λ x. a.front ++ (x ++ a.back)) by) (a.new_blocks ∙ ap (λ x. a.front ++ (x ++ a.back)) bz)
                 a.out_front a.out_back w;
           }
 
       -- into a table with a block of its own
-      table-step : (f : TableFields) (ss us : Slots) → f.is_dotted ≡ false → Around mode q s bp lk (keyed l (table f ss)) (keyed l (table f us)) new
+      table-step : (f : TableFields) (ss us : Slots) → f.is_dotted ≡ false
+          → Around mode q s bp lk (keyed l (table f ss)) (keyed l (table f us)) new
           → is_front q (to_key s.path l.name) ≡ false
           → Changes (visit_of (to_key s.path l.name) (s.keys ++ (l ∷ [])) false f ss) (to_key s.path l.name) [] us
           → Deep s bp lk new
@@ -221,11 +238,14 @@ module _ (mode : Mode) where
           let p : Path = to_key s.path l.name in
           let ks : List Key = s.keys ++ (l ∷ []) in
           let deeper : List Key = lk ++ (l ∷ []) in
-          deep-step (keyed l (table f ss)) (keyed l (table f us)) (block_of mode (visit_of p ks false f ss) ∷ blocks mode (slots_walk ss p ks)) (block_of mode (visit_of p ks false f us) ∷ blocks mode (slots_walk us p ks)) a
+          deep-step (keyed l (table f ss)) (keyed l (table f us)) (block_of mode (visit_of p ks false f ss)
+          ∷ blocks mode (slots_walk ss p ks)) (block_of mode (visit_of p ks false f us) ∷ blocks mode (slots_walk us p ks)) a
           (if-false f.is_dotted (table_lines mode ss deeper) [] e)
           (if-false f.is_dotted (table_lines mode us deeper) [] e)
-          (if-false f.is_dotted (blocks mode (slots_walk ss p ks)) (block_of mode (visit_of p ks false f ss) ∷ blocks mode (slots_walk ss p ks)) e)
-          (if-false f.is_dotted (blocks mode (slots_walk us p ks)) (block_of mode (visit_of p ks false f us) ∷ blocks mode (slots_walk us p ks)) e)
+          (if-false f.is_dotted (blocks mode (slots_walk ss p ks)) (block_of mode (visit_of p ks false f ss)
+          ∷ blocks mode (slots_walk ss p ks)) e)
+          (if-false f.is_dotted (blocks mode (slots_walk us p ks)) (block_of mode (visit_of p ks false f us)
+          ∷ blocks mode (slots_walk us p ks)) e)
           (close (visit_of p ks false f ss) us out c)
 
       -- into an element
@@ -239,9 +259,12 @@ module _ (mode : Mode) where
           → Deep s bp lk new
       element-step e xs before f ss us after d ex a above out c =
           let other : Items = items_from (before ++ (table f us ∷ after)) in
-          deep-step (keyed l (tables e xs)) (keyed l (tables e other)) (blocks mode (items_walk xs r ks 0)) (blocks mode (items_walk other r ks 0)) a refl refl refl refl
-          (widen-whole (block_of mode (visit_of p ks true f ss) ∷ blocks mode (slots_walk ss p ks)) (block_of mode (visit_of p ks true f us) ∷ blocks mode (slots_walk us p ks))
-          (blocks mode (items_walk (items_from before) r ks 0)) (blocks mode (items_walk (items_from after) r ks (suc (element_count before))))
+          deep-step (keyed l (tables e xs)) (keyed l (tables e other)) (blocks mode (items_walk xs r ks 0))
+          (blocks mode (items_walk other r ks 0)) a refl refl refl refl
+          (widen-whole (block_of mode (visit_of p ks true f ss) ∷ blocks mode (slots_walk ss p ks)) (block_of mode (visit_of p ks true f us)
+          ∷ blocks mode (slots_walk us p ks))
+          (blocks mode (items_walk (items_from before) r ks 0))
+          (blocks mode (items_walk (items_from after) r ks (suc (element_count before))))
           (blocks mode (items_walk xs r ks 0)) (blocks mode (items_walk other r ks 0))
           (ap (λ z. blocks mode (items_walk z r ks 0)) ex ∙ split ss) (split us)
           (earlier-out mode q r (element_count before) above before ks 0 (omega (arith, count)))
@@ -262,22 +285,29 @@ module _ (mode : Mode) where
 
           split : (ss : Slots) → blocks mode (items_walk (items_from (before ++ (table f ss ∷ after))) r ks 0)
               ≡ blocks mode (items_walk (items_from before) r ks 0)
-              ++ ((block_of mode (visit_of p ks true f ss) ∷ blocks mode (slots_walk ss p ks)) ++ blocks mode (items_walk (items_from after) r ks (suc (element_count before))))
+              ++ ((block_of mode (visit_of p ks true f ss) ∷ blocks mode (slots_walk ss p ks))
+              ++ blocks mode (items_walk (items_from after) r ks (suc (element_count before))))
           split ss =
               let here : ℕ → List Visit = λ z. visit_of (to_element r z) ks true f ss ∷ slots_walk ss (to_element r z) ks in
               ap (blocks mode) (items-append before (table f ss ∷ after) r ks 0)
-              ∙ ap (λ z. blocks mode (items_walk (items_from before) r ks 0 ++ (here z ++ items_walk (items_from after) r ks (suc z)))) count
-              ∙ blocks-append mode (items_walk (items_from before) r ks 0) (here (element_count before) ++ items_walk (items_from after) r ks (suc (element_count before)))
-              ∙ ap (λ z. blocks mode (items_walk (items_from before) r ks 0) ++ z) (blocks-append mode (here (element_count before)) (items_walk (items_from after) r ks (suc (element_count before))))
-              ∙ ap (λ z. blocks mode (items_walk (items_from before) r ks 0) ++ (z ++ blocks mode (items_walk (items_from after) r ks (suc (element_count before)))))
-              (if-false f.is_dotted (blocks mode (slots_walk ss p ks)) (block_of mode (visit_of p ks true f ss) ∷ blocks mode (slots_walk ss p ks)) d)
+              ∙ ap (λ z. blocks mode (items_walk (items_from before) r ks 0 ++ (here z ++ items_walk (items_from after) r ks (suc z))))
+              count
+              ∙ blocks-append mode (items_walk (items_from before) r ks 0) (here (element_count before)
+              ++ items_walk (items_from after) r ks (suc (element_count before)))
+              ∙ ap (λ z. blocks mode (items_walk (items_from before) r ks 0)
+              ++ z) (blocks-append mode (here (element_count before)) (items_walk (items_from after) r ks (suc (element_count before))))
+              ∙ ap (λ z. blocks mode (items_walk (items_from before) r ks 0)
+              ++ (z ++ blocks mode (items_walk (items_from after) r ks (suc (element_count before)))))
+              (if-false f.is_dotted (blocks mode (slots_walk ss p ks)) (block_of mode (visit_of p ks true f ss)
+              ∷ blocks mode (slots_walk ss p ks)) d)
 
     -- ---- the whole way
 
     module _ (x : Step) (above : is_front (v.path ++ (x ∷ [])) q ≡ true)
         (edit_lines : (bp : Path) (lk : List Key) → below bp lk ≡ v.path
         → LineSplice mode q bp (M lk) (N lk) (table_lines mode v.slots lk) (table_lines mode (slots_under g v.slots) lk))
-        (edit_blocks : BlockSplice mode q h m n (blocks mode (slots_walk v.slots v.path v.keys)) (blocks mode (slots_walk (slots_under g v.slots) v.path v.keys))) where
+        (edit_blocks : BlockSplice mode q h m n (blocks mode (slots_walk v.slots v.path v.keys))
+        (blocks mode (slots_walk (slots_under g v.slots) v.path v.keys))) where
       leads-above : (way : List Turn) (s : Visit) → Leads way s v → is_front s.path q ≡ true
       leads-above way s e =
           front-through s.path (v.path ++ (x ∷ [])) q
@@ -287,10 +317,12 @@ module _ (mode : Mode) where
       leads-out way s e =
           false-by (is_front q s.path)
           (λ d. true-false (is_front (v.path ++ (x ∷ [])) v.path)
-          (front-through (v.path ++ (x ∷ [])) q v.path above (front-through q s.path v.path d (leads-front way s v e))) (not-longer v.path x))
+          (front-through (v.path ++ (x ∷ [])) q v.path above (front-through q s.path v.path d (leads-front way s v e)))
+          (not-longer v.path x))
 
       pub along-changes : (way : List Turn) (s : Visit) (bp : Path) (lk : List Key) → below bp lk ≡ s.path → SlotsAreWellMade s.slots
-          → AllByRecursion IsFirmVisit (slots_walk s.slots s.path s.keys) → Leads way s v → Changes s bp lk (slots_under (along way g) s.slots)
+          → AllByRecursion IsFirmVisit (slots_walk s.slots s.path s.keys) → Leads way s v
+          → Changes s bp lk (slots_under (along way g) s.slots)
       along-changes [] s bp lk at w firm e =
           subst (λ (s : Visit). below bp lk ≡ s.path → Changes s bp lk (slots_under g s.slots)) (sym e)
           (λ at. inl (record { keys = lk; at = at; lines = edit_lines bp lk at; below_it = edit_blocks; own = inl (refl, refl, refl) })) at
@@ -302,8 +334,10 @@ module _ (mode : Mode) where
           let fd : Found k (keyed l (table f ss)) (slot_list s.slots) = found k s.slots (keyed l (table f ss)) w eq in
           let new : Slots = slots_under (along (into_table k ∷ way) g) s.slots in
           let a : Around mode q s bp lk (keyed l (table f ss)) (keyed l (table f us)) new =
-          around mode q s bp lk k (keyed l (table f ss)) (keyed l (table f us)) new at (leads-above way t rest) fd (ap slots_from (fd.change (on_item (on_slots (along way g))))) in
-          let firmer : AllByRecursion IsFirmVisit (slots_walk ss p ks) = (node-all IsFirmVisit k (keyed l (table f ss)) s.slots s.path s.keys fd firm).1 in
+          around mode q s bp lk k (keyed l (table f ss)) (keyed l (table f us)) new at (leads-above way t rest) fd
+          (ap slots_from (fd.change (on_item (on_slots (along way g))))) in
+          let firmer : AllByRecursion IsFirmVisit (slots_walk ss p ks) =
+          (node-all IsFirmVisit k (keyed l (table f ss)) s.slots s.path s.keys fd firm).1 in
           elim (cases_Bool f.is_dotted) [
             | inl d ↦ dotted-step s bp lk l new f ss us d a
                 (along-changes way t bp (lk ++ (l ∷ [])) (below-last bp lk l ∙ ap (λ z. to_key z l.name) at) fd.made firmer rest)
@@ -319,21 +353,30 @@ module _ (mode : Mode) where
           let new : Slots = slots_under (along (into_element k i ∷ way) g) s.slots in
           let ex : xs ≡ items_from (before ++ (table f ss ∷ after)) = sym (items_from-list xs) ∙ ap items_from items in
           let other : items_under (changed_at i (on_slots (along way g))) xs ≡ items_from (before ++ (table f us ∷ after)) =
-          ap (λ z. items_from (changed_at i (on_slots (along way g)) z)) items ∙ ap items_from (change-item before (table f ss) after i (on_slots (along way g)) place) in
+          ap (λ z. items_from (changed_at i (on_slots (along way g)) z)) items
+          ∙ ap items_from (change-item before (table f ss) after i (on_slots (along way g)) place) in
           let is_new : new ≡ slots_from (fd.front ++ ((keyed l (tables e (items_from (before ++ (table f us ∷ after))))) ∷ fd.back)) =
           ap slots_from (fd.change (on_item (on_items (changed_at i (on_slots (along way g))))))
           ∙ ap (λ z. slots_from (fd.front ++ (keyed l (tables e z) ∷ fd.back))) other in
-          let higher : is_front r q ≡ true = front-through r p q (front-more r (at_element (element_count before) ∷ [])) (leads-above way t rest) in
+          let higher : is_front r q ≡ true =
+          front-through r p q (front-more r (at_element (element_count before) ∷ [])) (leads-above way t rest) in
           let a : Around mode q s bp lk (keyed l (tables e xs)) (keyed l (tables e (items_from (before ++ (table f us ∷ after))))) new =
-          around mode q s bp lk k (keyed l (tables e xs)) (keyed l (tables e (items_from (before ++ (table f us ∷ after))))) new at higher fd is_new in
+          around mode q s bp lk k (keyed l (tables e xs)) (keyed l (tables e (items_from (before ++ (table f us ∷ after))))) new at higher
+          fd is_new in
           let inside : AllByRecursion IsFirmVisit (items_walk (items_from (before ++ (table f ss ∷ after))) r ks 0) =
-          subst (λ z. AllByRecursion IsFirmVisit (items_walk z r ks 0)) ex (node-all IsFirmVisit k (keyed l (tables e xs)) s.slots s.path s.keys fd firm) in
-          let count : counted 0 before ≡ element_count before = (let n : counted 0 before ≡ 0 + element_count before = counted-more 0 before in omega arith) in
-          let mine : AllByRecursion IsFirmVisit ((t ∷ slots_walk ss p ks) ++ items_walk (items_from after) r ks (suc (element_count before))) =
-          subst (λ z. AllByRecursion IsFirmVisit ((visit_of (to_element r z) ks true f ss ∷ slots_walk ss (to_element r z) ks) ++ items_walk (items_from after) r ks (suc z))) count
-          (all-back IsFirmVisit (items_walk (items_from before) r ks 0) (items_walk (items_from (table f ss ∷ after)) r ks (counted 0 before))
+          subst (λ z. AllByRecursion IsFirmVisit (items_walk z r ks 0)) ex
+          (node-all IsFirmVisit k (keyed l (tables e xs)) s.slots s.path s.keys fd firm) in
+          let count : counted 0 before ≡ element_count before =
+          (let n : counted 0 before ≡ 0 + element_count before = counted-more 0 before in omega arith) in
+          let mine : AllByRecursion IsFirmVisit ((t ∷ slots_walk ss p ks)
+          ++ items_walk (items_from after) r ks (suc (element_count before))) =
+          subst (λ z. AllByRecursion IsFirmVisit ((visit_of (to_element r z) ks true f ss ∷ slots_walk ss (to_element r z) ks)
+          ++ items_walk (items_from after) r ks (suc z))) count
+          (all-back IsFirmVisit (items_walk (items_from before) r ks 0)
+          (items_walk (items_from (table f ss ∷ after)) r ks (counted 0 before))
           (subst (λ z. AllByRecursion IsFirmVisit z) (items-append before (table f ss ∷ after) r ks 0) inside)) in
-          let firmer : AllByRecursion IsFirmVisit (slots_walk ss p ks) = all-front IsFirmVisit (slots_walk ss p ks) (items_walk (items_from after) r ks (suc (element_count before))) mine.1 in
+          let firmer : AllByRecursion IsFirmVisit (slots_walk ss p ks) =
+          all-front IsFirmVisit (slots_walk ss p ks) (items_walk (items_from after) r ks (suc (element_count before))) mine.1 in
           let made : SlotsAreWellMade ss = item-made before (table f ss) after (subst ItemsAreWellMade ex fd.made) in
           inr (element-step s bp lk l new e xs before f ss us after mine.0 ex a (leads-above way t rest) (leads-out way t rest)
           (along-changes way t p [] refl made firmer rest))
@@ -342,4 +385,5 @@ module _ (mode : Mode) where
       pub whole-tree : (way : List Turn) (t : Tree) → SlotsAreWellMade t.slots → AllByRecursion IsFirmVisit (slots_walk t.slots [] [])
           → Leads way (root_visit t) v → Whole (tree_blocks t) (tree_blocks (edited way g t))
       whole-tree way t w firm e =
-          close (root_visit t) (slots_under (along way g) t.slots) (leads-out way (root_visit t) e) (along-changes way (root_visit t) [] [] refl w firm e)
+          close (root_visit t) (slots_under (along way g) t.slots) (leads-out way (root_visit t) e)
+          (along-changes way (root_visit t) [] [] refl w firm e)

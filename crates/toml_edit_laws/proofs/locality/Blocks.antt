@@ -8,7 +8,9 @@ use Rattle.toml_edit_model.specs.Syntax.{Header, header}
 use Rattle.toml_edit_model.specs.Paths.{Path}
 use Rattle.toml_edit_model.specs.Tree.{Raw, owned, span, Key, TableFields, no_slots, Tree, shown_suffix, shown_side}
 use Rattle.toml_edit_model.specs.HeaderOrder.{Visit, visit_of, slots_walk, walk, PlacedVisit, place_of, places_from, is_root, comes_before}
-use Rattle.toml_edit_model.specs.Print.{Line, last_leaf, segments, lines_of, has_header, is_lifted, key_prefix, lifted_prefix, header_default, header_suffix, header_of, header_statement, Printed, printed_line, printed_table, printed_tables, printed}
+use Rattle.toml_edit_model.specs.Print.{Line, last_leaf, segments, lines_of, has_header, is_lifted, key_prefix, lifted_prefix}
+use Rattle.toml_edit_model.specs.Print.{header_default, header_suffix, header_of, header_statement, Printed, printed_line, printed_table}
+use Rattle.toml_edit_model.specs.Print.{printed_tables, printed}
 use Rattle.toml_edit_model.specs.Fits.{has_own_prefix, has_steady_header}
 use Rattle.toml_edit_laws.specs.Locality.{root_visit}
 use Rattle.toml_edit_laws.proofs.common.Tests.{and_left, and_right, if-false}
@@ -51,7 +53,8 @@ all-places P seen (v ∷ vs) h = by_test v.fields.is_dotted refl (all-places P s
   where
     by_test : (b : Bool) → v.fields.is_dotted ≡ b → AllByRecursion (λ (p : PlacedVisit). P p.1) (places_from seen vs)
         → AllByRecursion (λ (p : PlacedVisit). P p.1) (places_from (place_of seen v) vs)
-        → AllByRecursion (λ (p : PlacedVisit). P p.1) (if b then places_from seen vs else (place_of seen v, v) ∷ places_from (place_of seen v) vs)
+        → AllByRecursion (λ (p : PlacedVisit). P p.1) (if b then places_from seen vs else (place_of seen v, v)
+        ∷ places_from (place_of seen v) vs)
     by_test true e x y = x
     by_test false e x y = (h.0 e, y)
 
@@ -73,7 +76,8 @@ module _ (mode : Mode) where
   blocks-append (v ∷ vs) ws = by_test v.fields.is_dotted (blocks-append vs ws)
     where
       by_test : (b : Bool) → blocks (vs ++ ws) ≡ blocks vs ++ blocks ws
-          → (if b then blocks (vs ++ ws) else block_of v ∷ blocks (vs ++ ws)) ≡ (if b then blocks vs else block_of v ∷ blocks vs) ++ blocks ws
+          → (if b then blocks (vs ++ ws) else block_of v ∷ blocks (vs ++ ws)) ≡ (if b then blocks vs else block_of v ∷ blocks vs)
+          ++ blocks ws
       by_test true e = e
       by_test false e = ap (λ bs. block_of v ∷ bs) e
 
@@ -130,7 +134,8 @@ module _ (mode : Mode) where
   abbrev placed_printed : PlacedVisit → List Printed
   placed_printed p = block_printed (block_of p.1)
 
-  tables-same : (d : Bool) (ps : List PlacedVisit) → AllByRecursion (λ p. IsSteadyBlock (block_of p.1)) ps → printed_tables mode d ps ≡ flat_map placed_printed ps
+  tables-same : (d : Bool) (ps : List PlacedVisit) → AllByRecursion (λ p. IsSteadyBlock (block_of p.1)) ps → printed_tables mode d ps
+      ≡ flat_map placed_printed ps
   tables-same d [] h = refl
   tables-same d (p ∷ ps) h =
       ap (λ xs. xs ++ printed_tables mode (d && is_empty (printed_table mode d p.1)) ps) (table-same d p.1 h.0)
@@ -163,7 +168,8 @@ module _ (mode : Mode) where
             b.0,
             own-place seen v.fields.position
                 (and_left (is_some v.fields.position) (has_own_prefix v.fields.decor.prefix)
-                (and_left (is_some v.fields.position && has_own_prefix v.fields.decor.prefix) (v.is_element || not v.fields.is_implicit) s)),
+                (and_left (is_some v.fields.position && has_own_prefix v.fields.decor.prefix) (v.is_element
+                || not v.fields.is_implicit) s)),
           ) in
           rw e (mine, y)
       by_test false false s x y e = rw e y
@@ -172,14 +178,17 @@ module _ (mode : Mode) where
   abbrev block_at : PlacedVisit → Block
   block_at p = block_of p.1
 
-  blocks-in_places : (seen : ℤ) (vs : List Visit) → map block_at (filter has_placed_header (places_from seen vs)) ≡ filter is_headed (blocks vs)
+  blocks-in_places : (seen : ℤ) (vs : List Visit) → map block_at (filter has_placed_header (places_from seen vs))
+      ≡ filter is_headed (blocks vs)
   blocks-in_places seen [] = refl
-  blocks-in_places seen (v ∷ vs) = by_test v.fields.is_dotted (has_header mode v) refl (blocks-in_places seen vs) (blocks-in_places (place_of seen v) vs)
+  blocks-in_places seen (v ∷ vs) =
+      by_test v.fields.is_dotted (has_header mode v) refl (blocks-in_places seen vs) (blocks-in_places (place_of seen v) vs)
     where
       by_test : (d c : Bool) → has_header mode v ≡ c
           → map block_at (filter has_placed_header (places_from seen vs)) ≡ filter is_headed (blocks vs)
           → map block_at (filter has_placed_header (places_from (place_of seen v) vs)) ≡ filter is_headed (blocks vs)
-          → map block_at (filter has_placed_header (if d then places_from seen vs else (place_of seen v, v) ∷ places_from (place_of seen v) vs))
+          → map block_at (filter has_placed_header (if d then places_from seen vs else (place_of seen v, v)
+          ∷ places_from (place_of seen v) vs))
           ≡ filter is_headed (if d then blocks vs else block_of v ∷ blocks vs)
       by_test true c e x y = x
       by_test false true e x y = rw e (ap (λ bs. block_of v ∷ bs) y)
@@ -189,10 +198,12 @@ module _ (mode : Mode) where
 
   no-lines : (b : Block) → is_empty b.keys ≡ false → is_headed b ≡ false → block_printed b ≡ []
   no-lines b r h =
-      ap (λ xs. xs ++ map (printed_line mode b.path) b.lines) (if-false (is_headed b) (record { block = b.path; path = b.path; statement = header_statement mode true (bare b) } ∷ []) [] h)
+      ap (λ xs. xs ++ map (printed_line mode b.path) b.lines)
+      (if-false (is_headed b) (record { block = b.path; path = b.path; statement = header_statement mode true (bare b) } ∷ []) [] h)
       ∙ no_lines b.lines (is-empty b.lines h)
     where
-      is-empty : (ls : List Line) → (not (is_empty b.keys) && (b.is_element || not (b.fields.is_implicit && is_empty ls))) ≡ false → is_empty ls ≡ true
+      is-empty : (ls : List Line) → (not (is_empty b.keys) && (b.is_element || not (b.fields.is_implicit && is_empty ls))) ≡ false
+          → is_empty ls ≡ true
       is-empty [] g = refl
       is-empty (l ∷ ls) g = by_tests (is_empty b.keys) b.is_element b.fields.is_implicit r g
         where
@@ -212,7 +223,8 @@ module _ (mode : Mode) where
   drop-unheaded (p ∷ ps) h = by_test (has_header mode p.1) refl (drop-unheaded ps h.1)
     where
       by_test : (c : Bool) → has_header mode p.1 ≡ c → flat_map placed_printed ps ≡ flat_map placed_printed (filter has_placed_header ps)
-          → placed_printed p ++ flat_map placed_printed ps ≡ flat_map placed_printed (if c then p ∷ filter has_placed_header ps else filter has_placed_header ps)
+          → placed_printed p ++ flat_map placed_printed ps ≡ flat_map placed_printed (if c then p ∷ filter has_placed_header ps
+          else filter has_placed_header ps)
       by_test true e ih = ap (λ xs. placed_printed p ++ xs) ih
       by_test false e ih = ap (λ xs. xs ++ flat_map placed_printed ps) (no-lines (block_of p.1) h.0 e) ∙ ih
 
@@ -222,13 +234,15 @@ module _ (mode : Mode) where
   flat-at [] = refl
   flat-at (p ∷ ps) = ap (λ xs. placed_printed p ++ xs) (flat-at ps)
 
-  same-order : (ps : List PlacedVisit) → AllByRecursion IsOwnPlace ps → map block_at (sorted_by comes_before ps) ≡ sorted_by stands_first (map block_at ps)
+  same-order : (ps : List PlacedVisit) → AllByRecursion IsOwnPlace ps → map block_at (sorted_by comes_before ps)
+      ≡ sorted_by stands_first (map block_at ps)
   same-order ps h =
       ap (λ xs. map block_at xs) (sorted-alike IsOwnPlace comes_before (λ p q. stands_first (block_at p) (block_at q)) agree ps h)
       ∙ sym (sorted-image block_at stands_first ps)
     where
       agree : (p q : PlacedVisit) → IsOwnPlace p → IsOwnPlace q → comes_before p q ≡ stands_first (block_at p) (block_at q)
-      agree p q x y = by_tests (is_root p.1) (is_root q.1) x.0 y.0 ∙ ap (λ z. int_le z q.0) x.1 ∙ ap (λ z. int_le (place (block_of p.1)) z) y.1
+      agree p q x y = by_tests (is_root p.1) (is_root q.1) x.0 y.0 ∙ ap (λ z. int_le z q.0) x.1
+          ∙ ap (λ z. int_le (place (block_of p.1)) z) y.1
         where
           by_tests : (r s : Bool) → r ≡ false → s ≡ false → (r || (not s && int_le p.0 q.0)) ≡ int_le p.0 q.0
           by_tests false false d e = refl
@@ -243,7 +257,8 @@ module _ (mode : Mode) where
       let ps : List PlacedVisit = places_from seen vs in
       let steady : AllByRecursion (λ (p : PlacedVisit). IsSteadyBlock (block_of p.1)) ps =
       all-places (λ v. IsSteadyBlock (block_of v)) seen vs
-      (all-map IsSteadyTable (λ v. v.fields.is_dotted ≡ false → IsSteadyBlock (block_of v)) vs (λ v s e. undotted v.fields.is_dotted (has_header mode v) (has_steady_header v) e s) h) in
+      (all-map IsSteadyTable (λ v. v.fields.is_dotted ≡ false
+      → IsSteadyBlock (block_of v)) vs (λ v s e. undotted v.fields.is_dotted (has_header mode v) (has_steady_header v) e s) h) in
       let below : AllByRecursion (λ (p : PlacedVisit). is_root p.1 ≡ false) ps =
       all-places IsBelowRoot seen vs (all-map IsBelowRoot (λ v. v.fields.is_dotted ≡ false → IsBelowRoot v) vs (λ v s e. s) b) in
       tables-same d (sorted_by comes_before ps) (all-sorted (λ (p : PlacedVisit). IsSteadyBlock (block_of p.1)) comes_before ps steady)
@@ -262,7 +277,8 @@ module _ (mode : Mode) where
   printed-steady t d h =
       let vs : List Visit = slots_walk t.slots [] [] in
       let z : ℤ = place_of (pos 0) (root_visit t) in
-      ap (λ b. printed_tables mode true (sorted_by comes_before (if b then places_from (pos 0) vs else (z, root_visit t) ∷ places_from z vs))) d
+      ap (λ b. printed_tables mode true (sorted_by comes_before (if b then places_from (pos 0) vs else (z, root_visit t)
+      ∷ places_from z vs))) d
       ∙ ap (λ ps. printed_tables mode true ps) (root-first (z, root_visit t) (sorted_by comes_before (places_from z vs)) refl)
       ∙ ap (λ xs. printed_table mode true (root_visit t) ++ xs)
       (printed-walk z (is_empty (printed_table mode true (root_visit t))) vs (slots-below t.slots [] []) h.1)

@@ -25,17 +25,20 @@ pub not-there : (k : Text) (ss : List (Slot Node)) → lookup_slot k ss ≡ None
 not-there k [] h = refl
 not-there k (x ∷ ss) h = by_test (same_text k x.key.name) h (not-there k ss)
   where
-    by_test : (b : Bool) → (if b then Some x else lookup_slot k ss) ≡ None → (lookup_slot k ss ≡ None → has_slot k ss ≡ false) → (b || has_slot k ss) ≡ false
+    by_test : (b : Bool) → (if b then Some x else lookup_slot k ss) ≡ None → (lookup_slot k ss ≡ None → has_slot k ss ≡ false)
+        → (b || has_slot k ss) ≡ false
     by_test true g ih = absurd cc
     by_test false g ih = ih g
 
-put-there : (f : Slot Node → Slot Node) (s : Slot Node) (ss : List (Slot Node)) → has_slot s.key.name ss ≡ true → put f s ss ≡ changed s.key.name f ss
+put-there : (f : Slot Node → Slot Node) (s : Slot Node) (ss : List (Slot Node)) → has_slot s.key.name ss ≡ true → put f s ss
+    ≡ changed s.key.name f ss
 put-there f s ss h = if-true (has_slot s.key.name ss) (changed s.key.name f ss) (ss ++ one s) h
 
 put-new : (f : Slot Node → Slot Node) (s : Slot Node) (ss : List (Slot Node)) → has_slot s.key.name ss ≡ false → put f s ss ≡ ss ++ one s
 put-new f s ss h = if-false (has_slot s.key.name ss) (changed s.key.name f ss) (ss ++ one s) h
 
-pub write-last : (k : Key) (m n : Node) (ss : List (Slot Node)) → has_slot k.name ss ≡ false → changed k.name (with_item n) (ss ++ one (keyed k m)) ≡ ss ++ one (keyed k n)
+pub write-last : (k : Key) (m n : Node) (ss : List (Slot Node)) → has_slot k.name ss ≡ false
+    → changed k.name (with_item n) (ss ++ one (keyed k m)) ≡ ss ++ one (keyed k n)
 write-last k m n [] h = ap one (if-true (same_text k.name k.name) (keyed k n) (keyed k m) (same_text-refl k.name))
 write-last k m n (x ∷ ss) h = by_test (same_text k.name x.key.name) h (write-last k m n ss)
   where

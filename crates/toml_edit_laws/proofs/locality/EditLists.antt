@@ -12,8 +12,10 @@ use Rattle.toml_edit_model.specs.Fits.{is_steady_in, is_below}
 use Rattle.toml_edit_model.specs.Slots.{Slot, keyed, on_item, lookup_slot, changed, without}
 use Rattle.toml_edit_model.specs.Lists.{slot_list, on_items}
 use Rattle.toml_edit_model.specs.ArrayCalls.{removed_at}
-use Rattle.toml_edit_laws.specs.Locality.{Turn, into_element, Leads, root_visit, edited, is_at_or_below, outside, value_line, OneChanges, OneMore, StaysSteady}
-use Rattle.toml_edit_laws.specs.EditLists.{Edit, replace, add, remove, remove_element, after, after_all, Applies, Leaves, named_path, is_named, print_of_statements, EditsStayLocal}
+use Rattle.toml_edit_laws.specs.Locality.{Turn, into_element, Leads, root_visit, edited, is_at_or_below, outside, value_line, OneChanges}
+use Rattle.toml_edit_laws.specs.Locality.{OneMore, StaysSteady}
+use Rattle.toml_edit_laws.specs.EditLists.{Edit, replace, add, remove, remove_element, after, after_all, Applies, Leaves, named_path}
+use Rattle.toml_edit_laws.specs.EditLists.{is_named, print_of_statements, EditsStayLocal}
 use Rattle.toml_edit_laws.proofs.common.Tests.{if-true, if-false}
 use Rattle.toml_edit_laws.proofs.common.PathLaws.{same_path-refl}
 use Rattle.toml_edit_laws.proofs.locality.Slots.{found, slot_list-from}
@@ -30,7 +32,8 @@ use Rattle.toml_edit_laws.proofs.locality.RemovingElements.{removed_element}
 abbrev keeps : (Printed → Bool) → Printed → Bool
 keeps A s = not (A s)
 
-drop-one : (A : Printed → Bool) (x : Printed) → A x ≡ true → (before rest : List Printed) → filter (keeps A) (before ++ (x ∷ rest)) ≡ filter (keeps A) (before ++ rest)
+drop-one : (A : Printed → Bool) (x : Printed) → A x ≡ true → (before rest : List Printed) → filter (keeps A) (before ++ (x ∷ rest))
+    ≡ filter (keeps A) (before ++ rest)
 drop-one A x h [] rest = if-false (keeps A x) (x ∷ filter (keeps A) rest) (filter (keeps A) rest) (ap not h)
 drop-one A x h (y ∷ before) rest = ap (λ ys. if keeps A y then y ∷ ys else ys) (drop-one A x h before rest)
 
@@ -39,9 +42,12 @@ filter-again A [] = refl
 filter-again A (x ∷ xs) = by_test (A x) refl (filter-again A xs)
   where
     by_test : (b : Bool) → A x ≡ b → filter (keeps A) (filter (keeps A) xs) ≡ filter (keeps A) xs
-        → filter (keeps A) (if not b then x ∷ filter (keeps A) xs else filter (keeps A) xs) ≡ (if not b then x ∷ filter (keeps A) xs else filter (keeps A) xs)
+        → filter (keeps A) (if not b then x ∷ filter (keeps A) xs else filter (keeps A) xs)
+        ≡ (if not b then x ∷ filter (keeps A) xs else filter (keeps A) xs)
     by_test true e ih = ih
-    by_test false e ih = if-true (keeps A x) (x ∷ filter (keeps A) (filter (keeps A) xs)) (filter (keeps A) (filter (keeps A) xs)) (ap not e) ∙ ap (λ ys. x ∷ ys) ih
+    by_test false e ih =
+        if-true (keeps A x) (x ∷ filter (keeps A) (filter (keeps A) xs)) (filter (keeps A) (filter (keeps A) xs)) (ap not e)
+        ∙ ap (λ ys. x ∷ ys) ih
 
 module _ (A B : Printed → Bool) where
   either-first : (xs : List Printed) → filter (λ s. not (A s || B s)) xs ≡ filter (keeps A) (filter (keeps B) xs)
@@ -52,10 +58,12 @@ module _ (A B : Printed → Bool) where
           → (if not (a || b) then x ∷ filter (λ s. not (A s || B s)) xs else filter (λ s. not (A s || B s)) xs)
           ≡ filter (keeps A) (if not b then x ∷ filter (keeps B) xs else filter (keeps B) xs)
       by_test true true e f ih = ih
-      by_test true false e f ih = ih ∙ sym (if-false (keeps A x) (x ∷ filter (keeps A) (filter (keeps B) xs)) (filter (keeps A) (filter (keeps B) xs)) (ap not e))
+      by_test true false e f ih =
+          ih ∙ sym (if-false (keeps A x) (x ∷ filter (keeps A) (filter (keeps B) xs)) (filter (keeps A) (filter (keeps B) xs)) (ap not e))
       by_test false true e f ih = ih
       by_test false false e f ih =
-          ap (λ ys. x ∷ ys) ih ∙ sym (if-true (keeps A x) (x ∷ filter (keeps A) (filter (keeps B) xs)) (filter (keeps A) (filter (keeps B) xs)) (ap not e))
+          ap (λ ys. x ∷ ys) ih ∙ sym (if-true (keeps A x) (x
+          ∷ filter (keeps A) (filter (keeps B) xs)) (filter (keeps A) (filter (keeps B) xs)) (ap not e))
 
   either-second : (xs : List Printed) → filter (λ s. not (A s || B s)) xs ≡ filter (keeps B) (filter (keeps A) xs)
   either-second [] = refl
@@ -66,9 +74,11 @@ module _ (A B : Printed → Bool) where
           ≡ filter (keeps B) (if not a then x ∷ filter (keeps A) xs else filter (keeps A) xs)
       by_test true true e f ih = ih
       by_test true false e f ih = ih
-      by_test false true e f ih = ih ∙ sym (if-false (keeps B x) (x ∷ filter (keeps B) (filter (keeps A) xs)) (filter (keeps B) (filter (keeps A) xs)) (ap not f))
+      by_test false true e f ih =
+          ih ∙ sym (if-false (keeps B x) (x ∷ filter (keeps B) (filter (keeps A) xs)) (filter (keeps B) (filter (keeps A) xs)) (ap not f))
       by_test false false e f ih =
-          ap (λ ys. x ∷ ys) ih ∙ sym (if-true (keeps B x) (x ∷ filter (keeps B) (filter (keeps A) xs)) (filter (keeps B) (filter (keeps A) xs)) (ap not f))
+          ap (λ ys. x ∷ ys) ih ∙ sym (if-true (keeps B x) (x
+          ∷ filter (keeps B) (filter (keeps A) xs)) (filter (keeps B) (filter (keeps A) xs)) (ap not f))
 
 -- ---- one edit
 
@@ -79,14 +89,16 @@ module _ (mode : Mode) where
   abbrev at : Path → Printed → Bool
   at p s = is_at_or_below p s.path
 
-  changed-others : (t u : Tree) (p : Path) (l m : Key) (old n : Node) → OneChanges mode t u p l m old n → outside mode p u ≡ outside mode p t
+  changed-others : (t u : Tree) (p : Path) (l m : Key) (old n : Node) → OneChanges mode t u p l m old n → outside mode p u
+      ≡ outside mode p t
   changed-others t u p l m old n one =
       let x = printed_line mode one.block (value_line mode (one.keys ++ (l ∷ [])) old) in
       let y = printed_line mode one.block (value_line mode (one.keys ++ (m ∷ [])) n) in
       ap (filter (keeps (at p))) one.second ∙ drop-one (at p) y (at-itself p y one.other_path) one.before one.after
       ∙ sym (ap (filter (keeps (at p))) one.first ∙ drop-one (at p) x (at-itself p x one.path) one.before one.after)
 
-  added-others : (t u : Tree) (v : Visit) (k : Key) (n : Node) → OneMore mode t u v k n → outside mode (to_key v.path k.name) u ≡ outside mode (to_key v.path k.name) t
+  added-others : (t u : Tree) (v : Visit) (k : Key) (n : Node) → OneMore mode t u v k n → outside mode (to_key v.path k.name) u
+      ≡ outside mode (to_key v.path k.name) t
   added-others t u v k n one =
       let p : Path = to_key v.path k.name in
       let y = printed_line mode v.path (value_line mode (k ∷ []) n) in
@@ -115,11 +127,14 @@ module _ (mode : Mode) where
       let u : Tree = edited way g t in
       let now : Slot Node = keyed l (tables e xs) in
       let law = removed mode t way v k now made steady leads is_there in
-      let there = ap (lookup_slot k) (slot_list-from (g (slot_list v.slots))) ∙ lookup-changed k G (λ x. refl) (slot_list v.slots) now is_there in
+      let there = ap (lookup_slot k) (slot_list-from (g (slot_list v.slots)))
+      ∙ lookup-changed k G (λ x. refl) (slot_list v.slots) now is_there in
       let other = removed mode u way (with_slots g v) k (G now) new_made new_steady (leads-edited way g (root_visit t) v leads) there in
-      let same : edited way (without k) u ≡ edited way (without k) t = edited-twice way (without k) g (without k) (without-changed k G (λ x. refl)) t in
+      let same : edited way (without k) u ≡ edited way (without k) t =
+      edited-twice way (without k) g (without k) (without-changed k G (λ x. refl)) t in
       let name : k ≡ l.name = (found k v.slots now (leads-made way (root_visit t) v made leads) is_there).named in
-      subst (λ z. outside mode (to_key v.path z) u ≡ outside mode (to_key v.path z) t) (sym name) (sym other.0 ∙ ap (printed mode) same ∙ law.0)
+      subst (λ z. outside mode (to_key v.path z) u ≡ outside mode (to_key v.path z) t) (sym name) (sym other.0 ∙ ap (printed mode) same
+      ∙ law.0)
 
   single : (e : Edit) (t : Tree) → SlotsAreWellMade t.slots → is_steady_in mode t ≡ true → (a : Applies mode e t) → Single e t a
   single (replace way k f n) t made steady (v, l, old, leads, there, value, plain, name, new) =
@@ -159,7 +174,8 @@ module _ (mode : Mode) where
 
   -- ---- a list of them
 
-  same-around : (is_open : Bool) (t u : Tree) → u.root ≡ t.root → u.trailing ≡ t.trailing → print_in mode is_open u ≡ print_of_statements mode is_open t (printed mode u)
+  same-around : (is_open : Bool) (t u : Tree) → u.root ≡ t.root → u.trailing ≡ t.trailing → print_in mode is_open u
+      ≡ print_of_statements mode is_open t (printed mode u)
   same-around is_open t u root trailing =
       ap (λ r. print_of_statements mode is_open (record u { root = r }) (printed mode u)) root
       ∙ ap (λ r. print_of_statements mode is_open (record t { slots = u.slots; trailing = r }) (printed mode u)) trailing
@@ -176,8 +192,10 @@ module _ (mode : Mode) where
       let trailing : u.trailing ≡ t.trailing = rest.1.steady.1 ∙ first.steady.1 in (
         (first.leaves, rest.0),
         record {
-          others = either-first A B (printed mode u) ∙ ap (filter (keeps A)) rest.1.others ∙ sym (either-first A B (printed mode (after e t)))
-              ∙ either-second A B (printed mode (after e t)) ∙ ap (filter (keeps B)) first.others ∙ sym (either-second A B (printed mode t));
+          others = either-first A B (printed mode u) ∙ ap (filter (keeps A)) rest.1.others
+              ∙ sym (either-first A B (printed mode (after e t)))
+              ∙ either-second A B (printed mode (after e t)) ∙ ap (filter (keeps B)) first.others
+              ∙ sym (either-second A B (printed mode t));
           text = λ is_open. same-around is_open t u root trailing;
           steady = (root, trailing, rest.1.steady.2);
           made = rest.1.made;

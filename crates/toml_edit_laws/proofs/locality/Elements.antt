@@ -5,7 +5,8 @@ use Rattle.std.specs.List.{AllByRecursion}
 use Rattle.std.proofs.lemmas.Bool.{eqb-true}
 use Rattle.toml_edit_model.specs.Mode.{Mode}
 use Rattle.toml_edit_model.specs.Paths.{Path, to_element}
-use Rattle.toml_edit_model.specs.Tree.{Key, TableFields, Node, nothing, leaf, list, inline, table, tables, Items, no_items, item, Slots, IsWellMade, ItemsAreWellMade}
+use Rattle.toml_edit_model.specs.Tree.{Key, TableFields, Node, nothing, leaf, list, inline, table, tables, Items, no_items, item, Slots}
+use Rattle.toml_edit_model.specs.Tree.{IsWellMade, ItemsAreWellMade}
 use Rattle.toml_edit_model.specs.HeaderOrder.{Visit, visit_of, items_walk, slots_walk}
 use Rattle.toml_edit_model.specs.Lists.{items_from}
 use Rattle.toml_edit_laws.specs.Locality.{element_count}
@@ -53,7 +54,8 @@ module _ (mode : Mode) where
     element-out : (f : TableFields) (ss : Slots) (ks : List Key) (n : ℕ) → (m == n) ≡ false
         → AllByRecursion (IsBlockOut q) (blocks mode (visit_of (to_element p n) ks true f ss ∷ slots_walk ss (to_element p n) ks))
     element-out f ss ks n d =
-        blocks-out q (to_element p n) (blocks mode (visit_of (to_element p n) ks true f ss ∷ slots_walk ss (to_element p n) ks)) (apart-elements p q m n above d)
+        blocks-out q (to_element p n) (blocks mode (visit_of (to_element p n) ks true f ss ∷ slots_walk ss (to_element p n) ks))
+        (apart-elements p q m n above d)
         (node-under mode (to_element p n) (table f ss) (to_element p n) ks true (front-refl (to_element p n)))
 
     differ : (n : ℕ) → (m ≡ n → ⊥) → (m == n) ≡ false
@@ -74,7 +76,8 @@ module _ (mode : Mode) where
     least : (n : ℕ) (xs : List Node) → n ≤ counted n xs
     least n xs = let e : counted n xs ≡ n + element_count xs = counted-more n xs in omega arith
 
-    pub earlier-out : (xs : List Node) (ks : List Key) (n : ℕ) → counted n xs ≤ m → AllByRecursion (IsBlockOut q) (blocks mode (items_walk (items_from xs) p ks n))
+    pub earlier-out : (xs : List Node) (ks : List Key) (n : ℕ) → counted n xs ≤ m
+        → AllByRecursion (IsBlockOut q) (blocks mode (items_walk (items_from xs) p ks n))
     earlier-out [] ks n h = tt
     earlier-out (table f ss ∷ xs) ks n h =
         let v = visit_of (to_element p n) ks true f ss in

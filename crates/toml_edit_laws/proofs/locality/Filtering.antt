@@ -15,7 +15,8 @@ use Rattle.toml_edit_laws.specs.Locality.{is_at_or_below, outside, root_visit}
 use Rattle.toml_edit_laws.proofs.common.Tests.{if-true, if-false, and_right}
 use Rattle.toml_edit_laws.proofs.common.PathLaws.{is_front, front-refl, front-through}
 use Rattle.toml_edit_laws.proofs.common.OrderLaws.{all-sorted, none-left, sorted-image, int_le-total, int_le-trans}
-use Rattle.toml_edit_laws.proofs.locality.Blocks.{Block, block_of, blocks, is_headed, bare, block_header, block_printed, place, stands_first, printed_blocks, IsSteadyBlock}
+use Rattle.toml_edit_laws.proofs.locality.Blocks.{Block, block_of, blocks, is_headed, bare, block_header, block_printed, place}
+use Rattle.toml_edit_laws.proofs.locality.Blocks.{stands_first, printed_blocks, IsSteadyBlock}
 use Rattle.toml_edit_laws.proofs.locality.Under.{front-is, IsLineUnder, IsLineOut, IsBlockOut, lines-under}
 use Rattle.toml_edit_laws.proofs.locality.Sound.{Steady}
 use Rattle.toml_edit_laws.proofs.locality.Along.{tree_blocks}
@@ -64,11 +65,13 @@ module _ (mode : Mode) where
     pub lines-dropped : (bp : Path) (ls : List Line) → AllByRecursion (IsLineUnder q bp) ls → filter (keeps_line bp) ls ≡ []
     lines-dropped bp ls h = none-left (keeps_line bp) ls (all-map (IsLineUnder q bp) (λ l. keeps_line bp l ≡ false) ls (λ l e. ap not e) h)
 
-    trim-block : (b : Block) → is_front q b.path ≡ false → is_headed (trim b) ≡ is_headed b → block_printed mode (trim b) ≡ filter keeps (block_printed mode b)
+    trim-block : (b : Block) → is_front q b.path ≡ false → is_headed (trim b) ≡ is_headed b → block_printed mode (trim b)
+        ≡ filter keeps (block_printed mode b)
     trim-block b out same =
         ap (λ z. z ++ map (printed_line mode b.path) (filter (keeps_line b.path) b.lines))
         (header-same mode b (filter (keeps_line b.path) b.lines) same
-        ∙ sym (filter-all keeps (block_header mode b) (all-map (IsOut q) (λ s. keeps s ≡ true) (block_header mode b) (λ s e. ap not e) (header-out mode q b out))))
+        ∙ sym (filter-all keeps (block_header mode b) (all-map (IsOut q) (λ s. keeps s
+        ≡ true) (block_header mode b) (λ s e. ap not e) (header-out mode q b out))))
         ∙ ap (λ z. filter keeps (block_header mode b) ++ z) (sym (filter-image (printed_line mode b.path) keeps b.lines))
         ∙ sym (filter-append keeps (block_header mode b) (map (printed_line mode b.path) b.lines))
 
@@ -85,7 +88,8 @@ module _ (mode : Mode) where
         by_test true = if-false (keeps one_header) (one_header ∷ []) [] dropped
         by_test false = refl
 
-    drop-block : (b : Block) → is_front q b.path ≡ true → AllByRecursion (IsLineUnder q b.path) b.lines → filter keeps (block_printed mode b) ≡ []
+    drop-block : (b : Block) → is_front q b.path ≡ true → AllByRecursion (IsLineUnder q b.path) b.lines
+        → filter keeps (block_printed mode b) ≡ []
     drop-block b h under =
         filter-append keeps (block_header mode b) (map (printed_line mode b.path) b.lines)
         ∙ ap (λ z. z ++ filter keeps (map (printed_line mode b.path) b.lines)) (drop-header b h)
@@ -99,12 +103,15 @@ module _ (mode : Mode) where
       pub kept : is_headed (trim b) ≡ is_headed b
       pub dropped : is_front q b.path ≡ true → AllByRecursion (IsLineUnder q b.path) b.lines
 
-    flat-trim : (bs : List Block) → AllByRecursion IsCoherent bs → flat_map (block_printed mode) (map trim (filter keeps_block bs)) ≡ filter keeps (flat_map (block_printed mode) bs)
+    flat-trim : (bs : List Block) → AllByRecursion IsCoherent bs → flat_map (block_printed mode) (map trim (filter keeps_block bs))
+        ≡ filter keeps (flat_map (block_printed mode) bs)
     flat-trim [] h = refl
     flat-trim (b ∷ bs) h = by_test (is_front q b.path) refl (flat-trim bs h.1)
       where
-        by_test : (c : Bool) → is_front q b.path ≡ c → flat_map (block_printed mode) (map trim (filter keeps_block bs)) ≡ filter keeps (flat_map (block_printed mode) bs)
-            → flat_map (block_printed mode) (map trim (if not c then b ∷ filter keeps_block bs else filter keeps_block bs)) ≡ filter keeps (block_printed mode b ++ flat_map (block_printed mode) bs)
+        by_test : (c : Bool) → is_front q b.path ≡ c → flat_map (block_printed mode) (map trim (filter keeps_block bs))
+            ≡ filter keeps (flat_map (block_printed mode) bs)
+            → flat_map (block_printed mode) (map trim (if not c then b ∷ filter keeps_block bs else filter keeps_block bs))
+            ≡ filter keeps (block_printed mode b ++ flat_map (block_printed mode) bs)
         by_test true e ih =
             ih ∙ ap (λ z. z ++ filter keeps (flat_map (block_printed mode) bs)) (sym (drop-block b e (h.0.dropped e)))
             ∙ sym (filter-append keeps (block_printed mode b) (flat_map (block_printed mode) bs))
@@ -113,7 +120,8 @@ module _ (mode : Mode) where
             ∙ ap (λ z. z ++ filter keeps (flat_map (block_printed mode) bs)) (trim-block b e h.0.kept)
             ∙ sym (filter-append keeps (block_printed mode b) (flat_map (block_printed mode) bs))
 
-    headed-trim : (bs : List Block) → AllByRecursion IsCoherent bs → filter is_headed (map trim (filter keeps_block bs)) ≡ map trim (filter keeps_block (filter is_headed bs))
+    headed-trim : (bs : List Block) → AllByRecursion IsCoherent bs → filter is_headed (map trim (filter keeps_block bs))
+        ≡ map trim (filter keeps_block (filter is_headed bs))
     headed-trim [] h = refl
     headed-trim (b ∷ bs) h = by_test (is_front q b.path) (is_headed b) refl refl (headed-trim bs h.1)
       where
@@ -121,23 +129,30 @@ module _ (mode : Mode) where
             → filter is_headed (map trim (filter keeps_block bs)) ≡ map trim (filter keeps_block (filter is_headed bs))
             → filter is_headed (map trim (if not c then b ∷ filter keeps_block bs else filter keeps_block bs))
             ≡ map trim (filter keeps_block (if d then b ∷ filter is_headed bs else filter is_headed bs))
-        by_test true true e f ih = ih ∙ ap (map trim) (sym (if-false (keeps_block b) (b ∷ filter keeps_block (filter is_headed bs)) (filter keeps_block (filter is_headed bs)) (ap not e)))
+        by_test true true e f ih =
+            ih ∙ ap (map trim) (sym (if-false (keeps_block b) (b
+            ∷ filter keeps_block (filter is_headed bs)) (filter keeps_block (filter is_headed bs)) (ap not e)))
         by_test true false e f ih = ih
         by_test false true e f ih =
-            if-true (is_headed (trim b)) (trim b ∷ filter is_headed (map trim (filter keeps_block bs))) (filter is_headed (map trim (filter keeps_block bs))) (h.0.kept ∙ f)
+            if-true (is_headed (trim b)) (trim b ∷ filter is_headed (map trim (filter keeps_block bs)))
+            (filter is_headed (map trim (filter keeps_block bs))) (h.0.kept ∙ f)
             ∙ ap (λ z. trim b ∷ z) ih
-            ∙ ap (map trim) (sym (if-true (keeps_block b) (b ∷ filter keeps_block (filter is_headed bs)) (filter keeps_block (filter is_headed bs)) (ap not e)))
+            ∙ ap (map trim) (sym (if-true (keeps_block b) (b ∷ filter keeps_block (filter is_headed bs))
+            (filter keeps_block (filter is_headed bs)) (ap not e)))
         by_test false false e f ih =
-            if-false (is_headed (trim b)) (trim b ∷ filter is_headed (map trim (filter keeps_block bs))) (filter is_headed (map trim (filter keeps_block bs))) (h.0.kept ∙ f)
+            if-false (is_headed (trim b)) (trim b ∷ filter is_headed (map trim (filter keeps_block bs)))
+            (filter is_headed (map trim (filter keeps_block bs))) (h.0.kept ∙ f)
             ∙ ih
 
-    blocks-trim : (bs : List Block) → AllByRecursion IsCoherent bs → printed_blocks mode (map trim (filter keeps_block bs)) ≡ filter keeps (printed_blocks mode bs)
+    blocks-trim : (bs : List Block) → AllByRecursion IsCoherent bs → printed_blocks mode (map trim (filter keeps_block bs))
+        ≡ filter keeps (printed_blocks mode bs)
     blocks-trim bs h =
         let hs : List Block = filter is_headed bs in
         ap (λ z. flat_map (block_printed mode) (sorted_by stands_first z)) (headed-trim bs h)
         ∙ ap (flat_map (block_printed mode)) (sorted-image trim stands_first (filter keeps_block hs))
         ∙ ap (λ z. flat_map (block_printed mode) (map trim z))
-        (sym (filter-sorted stands_first (λ a b c. int_le-trans (place a) (place b) (place c)) (λ a b. int_le-total (place a) (place b)) keeps_block hs))
+        (sym (filter-sorted stands_first (λ a b c. int_le-trans (place a) (place b) (place c)) (λ a b. int_le-total (place a) (place b))
+        keeps_block hs))
         ∙ flat-trim (sorted_by stands_first hs) (all-sorted IsCoherent stands_first hs (all-filter IsCoherent is_headed bs h))
 
     all-trim : (r : Block) (bs : List Block) → is_front q r.path ≡ false → AllByRecursion IsCoherent (r ∷ bs)
@@ -178,23 +193,28 @@ module _ (mode : Mode) where
     under-themselves t = (
       lines-under mode [] [] t.slots [] refl,
       all-blocks mode (λ (b : Block). AllByRecursion (IsLineUnder b.path b.path) b.lines) (slots_walk t.slots [] [])
-          (all-any (λ v. AllByRecursion (IsLineUnder (block_of mode v).path (block_of mode v).path) (block_of mode v).lines) (λ v. lines-under mode v.path v.path v.slots [] (front-refl v.path)) (slots_walk t.slots [] [])),
+          (all-any (λ v. AllByRecursion (IsLineUnder (block_of mode v).path (block_of mode v).path) (block_of mode v).lines)
+          (λ v. lines-under mode v.path v.path v.slots [] (front-refl v.path)) (slots_walk t.slots [] [])),
     )
 
-    coherent : (bs : List Block) → AllByRecursion IsSteadyBlock bs → AllByRecursion (λ (b : Block). AllByRecursion (IsLineUnder b.path b.path) b.lines) bs → AllByRecursion IsCoherent bs
+    coherent : (bs : List Block) → AllByRecursion IsSteadyBlock bs
+        → AllByRecursion (λ (b : Block). AllByRecursion (IsLineUnder b.path b.path) b.lines) bs → AllByRecursion IsCoherent bs
     coherent [] s u = tt
     coherent (b ∷ bs) s u = (
       record {
         kept = trim-headed b s.0;
-        dropped = λ e. all-map (IsLineUnder b.path b.path) (IsLineUnder q b.path) b.lines (λ l d. front-through q b.path (below b.path l.keys) e d) u.0;
+        dropped = λ e. all-map (IsLineUnder b.path b.path) (IsLineUnder q b.path) b.lines
+            (λ l d. front-through q b.path (below b.path l.keys) e d) u.0;
       },
       coherent bs s.1 u.1,
     )
 
     -- the print of the kept blocks
-    pub tree-trim : (t : Tree) → Steady mode t → is_front q [] ≡ false → printed_all mode (map trim (filter keeps_block (tree_blocks mode t))) ≡ filter keeps (printed mode t)
+    pub tree-trim : (t : Tree) → Steady mode t → is_front q [] ≡ false
+        → printed_all mode (map trim (filter keeps_block (tree_blocks mode t))) ≡ filter keeps (printed mode t)
     tree-trim t s out =
-        all-trim (block_of mode (root_visit t)) (blocks mode (slots_walk t.slots [] [])) out (coherent (tree_blocks mode t) (steady-tree mode t s) (under-themselves t))
+        all-trim (block_of mode (root_visit t)) (blocks mode (slots_walk t.slots [] [])) out
+        (coherent (tree_blocks mode t) (steady-tree mode t s) (under-themselves t))
         ∙ ap (filter keeps) (sym (printed-tree mode t s))
 
     -- ---- which blocks are kept
@@ -207,9 +227,11 @@ module _ (mode : Mode) where
         ∙ ap (λ z. b ∷ z) (blocks-kept bs h.1)
 
     pub blocks-dropped : (bs : List Block) → AllByRecursion (λ b. is_front q b.path ≡ true) bs → filter keeps_block bs ≡ []
-    blocks-dropped bs h = none-left keeps_block bs (all-map (λ b. is_front q b.path ≡ true) (λ b. keeps_block b ≡ false) bs (λ b e. ap not e) h)
+    blocks-dropped bs h =
+        none-left keeps_block bs (all-map (λ b. is_front q b.path ≡ true) (λ b. keeps_block b ≡ false) bs (λ b e. ap not e) h)
 
-    trim-append : (xs ys : List Block) → map trim (filter keeps_block (xs ++ ys)) ≡ map trim (filter keeps_block xs) ++ map trim (filter keeps_block ys)
+    trim-append : (xs ys : List Block) → map trim (filter keeps_block (xs ++ ys)) ≡ map trim (filter keeps_block xs)
+        ++ map trim (filter keeps_block ys)
     trim-append xs ys = ap (map trim) (filter-append keeps_block xs ys) ∙ map-append trim (filter keeps_block xs) (filter keeps_block ys)
 
     pub spliced-kept : (front middle m back : List Block) (b : Block) → AllByRecursion (IsBlockOut q) front → is_front q b.path ≡ false
@@ -218,7 +240,8 @@ module _ (mode : Mode) where
     spliced-kept front middle m back b f o d n e =
         trim-append front (b ∷ (middle ++ (m ++ back)))
         ∙ ap (λ z. z ++ map trim (filter keeps_block (b ∷ (middle ++ (m ++ back))))) (blocks-kept front f)
-        ∙ ap (λ z. front ++ map trim z) (if-true (keeps_block b) (b ∷ filter keeps_block (middle ++ (m ++ back))) (filter keeps_block (middle ++ (m ++ back))) (ap not o))
+        ∙ ap (λ z. front ++ map trim z) (if-true (keeps_block b) (b
+        ∷ filter keeps_block (middle ++ (m ++ back))) (filter keeps_block (middle ++ (m ++ back))) (ap not o))
         ∙ ap (λ z. front ++ (trim b ∷ z))
         (trim-append middle (m ++ back) ∙ ap (λ z. z ++ map trim (filter keeps_block (m ++ back))) (blocks-kept middle d)
         ∙ ap (λ z. middle ++ z)

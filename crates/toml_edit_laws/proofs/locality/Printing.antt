@@ -14,7 +14,8 @@ use Rattle.toml_edit_laws.specs.Locality.{AreOutside, is_at_or_below}
 use Rattle.toml_edit_laws.proofs.common.Tests.{if-true}
 use Rattle.toml_edit_laws.proofs.common.PathLaws.{is_front}
 use Rattle.toml_edit_laws.proofs.common.OrderLaws.{all-sorted}
-use Rattle.toml_edit_laws.proofs.locality.Blocks.{Block, block_of, blocks, is_headed, bare, block_header, block_printed, stands_first, printed_blocks, printed-steady}
+use Rattle.toml_edit_laws.proofs.locality.Blocks.{Block, block_of, blocks, is_headed, bare, block_header, block_printed, stands_first}
+use Rattle.toml_edit_laws.proofs.locality.Blocks.{printed_blocks, printed-steady}
 use Rattle.toml_edit_laws.proofs.locality.Under.{front-is, IsLineOut, IsBlockOut, all-block}
 use Rattle.toml_edit_laws.proofs.locality.Sound.{Steady}
 use Rattle.toml_edit_laws.proofs.locality.Along.{tree_blocks}
@@ -72,19 +73,25 @@ module _ (mode : Mode) where
       by_test true = (h, tt)
       by_test false = tt
 
-  pub map-lines-out : (q bp : Path) (ls : List Line) → AllByRecursion (IsLineOut q bp) ls → AllByRecursion (IsOut q) (map (printed_line mode bp) ls)
+  pub map-lines-out : (q bp : Path) (ls : List Line) → AllByRecursion (IsLineOut q bp) ls
+      → AllByRecursion (IsOut q) (map (printed_line mode bp) ls)
   map-lines-out q bp ls h = all-image (printed_line mode bp) (IsOut q) ls h
 
   pub block-out : (q : Path) (b : Block) → IsBlockOut q b → AllByRecursion (IsOut q) (block_printed mode b)
-  block-out q b h = all-append (IsOut q) (block_header mode b) (map (printed_line mode b.path) b.lines) (header-out q b h.0) (map-lines-out q b.path b.lines h.1)
+  block-out q b h = all-append (IsOut q) (block_header mode b) (map (printed_line mode b.path) b.lines) (header-out q b h.0)
+      (map-lines-out q b.path b.lines h.1)
 
-  pub flat-out : (q : Path) (bs : List Block) → AllByRecursion (IsBlockOut q) bs → AllByRecursion (IsOut q) (flat_map (block_printed mode) bs)
+  pub flat-out : (q : Path) (bs : List Block) → AllByRecursion (IsBlockOut q) bs
+      → AllByRecursion (IsOut q) (flat_map (block_printed mode) bs)
   flat-out q [] h = tt
-  flat-out q (b ∷ bs) h = all-append (IsOut q) (block_printed mode b) (flat_map (block_printed mode) bs) (block-out q b h.0) (flat-out q bs h.1)
+  flat-out q (b ∷ bs) h =
+      all-append (IsOut q) (block_printed mode b) (flat_map (block_printed mode) bs) (block-out q b h.0) (flat-out q bs h.1)
 
-  pub blocks-printed-out : (q : Path) (bs : List Block) → AllByRecursion (IsBlockOut q) bs → AllByRecursion (IsOut q) (printed_blocks mode bs)
+  pub blocks-printed-out : (q : Path) (bs : List Block) → AllByRecursion (IsBlockOut q) bs
+      → AllByRecursion (IsOut q) (printed_blocks mode bs)
   blocks-printed-out q bs h =
-      flat-out q (sorted_by stands_first (filter is_headed bs)) (all-sorted (IsBlockOut q) stands_first (filter is_headed bs) (all-filter (IsBlockOut q) is_headed bs h))
+      flat-out q (sorted_by stands_first (filter is_headed bs))
+      (all-sorted (IsBlockOut q) stands_first (filter is_headed bs) (all-filter (IsBlockOut q) is_headed bs h))
 
   -- ---- one block changed
 
@@ -101,10 +108,19 @@ module _ (mode : Mode) where
       → AllByRecursion (IsBlockOut q) front → AllByRecursion (IsBlockOut q) back
       → Parted q b (with_lines b ls) (printed_all (front ++ (b ∷ back))) (printed_all (front ++ (with_lines b ls ∷ back)))
   parted q b ls [] back hs f g =
-      record { front = []; back = printed_blocks mode back; first = refl; second = refl; out_front = tt; out_back = blocks-printed-out q back g }
+      record {
+        front = [];
+        back = printed_blocks mode back;
+        first = refl;
+        second = refl;
+        out_front = tt;
+        out_back =
+            blocks-printed-out q back g;
+      }
   parted q b ls (r ∷ front) back hs f g =
       let c : Block = with_lines b ls in
-      let a : OneApart (IsBlockOut q) b c (sorted_by stands_first (filter is_headed front ++ (b ∷ filter is_headed back))) (sorted_by stands_first (filter is_headed front ++ (c ∷ filter is_headed back))) =
+      let a : OneApart (IsBlockOut q) b c (sorted_by stands_first (filter is_headed front ++ (b ∷ filter is_headed back)))
+      (sorted_by stands_first (filter is_headed front ++ (c ∷ filter is_headed back))) =
       sorted-apart stands_first (IsBlockOut q) b c (λ x. refl) (λ x. refl) (filter is_headed front) (filter is_headed back)
       (all-filter (IsBlockOut q) is_headed front f.1) (all-filter (IsBlockOut q) is_headed back g) in
       record {
@@ -114,22 +130,28 @@ module _ (mode : Mode) where
             ∙ ap (λ z. block_printed mode r ++ flat_map (block_printed mode) z) a.first ∙ there b a.front a.back;
         second = ap (λ z. block_printed mode r ++ flat_map (block_printed mode) (sorted_by stands_first z)) (headed c hs.1)
             ∙ ap (λ z. block_printed mode r ++ flat_map (block_printed mode) z) a.second ∙ there c a.front a.back;
-        out_front = all-append (IsOut q) (block_printed mode r) (flat_map (block_printed mode) a.front) (block-out q r f.0) (flat-out q a.front a.all_front);
+        out_front = all-append (IsOut q) (block_printed mode r) (flat_map (block_printed mode) a.front) (block-out q r f.0)
+            (flat-out q a.front a.all_front);
         out_back = flat-out q a.back a.all_back;
       }
     where
-      headed : (x : Block) → is_headed x ≡ true → filter is_headed (front ++ (x ∷ back)) ≡ filter is_headed front ++ (x ∷ filter is_headed back)
-      headed x h = filter-append is_headed front (x ∷ back) ∙ ap (λ z. filter is_headed front ++ z) (if-true (is_headed x) (x ∷ filter is_headed back) (filter is_headed back) h)
+      headed : (x : Block) → is_headed x ≡ true → filter is_headed (front ++ (x ∷ back)) ≡ filter is_headed front
+          ++ (x ∷ filter is_headed back)
+      headed x h = filter-append is_headed front (x ∷ back)
+          ∙ ap (λ z. filter is_headed front ++ z) (if-true (is_headed x) (x ∷ filter is_headed back) (filter is_headed back) h)
 
       there : (x : Block) (xs bs : List Block)
-          → block_printed mode r ++ flat_map (block_printed mode) (xs ++ (x ∷ bs)) ≡ (block_printed mode r ++ flat_map (block_printed mode) xs) ++ (block_printed mode x ++ flat_map (block_printed mode) bs)
+          → block_printed mode r ++ flat_map (block_printed mode) (xs ++ (x ∷ bs))
+          ≡ (block_printed mode r ++ flat_map (block_printed mode) xs) ++ (block_printed mode x ++ flat_map (block_printed mode) bs)
       there x xs bs =
           ap (λ z. block_printed mode r ++ z) (flat_map-append (block_printed mode) xs (x ∷ bs))
-          ∙ sym (append_assoc (block_printed mode r) (flat_map (block_printed mode) xs) (block_printed mode x ++ flat_map (block_printed mode) bs))
+          ∙ sym (append_assoc (block_printed mode r) (flat_map (block_printed mode) xs) (block_printed mode x
+          ++ flat_map (block_printed mode) bs))
 
   -- ---- headers
 
-  pub header-same : (b : Block) (ls : List Line) → is_headed (with_lines b ls) ≡ is_headed b → block_header mode (with_lines b ls) ≡ block_header mode b
+  pub header-same : (b : Block) (ls : List Line) → is_headed (with_lines b ls) ≡ is_headed b → block_header mode (with_lines b ls)
+      ≡ block_header mode b
   header-same b ls e = ap (λ z. if z then one_header else []) e
     where
       one_header : List Printed
@@ -146,8 +168,10 @@ module _ (mode : Mode) where
   behind-root t (r ∷ front) b back P e f g =
       let vs = slots_walk t.slots [] [] in
       let rest : blocks mode vs ≡ front ++ (b ∷ back) = cc in
-      let all : AllByRecursion (λ (x : Block). is_empty x.keys ≡ false) (blocks mode vs) = all-blocks (λ x. is_empty x.keys ≡ false) vs (slots-below t.slots [] []) in
-      g (all-back (λ (x : Block). is_empty x.keys ≡ false) front (b ∷ back) (subst (λ z. AllByRecursion (λ (x : Block). is_empty x.keys ≡ false) z) rest all)).0
+      let all : AllByRecursion (λ (x : Block). is_empty x.keys ≡ false) (blocks mode vs) =
+      all-blocks (λ x. is_empty x.keys ≡ false) vs (slots-below t.slots [] []) in
+      g (all-back (λ (x : Block). is_empty x.keys ≡ false) front (b
+      ∷ back) (subst (λ z. AllByRecursion (λ (x : Block). is_empty x.keys ≡ false) z) rest all)).0
 
   pub headed-behind : (t : Tree) (front : List Block) (b c : Block) (back : List Block) → tree_blocks mode t ≡ front ++ (b ∷ back)
       → (is_empty b.keys ≡ false → (is_headed b ≡ true) × (is_headed c ≡ true)) → AreHeadedBehind front b c

@@ -23,7 +23,8 @@ use Rattle.toml_edit_laws.proofs.locality.Sound.{Steady, SlotsAreSound, steady-p
 use Rattle.toml_edit_laws.proofs.locality.Printing.{printed_all, with_lines, printed-tree}
 use Rattle.toml_edit_laws.proofs.locality.Edited.{firm-visits, steady-same, whole-steady, stays-steady}
 use Rattle.toml_edit_laws.proofs.locality.Texts.{edited-framed}
-use Rattle.toml_edit_laws.proofs.locality.Filtering.{keeps_line, keeps_block, trim, outside-is, trim-headed, tree-trim, spliced-kept, lines-spliced}
+use Rattle.toml_edit_laws.proofs.locality.Filtering.{keeps_line, keeps_block, trim, outside-is, trim-headed, tree-trim, spliced-kept}
+use Rattle.toml_edit_laws.proofs.locality.Filtering.{lines-spliced}
 use Rattle.toml_edit_laws.proofs.locality.Replacing.{itself, map-itself}
 use Rattle.toml_edit_laws.proofs.common.Each.{all-map}
 
@@ -40,8 +41,10 @@ module _ (mode : Mode) where
   module _ (q : Path) (h : Block → Block) (v : Visit) (g : List (Slot Node) → List (Slot Node)) (M : List Key → List Line) (m : List Block)
       (there : (b : Block) → IsSteadyBlock b → IsSteadyBlock (h b)) (back : (b : Block) → IsSteadyBlock (h b) → IsSteadyBlock b)
       (x : Step) (above : is_front (v.path ++ (x ∷ [])) q ≡ true)
-      (edit-lines : (bp : Path) (lk : List Key) → below bp lk ≡ v.path → LineSplice mode q bp (M lk) [] (table_lines mode v.slots lk) (table_lines mode (slots_under g v.slots) lk))
-      (edit-blocks : BlockSplice mode q h m [] (blocks mode (slots_walk v.slots v.path v.keys)) (blocks mode (slots_walk (slots_under g v.slots) v.path v.keys)))
+      (edit-lines : (bp : Path) (lk : List Key) → below bp lk ≡ v.path
+      → LineSplice mode q bp (M lk) [] (table_lines mode v.slots lk) (table_lines mode (slots_under g v.slots) lk))
+      (edit-blocks : BlockSplice mode q h m [] (blocks mode (slots_walk v.slots v.path v.keys))
+      (blocks mode (slots_walk (slots_under g v.slots) v.path v.keys)))
       (lines-in : (bp : Path) (lk : List Key) → below bp lk ≡ v.path → AllByRecursion (IsLineUnder q bp) (M lk))
       (blocks-in : AllByRecursion (λ b. is_front q b.path ≡ true) m)
       (t : Tree) (way : List Turn) (made : SlotsAreWellMade t.slots) (st : Steady mode t) (leads : Leads way (root_visit t) v)
@@ -56,7 +59,8 @@ module _ (mode : Mode) where
     lines-are =
         let c = whole.changes in
         c.second
-        ∙ sym (lines-spliced mode q whole.block.path c.front (M whole.keys) c.back c.out_front (lines-in whole.block.path whole.keys whole.at) c.out_back)
+        ∙ sym (lines-spliced mode q whole.block.path c.front (M whole.keys) c.back c.out_front
+        (lines-in whole.block.path whole.keys whole.at) c.out_back)
         ∙ ap (filter (keeps_line mode q whole.block.path)) (sym c.first)
 
     pub left-kept : map h (tree_blocks mode (edited way g t)) ≡ map h (map (trim mode q) (filter (keeps_block mode q) (tree_blocks mode t)))
@@ -71,7 +75,8 @@ module _ (mode : Mode) where
     pub left-steady : Steady mode (edited way g t)
     left-steady =
         whole-steady mode q h v g M N m [] there back way t st sound whole
-        (λ s. steady-same whole.block whole.lines (ap (λ z. is_headed (with_lines whole.block z)) lines-are ∙ trim-headed mode q whole.block s) s) tt
+        (λ s. steady-same whole.block whole.lines (ap (λ z. is_headed (with_lines whole.block z)) lines-are
+        ∙ trim-headed mode q whole.block s) s) tt
 
   -- ---- a slot
 
@@ -102,7 +107,8 @@ module _ (mode : Mode) where
     is_old : v.slots ≡ slots_from (fd.front ++ (s ∷ fd.back))
     is_old = sym (slots_from-list v.slots) ∙ ap slots_from fd.is
 
-    edit-lines : (bp : Path) (lk : List Key) → below bp lk ≡ v.path → LineSplice mode q bp (M lk) [] (table_lines mode v.slots lk) (table_lines mode (slots_under g v.slots) lk)
+    edit-lines : (bp : Path) (lk : List Key) → below bp lk ≡ v.path
+        → LineSplice mode q bp (M lk) [] (table_lines mode v.slots lk) (table_lines mode (slots_under g v.slots) lk)
     edit-lines bp lk at =
         record {
           front = table_lines mode (slots_from fd.front) lk;
@@ -113,7 +119,8 @@ module _ (mode : Mode) where
           out_back = other-lines-out mode q v.path s.key.name (front-refl q) bp lk fd.back at fd.others_back;
         }
 
-    edit-blocks : BlockSplice mode q itself m [] (blocks mode (slots_walk v.slots v.path v.keys)) (blocks mode (slots_walk (slots_under g v.slots) v.path v.keys))
+    edit-blocks : BlockSplice mode q itself m [] (blocks mode (slots_walk v.slots v.path v.keys))
+        (blocks mode (slots_walk (slots_under g v.slots) v.path v.keys))
     edit-blocks =
         record {
           front = blocks mode (slots_walk (slots_from fd.front) v.path v.keys);
@@ -133,7 +140,8 @@ module _ (mode : Mode) where
 
     blocks-in : AllByRecursion (λ (b : Block). is_front q b.path ≡ true) m
     blocks-in =
-        all-map (IsBlockUnder q) (λ (b : Block). is_front q b.path ≡ true) m (λ b d. d.0) (node-under mode q s.item q (v.keys ++ (s.key ∷ [])) false (front-refl q))
+        all-map (IsBlockUnder q) (λ (b : Block). is_front q b.path
+        ≡ true) m (λ b d. d.0) (node-under mode q s.item q (v.keys ++ (s.key ∷ [])) false (front-refl q))
 
     new-sound : SlotsAreSound u.slots
     new-sound =
@@ -144,14 +152,16 @@ module _ (mode : Mode) where
 
     slot-steady : Steady mode u
     slot-steady =
-        left-steady q itself v g M m (λ b e. e) (λ b e. e) (at_key s.key.name) (front-refl q) edit-lines edit-blocks lines-in blocks-in t way made st leads new-sound
+        left-steady q itself v g M m (λ b e. e) (λ b e. e) (at_key s.key.name) (front-refl q) edit-lines edit-blocks lines-in blocks-in t
+        way made st leads new-sound
 
     slot-removed : printed mode u ≡ outside mode q t
     slot-removed =
         printed-tree mode u slot-steady
         ∙ ap (printed_all mode)
         (sym (map-itself (tree_blocks mode u))
-        ∙ left-kept q itself v g M m (λ b e. e) (λ b e. e) (at_key s.key.name) (front-refl q) edit-lines edit-blocks lines-in blocks-in t way made st leads new-sound
+        ∙ left-kept q itself v g M m (λ b e. e) (λ b e. e) (at_key s.key.name) (front-refl q) edit-lines edit-blocks lines-in blocks-in t
+        way made st leads new-sound
         ∙ map-itself (map (trim mode q) (filter (keeps_block mode q) (tree_blocks mode t))))
         ∙ tree-trim mode q t st (not-at-root v.path q (at_key s.key.name) (front-refl q))
         ∙ sym (outside-is mode q t)
@@ -159,5 +169,9 @@ module _ (mode : Mode) where
   pub removed : Removed mode
   removed t way v k s made steady leads is_there =
       let st : Steady mode t = steady-parts mode t steady in
-      let list : printed mode (edited way (without k) t) ≡ outside mode (to_key v.path s.key.name) t = slot-removed t way v k s made st leads is_there in
-      (list, edited-framed mode way (without k) t ∙ ap (λ z. framed mode t (texts z)) list, stays-steady mode way (without k) t (slot-steady t way v k s made st leads is_there))
+      let list : printed mode (edited way (without k) t) ≡ outside mode (to_key v.path s.key.name) t =
+      slot-removed t way v k s made st leads is_there in (
+        list,
+        edited-framed mode way (without k) t ∙ ap (λ z. framed mode t (texts z)) list,
+        stays-steady mode way (without k) t (slot-steady t way v k s made st leads is_there),
+      )

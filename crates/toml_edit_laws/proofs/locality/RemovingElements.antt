@@ -1,5 +1,6 @@
 -- An element of an array of tables removed: the print without its statements; later elements are counted anew, and print the same.
-use Rattle.std.proofs.Common.{◌≡◌, refl, sym, ◌∙◌, ap, subst, ℕ, suc, ◌+◌, arith, true, false, List, [], ◌∷◌, ◌++◌, append_assoc, length, Some}
+use Rattle.std.proofs.Common.{◌≡◌, refl, sym, ◌∙◌, ap, subst, ℕ, suc, ◌+◌, arith, true, false, List, [], ◌∷◌, ◌++◌, append_assoc, length}
+use Rattle.std.proofs.Common.{Some}
 use Rattle.std.specs.Prelude.{filter, map}
 use Rattle.std.specs.List.{AllByRecursion}
 use Rattle.std.proofs.lemmas.List.{map-append}
@@ -23,7 +24,8 @@ use Rattle.toml_edit_laws.proofs.locality.Slots.{Found, found, items_from-list, 
 use Rattle.toml_edit_laws.proofs.locality.Elements.{counted, counted-more, items-append, later-out, earlier-out}
 use Rattle.toml_edit_laws.proofs.locality.Splice.{LineSplice, BlockSplice, Around, around, map-widened}
 use Rattle.toml_edit_laws.proofs.locality.Along.{tree_blocks}
-use Rattle.toml_edit_laws.proofs.locality.Sound.{Steady, SlotsAreSound, ItemsAreSound, steady-parts, along-sound, leads-made, leads-sound, sound-slot, sound-append, sound-items, sound-items-front, sound-items-back}
+use Rattle.toml_edit_laws.proofs.locality.Sound.{Steady, SlotsAreSound, ItemsAreSound, steady-parts, along-sound, leads-made, leads-sound}
+use Rattle.toml_edit_laws.proofs.locality.Sound.{sound-slot, sound-append, sound-items, sound-items-front, sound-items-back}
 use Rattle.toml_edit_laws.proofs.locality.Printing.{printed_all, printed-tree}
 use Rattle.toml_edit_laws.proofs.locality.Edited.{stays-steady}
 use Rattle.toml_edit_laws.proofs.locality.Texts.{edited-framed}
@@ -94,13 +96,23 @@ module _ (mode : Mode) where
     undotted : f.is_dotted ≡ false
     undotted = (sound-items-back before (table f ss ∷ after) (inside sound)).0.0
 
-    beside : (bp : Path) (lk : List Key) → below bp lk ≡ v.path → Around mode q v bp lk (keyed l (tables e xs)) (keyed l (tables e left)) (slots_under g v.slots)
+    beside : (bp : Path) (lk : List Key) → below bp lk ≡ v.path
+        → Around mode q v bp lk (keyed l (tables e xs)) (keyed l (tables e left)) (slots_under g v.slots)
     beside bp lk at = around mode q v bp lk k (keyed l (tables e xs)) (keyed l (tables e left)) (slots_under g v.slots) at above fd is_new
 
-    edit-lines : (bp : Path) (lk : List Key) → below bp lk ≡ v.path → LineSplice mode q bp (M lk) [] (table_lines mode v.slots lk) (table_lines mode (slots_under g v.slots) lk)
+    edit-lines : (bp : Path) (lk : List Key) → below bp lk ≡ v.path
+        → LineSplice mode q bp (M lk) [] (table_lines mode v.slots lk) (table_lines mode (slots_under g v.slots) lk)
     edit-lines bp lk at =
         let a = beside bp lk at in
-        record { front = a.lines_front; back = a.lines_back; first = a.old_lines; second = a.new_lines; out_front = a.out_lines_front; out_back = a.out_lines_back }
+        record {
+          front = a.lines_front;
+          back = a.lines_back;
+          first = a.old_lines;
+          second = a.new_lines;
+          out_front =
+              a.out_lines_front;
+          out_back = a.out_lines_back;
+        }
 
     count : counted 0 before ≡ element_count before
     count = let n : counted 0 before ≡ 0 + element_count before = counted-more 0 before in omega arith
@@ -117,19 +129,23 @@ module _ (mode : Mode) where
         ap (λ z. blocks mode (items_walk z r ks 0)) old-items
         ∙ ap (blocks mode) (items-append before (table f ss ∷ after) r ks 0)
         ∙ ap (λ z. blocks mode (items_walk (items_from before) r ks 0 ++ (here z ++ items_walk (items_from after) r ks (suc z)))) count
-        ∙ blocks-append mode (items_walk (items_from before) r ks 0) (here (element_count before) ++ items_walk (items_from after) r ks (suc (element_count before)))
-        ∙ ap (λ z. earlier ++ z) (blocks-append mode (here (element_count before)) (items_walk (items_from after) r ks (suc (element_count before))))
+        ∙ blocks-append mode (items_walk (items_from before) r ks 0) (here (element_count before)
+        ++ items_walk (items_from after) r ks (suc (element_count before)))
+        ∙ ap (λ z. earlier ++ z) (blocks-append mode (here (element_count before))
+        (items_walk (items_from after) r ks (suc (element_count before))))
         ∙ ap (λ z. earlier ++ (z ++ later)) (if-false f.is_dotted (blocks mode (slots_walk ss q ks)) m undotted)
 
     new-split : map unnumbered (blocks mode (items_walk left r ks 0)) ≡ map unnumbered (earlier ++ later)
     new-split =
         ap (λ z. map unnumbered (blocks mode z)) (items-append before after r ks 0)
-        ∙ ap (map unnumbered) (blocks-append mode (items_walk (items_from before) r ks 0) (items_walk (items_from after) r ks (counted 0 before)))
+        ∙ ap (map unnumbered) (blocks-append mode (items_walk (items_from before) r ks 0)
+        (items_walk (items_from after) r ks (counted 0 before)))
         ∙ map-append unnumbered earlier (blocks mode (items_walk (items_from after) r ks (counted 0 before)))
         ∙ ap (λ z. map unnumbered earlier ++ z) (same-items mode (items_from after) r r ks (counted 0 before) (suc (element_count before)))
         ∙ sym (map-append unnumbered earlier later)
 
-    edit-blocks : BlockSplice mode q unnumbered m [] (blocks mode (slots_walk v.slots v.path v.keys)) (blocks mode (slots_walk (slots_under g v.slots) v.path v.keys))
+    edit-blocks : BlockSplice mode q unnumbered m [] (blocks mode (slots_walk v.slots v.path v.keys))
+        (blocks mode (slots_walk (slots_under g v.slots) v.path v.keys))
     edit-blocks =
         let a = beside v.path [] refl in
         record {
@@ -139,8 +155,10 @@ module _ (mode : Mode) where
           second = ap (map unnumbered) a.new_blocks
               ∙ map-widened unnumbered a.front (blocks mode (items_walk left r ks 0)) (earlier ++ later) a.back new-split
               ∙ ap (map unnumbered) (regroup a.front earlier [] later a.back);
-          out_front = all-append _ a.front earlier a.out_front (earlier-out mode q r (element_count before) (front-refl q) before ks 0 (omega (arith, count)));
-          out_back = all-append _ later a.back (later-out mode q r (element_count before) (front-refl q) (items_from after) ks (suc (element_count before)) (omega arith)) a.out_back;
+          out_front = all-append _ a.front earlier a.out_front
+              (earlier-out mode q r (element_count before) (front-refl q) before ks 0 (omega (arith, count)));
+          out_back = all-append _ later a.back (later-out mode q r (element_count before) (front-refl q) (items_from after) ks
+              (suc (element_count before)) (omega arith)) a.out_back;
         }
       where
         regroup : (x a m b y : List Block) → x ++ ((a ++ (m ++ b)) ++ y) ≡ (x ++ a) ++ (m ++ (b ++ y))
@@ -151,8 +169,10 @@ module _ (mode : Mode) where
 
     blocks-in : AllByRecursion (λ (b : Block). is_front q b.path ≡ true) m
     blocks-in =
-        subst (λ z. AllByRecursion (λ (b : Block). is_front q b.path ≡ true) z) (if-false f.is_dotted (blocks mode (slots_walk ss q ks)) m undotted)
-        (all-map (IsBlockUnder q) (λ (b : Block). is_front q b.path ≡ true) (blocks mode (node_walk (table f ss) q ks true)) (λ b d. d.0) (node-under mode q (table f ss) q ks true (front-refl q)))
+        subst (λ z. AllByRecursion (λ (b : Block). is_front q b.path ≡ true) z)
+        (if-false f.is_dotted (blocks mode (slots_walk ss q ks)) m undotted)
+        (all-map (IsBlockUnder q) (λ (b : Block). is_front q b.path
+        ≡ true) (blocks mode (node_walk (table f ss) q ks true)) (λ b d. d.0) (node-under mode q (table f ss) q ks true (front-refl q)))
 
     new-sound : SlotsAreSound u.slots
     new-sound =
@@ -160,19 +180,22 @@ module _ (mode : Mode) where
         (λ w d.
         let parts = sound-slot k (keyed l (tables e xs)) v.slots fd d in
         let its : ItemsAreSound left =
-        sound-items before after (sound-items-front before (table f ss ∷ after) (inside d)) (sound-items-back before (table f ss ∷ after) (inside d)).1 in
+        sound-items before after (sound-items-front before (table f ss ∷ after) (inside d)) (sound-items-back before (table f ss
+        ∷ after) (inside d)).1 in
         subst SlotsAreSound (sym is_new) (sound-append fd.front (keyed l (tables e left) ∷ fd.back) parts.0 (refl, its, parts.3)))
 
     element-steady : Steady mode u
     element-steady =
-        left-steady mode q unnumbered v g M m (λ b d. d) (λ b d. d) (at_key l.name) above edit-lines edit-blocks lines-in blocks-in t way made st leads new-sound
+        left-steady mode q unnumbered v g M m (λ b d. d) (λ b d. d) (at_key l.name) above edit-lines edit-blocks lines-in blocks-in t way
+        made st leads new-sound
 
     element-removed : statements (printed mode u) ≡ statements (outside mode q t)
     element-removed =
         ap statements (printed-tree mode u element-steady)
         ∙ sym (same-print mode (tree_blocks mode u))
         ∙ ap (λ z. statements (printed_all mode z))
-        (left-kept mode q unnumbered v g M m (λ b d. d) (λ b d. d) (at_key l.name) above edit-lines edit-blocks lines-in blocks-in t way made st leads new-sound)
+        (left-kept mode q unnumbered v g M m (λ b d. d) (λ b d. d) (at_key l.name) above edit-lines edit-blocks lines-in blocks-in t way
+        made st leads new-sound)
         ∙ same-print mode (map (trim mode q) (filter (keeps_block mode q) (tree_blocks mode t)))
         ∙ ap statements (tree-trim mode q t st (not-at-root mode v.path q (at_key l.name) above) ∙ sym (outside-is mode q t))
 
@@ -183,7 +206,8 @@ module _ (mode : Mode) where
       let same : q ≡ w.path = ap (λ (x : Visit). x.path) last in
       let g : List (Slot Node) → List (Slot Node) = changed k (on_item (on_items (removed_at i))) in
       let list : statements (printed mode (edited way g t)) ≡ statements (outside mode w.path t) =
-      element-removed t way v k i made st leads l e xs before f ss after is_there items place ∙ ap (λ z. statements (outside mode z t)) same in (
+      element-removed t way v k i made st leads l e xs before f ss after is_there items place
+      ∙ ap (λ z. statements (outside mode z t)) same in (
         list,
         edited-framed mode way g t ∙ ap (λ z. framed mode t (joined (map statement_text z))) list,
         stays-steady mode way (changed k (on_item (on_items (removed_at i)))) t

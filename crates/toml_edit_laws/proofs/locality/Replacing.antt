@@ -17,8 +17,10 @@ use Rattle.toml_edit_laws.proofs.locality.Blocks.{Block, blocks, is_headed, bloc
 use Rattle.toml_edit_laws.proofs.locality.Slots.{Found, found}
 use Rattle.toml_edit_laws.proofs.locality.Splice.{LineSplice, BlockSplice, Around, around}
 use Rattle.toml_edit_laws.proofs.locality.Along.{Whole, tree_blocks, whole-tree}
-use Rattle.toml_edit_laws.proofs.locality.Sound.{Steady, SlotsAreSound, steady-parts, along-sound, leads-made, leads-sound, sound-slot, sound-append}
-use Rattle.toml_edit_laws.proofs.locality.Printing.{printed_all, with_lines, printed-tree, IsOut, are-outside, header-out, map-lines-out, Parted, parted, headed-same, header-same, lined, headed-behind}
+use Rattle.toml_edit_laws.proofs.locality.Sound.{Steady, SlotsAreSound, steady-parts, along-sound, leads-made, leads-sound, sound-slot}
+use Rattle.toml_edit_laws.proofs.locality.Sound.{sound-append}
+use Rattle.toml_edit_laws.proofs.locality.Printing.{printed_all, with_lines, printed-tree, IsOut, are-outside, header-out, map-lines-out}
+use Rattle.toml_edit_laws.proofs.locality.Printing.{Parted, parted, headed-same, header-same, lined, headed-behind}
 use Rattle.toml_edit_laws.proofs.locality.Edited.{firm-visits, steady-same, whole-steady, stays-steady}
 use Rattle.toml_edit_laws.proofs.locality.Texts.{print-framed, edited-framed, texts-append}
 use Rattle.toml_edit_laws.proofs.locality.Values.{plain-value, plain-undotted, line-value, no-value-walk, value-sound, slot-line}
@@ -35,7 +37,8 @@ map-itself (b ∷ bs) = ap (λ z. b ∷ z) (map-itself bs)
 module _ (mode : Mode) where
   module _ (t : Tree) (way : List Turn) (v : Visit) (k : Text) (f : Key → Key) (l : Key) (old n : Node)
       (made : SlotsAreWellMade t.slots) (st : Steady mode t) (leads : Leads way (root_visit t) v)
-      (is_there : lookup_slot k (slot_list v.slots) ≡ Some (keyed l old)) (value : is_value_node old ≡ true) (plain : is_plain_value n ≡ true)
+      (is_there : lookup_slot k (slot_list v.slots) ≡ Some (keyed l old)) (value : is_value_node old ≡ true) (plain : is_plain_value n
+      ≡ true)
       (name : (f l).name ≡ l.name) where
     abbrev g : List (Slot Node) → List (Slot Node)
     g = changed k (λ s. (keyed (f s.key) n))
@@ -64,7 +67,8 @@ module _ (mode : Mode) where
     is_new : slots_under g v.slots ≡ slots_from (fd.front ++ (keyed (f l) n ∷ fd.back))
     is_new = ap slots_from (fd.change (λ s. (keyed (f s.key) n)))
 
-    beside : (bp : Path) (lk : List Key) → below bp lk ≡ v.path → Around mode q v bp lk (keyed l old) (keyed (f l) n) (slots_under g v.slots)
+    beside : (bp : Path) (lk : List Key) → below bp lk ≡ v.path
+        → Around mode q v bp lk (keyed l old) (keyed (f l) n) (slots_under g v.slots)
     beside bp lk at = around mode q v bp lk k (keyed l old) (keyed (f l) n) (slots_under g v.slots) at (front-refl q) fd is_new
 
     old-line : is_line_node old ≡ true
@@ -86,21 +90,25 @@ module _ (mode : Mode) where
           out_back = a.out_lines_back;
         }
 
-    edit-blocks : BlockSplice mode q itself [] [] (blocks mode (slots_walk v.slots v.path v.keys)) (blocks mode (slots_walk (slots_under g v.slots) v.path v.keys))
+    edit-blocks : BlockSplice mode q itself [] [] (blocks mode (slots_walk v.slots v.path v.keys))
+        (blocks mode (slots_walk (slots_under g v.slots) v.path v.keys))
     edit-blocks =
         let a = beside v.path [] refl in
         record {
           front = a.front;
           back = a.back;
-          first = a.old_blocks ∙ ap (λ z. a.front ++ (blocks mode z ++ a.back)) (no-value-walk old (to_key v.path l.name) (v.keys ++ (l ∷ [])) false value);
+          first = a.old_blocks ∙ ap (λ z. a.front ++ (blocks mode z ++ a.back)) (no-value-walk old (to_key v.path l.name) (v.keys
+              ++ (l ∷ [])) false value);
           second = ap (map itself)
-              (a.new_blocks ∙ ap (λ z. a.front ++ (blocks mode z ++ a.back)) (no-value-walk n (to_key v.path (f l).name) (v.keys ++ (f l ∷ [])) false (plain-value n plain)));
+              (a.new_blocks ∙ ap (λ z. a.front ++ (blocks mode z ++ a.back)) (no-value-walk n (to_key v.path (f l).name) (v.keys
+              ++ (f l ∷ [])) false (plain-value n plain)));
           out_front = a.out_front;
           out_back = a.out_back;
         }
 
     whole : Whole mode q itself v g M N [] [] (tree_blocks mode t) (tree_blocks mode u)
-    whole = whole-tree mode q itself v g M N [] [] (at_key l.name) (front-refl q) edit-lines edit-blocks way t made (firm-visits mode t st) leads
+    whole = whole-tree mode q itself v g M N [] [] (at_key l.name) (front-refl q) edit-lines edit-blocks way t made (firm-visits mode t st)
+        leads
 
     abbrev changed_block : Block
     changed_block = with_lines whole.block whole.lines
@@ -110,10 +118,12 @@ module _ (mode : Mode) where
     some-lines (y ∷ xs) ys x = refl
 
     old-lines : is_empty whole.block.lines ≡ false
-    old-lines = ap is_empty whole.changes.first ∙ some-lines whole.changes.front whole.changes.back (value_line mode (whole.keys ++ (l ∷ [])) old)
+    old-lines = ap is_empty whole.changes.first ∙ some-lines whole.changes.front whole.changes.back (value_line mode (whole.keys
+        ++ (l ∷ [])) old)
 
     new-lines : is_empty whole.lines ≡ false
-    new-lines = ap is_empty whole.changes.second ∙ some-lines whole.changes.front whole.changes.back (value_line mode (whole.keys ++ (f l ∷ [])) n)
+    new-lines = ap is_empty whole.changes.second ∙ some-lines whole.changes.front whole.changes.back (value_line mode (whole.keys
+        ++ (f l ∷ [])) n)
 
     as-before : is_headed changed_block ≡ is_headed whole.block
     as-before = headed-same whole.block whole.lines (new-lines ∙ sym old-lines)
@@ -127,7 +137,8 @@ module _ (mode : Mode) where
         (sound-append fd.front (keyed (f l) n ∷ fd.back) parts.0 (plain-undotted n plain, value-sound n (plain-value n plain), parts.3)))
 
     new-steady : Steady mode u
-    new-steady = whole-steady mode q itself v g M N [] [] (λ b s. s) (λ b s. s) way t st new-sound whole (steady-same whole.block whole.lines as-before) tt
+    new-steady = whole-steady mode q itself v g M N [] [] (λ b s. s) (λ b s. s) way t st new-sound whole
+        (steady-same whole.block whole.lines as-before) tt
 
     two-blocks : Parted mode q whole.block changed_block (printed_all mode (whole.front ++ (whole.block ∷ (whole.middle ++ whole.back))))
         (printed_all mode (whole.front ++ (changed_block ∷ (whole.middle ++ whole.back))))
@@ -140,7 +151,8 @@ module _ (mode : Mode) where
     -- a block with one line among others
     among : (b : Block) (xs ys : List Line) (x : Line) (before after : List Printed) → b.lines ≡ xs ++ (x ∷ ys)
         → before ++ (block_printed mode b ++ after)
-        ≡ (before ++ (block_header mode b ++ map (printed_line mode b.path) xs)) ++ (printed_line mode b.path x ∷ (map (printed_line mode b.path) ys ++ after))
+        ≡ (before ++ (block_header mode b ++ map (printed_line mode b.path) xs))
+        ++ (printed_line mode b.path x ∷ (map (printed_line mode b.path) ys ++ after))
     among b xs ys x before after e =
         ap (λ z. before ++ ((block_header mode b ++ map (printed_line mode b.path) z) ++ after)) e
         ∙ ap (λ z. before ++ ((block_header mode b ++ z) ++ after)) (map-append (printed_line mode b.path) xs (x ∷ ys))
@@ -162,7 +174,8 @@ module _ (mode : Mode) where
     first-list =
         let c = whole.changes in
         let p = two-blocks in
-        printed-tree mode t st ∙ ap (printed_all mode) whole.first ∙ p.first ∙ among whole.block c.front c.back old_line p.front p.back c.first
+        printed-tree mode t st ∙ ap (printed_all mode) whole.first ∙ p.first
+        ∙ among whole.block c.front c.back old_line p.front p.back c.first
 
     second-list : printed mode u ≡ before_it ++ (printed_line mode whole.block.path new_line ∷ after_it)
     second-list =
@@ -170,9 +183,11 @@ module _ (mode : Mode) where
         let p = two-blocks in
         let b = whole.block in
         printed-tree mode u new-steady
-        ∙ ap (printed_all mode) (sym (map-itself (tree_blocks mode u)) ∙ whole.second ∙ map-itself (whole.front ++ (changed_block ∷ (whole.middle ++ whole.back))))
+        ∙ ap (printed_all mode) (sym (map-itself (tree_blocks mode u)) ∙ whole.second
+        ∙ map-itself (whole.front ++ (changed_block ∷ (whole.middle ++ whole.back))))
         ∙ p.second ∙ among changed_block c.front c.back new_line p.front p.back c.second
-        ∙ ap (λ z. (p.front ++ (z ++ map (printed_line mode b.path) c.front)) ++ (printed_line mode b.path new_line ∷ (map (printed_line mode b.path) c.back ++ p.back)))
+        ∙ ap (λ z. (p.front ++ (z ++ map (printed_line mode b.path) c.front))
+        ++ (printed_line mode b.path new_line ∷ (map (printed_line mode b.path) c.back ++ p.back)))
         (header-same mode b whole.lines as-before)
 
     one-changes : OneChanges mode t u q l (f l) old n
@@ -191,16 +206,21 @@ module _ (mode : Mode) where
           other_path = below-last b.path whole.keys (f l) ∙ ap (λ z. to_key z (f l).name) whole.at ∙ ap (λ z. to_key v.path z) name;
           others_before = are-outside q before_it
               (all-append (IsOut q) p.front (block_header mode b ++ map (printed_line mode b.path) c.front) p.out_front
-              (all-append (IsOut q) (block_header mode b) (map (printed_line mode b.path) c.front) (header-out mode q b whole.out_path) (map-lines-out mode q b.path c.front c.out_front)));
+              (all-append (IsOut q) (block_header mode b) (map (printed_line mode b.path) c.front) (header-out mode q b whole.out_path)
+              (map-lines-out mode q b.path c.front c.out_front)));
           others_after = are-outside q after_it
-              (all-append (IsOut q) (map (printed_line mode b.path) c.back) p.back (map-lines-out mode q b.path c.back c.out_back) p.out_back);
-          text = print-framed mode t ∙ ap (λ z. framed mode t (texts z)) first-list ∙ ap (framed mode t) (texts-append before_it (printed_line mode b.path old_line ∷ after_it));
-          other_text = edited-framed mode way g t ∙ ap (λ z. framed mode t (texts z)) second-list ∙ ap (framed mode t) (texts-append before_it (printed_line mode b.path new_line ∷ after_it));
+              (all-append (IsOut q) (map (printed_line mode b.path) c.back) p.back (map-lines-out mode q b.path c.back c.out_back)
+              p.out_back);
+          text = print-framed mode t ∙ ap (λ z. framed mode t (texts z)) first-list
+              ∙ ap (framed mode t) (texts-append before_it (printed_line mode b.path old_line ∷ after_it));
+          other_text = edited-framed mode way g t ∙ ap (λ z. framed mode t (texts z)) second-list
+              ∙ ap (framed mode t) (texts-append before_it (printed_line mode b.path new_line ∷ after_it));
         }
 
   pub replaced : Replaced mode
   replaced t way v k f l old n made steady leads is_there value plain name =
       let st : Steady mode t = steady-parts mode t steady in (
         one-changes t way v k f l old n made st leads is_there value plain name,
-        stays-steady mode way (changed k (λ s. (keyed (f s.key) n))) t (new-steady t way v k f l old n made st leads is_there value plain name),
+        stays-steady mode way (changed k (λ s. (keyed (f s.key) n))) t
+            (new-steady t way v k f l old n made st leads is_there value plain name),
       )

@@ -41,13 +41,15 @@ item_list-from (x ∷ xs) = ap (λ r. x ∷ r) (item_list-from xs)
 module _ (mode : Mode) where
   -- ---- lists joined
 
-  pub lines-append : (xs ys : List (Slot Node)) (ks : List Key) → table_lines mode (slots_from (xs ++ ys)) ks ≡ table_lines mode (slots_from xs) ks ++ table_lines mode (slots_from ys) ks
+  pub lines-append : (xs ys : List (Slot Node)) (ks : List Key) → table_lines mode (slots_from (xs ++ ys)) ks
+      ≡ table_lines mode (slots_from xs) ks ++ table_lines mode (slots_from ys) ks
   lines-append [] ys ks = refl
   lines-append (x ∷ xs) ys ks =
       ap (λ ls. slot_lines mode x.key x.item ks ++ ls) (lines-append xs ys ks)
       ∙ sym (append_assoc (slot_lines mode x.key x.item ks) (table_lines mode (slots_from xs) ks) (table_lines mode (slots_from ys) ks))
 
-pub walk-append : (xs ys : List (Slot Node)) (p : Path) (ks : List Key) → slots_walk (slots_from (xs ++ ys)) p ks ≡ slots_walk (slots_from xs) p ks ++ slots_walk (slots_from ys) p ks
+pub walk-append : (xs ys : List (Slot Node)) (p : Path) (ks : List Key) → slots_walk (slots_from (xs ++ ys)) p ks
+    ≡ slots_walk (slots_from xs) p ks ++ slots_walk (slots_from ys) p ks
 walk-append [] ys p ks = refl
 walk-append (x ∷ xs) ys p ks =
     let own = node_walk x.item (to_key p x.key.name) (ks ++ (x.key ∷ [])) false in
@@ -61,7 +63,8 @@ HaveOtherKeys k xs = AllByRecursion (λ s. same_text k s.key.name ≡ false) xs
 
 pub other-keys : (k : Text) (ss : Slots) → has_key k ss ≡ false → HaveOtherKeys k (slot_list ss)
 other-keys k no_slots h = tt
-other-keys k (slot l n ss) h = (or-left (same_text k l.name) (has_key k ss) h, other-keys k ss (or-right (same_text k l.name) (has_key k ss) h))
+other-keys k (slot l n ss) h =
+    (or-left (same_text k l.name) (has_key k ss) h, other-keys k ss (or-right (same_text k l.name) (has_key k ss) h))
 
 pub record Found (k : Text) (s : Slot Node) (ss : List (Slot Node)) : Type 0 where
   pub front : List (Slot Node)
@@ -101,7 +104,8 @@ found k (slot l n ss) s w h = by_test (same_text k l.name) refl h (found k ss s 
           others_front = tt;
           others_back = others;
           made = w.2;
-          change = λ f. rw e (ap (λ ys. f (keyed l n) ∷ ys) (changed-others k f (slot_list ss) (subst (λ x. HaveOtherKeys x (slot_list ss)) (sym name) others)));
+          change = λ f. rw e (ap (λ ys. f (keyed l n) ∷ ys) (changed-others k f (slot_list ss)
+              (subst (λ x. HaveOtherKeys x (slot_list ss)) (sym name) others)));
           remove = rw e (without-others k (slot_list ss) (subst (λ x. HaveOtherKeys x (slot_list ss)) (sym name) others));
         })
     by_test false e g ih =
@@ -123,7 +127,8 @@ pub none-there : (k : Text) (xs : List (Slot Node)) → lookup_slot k xs ≡ Non
 none-there k [] h = tt
 none-there k (x ∷ xs) h = by_test (same_text k x.key.name) refl h (none-there k xs)
   where
-    by_test : (b : Bool) → same_text k x.key.name ≡ b → (if b then Some x else lookup_slot k xs) ≡ None → (lookup_slot k xs ≡ None → HaveOtherKeys k xs)
+    by_test : (b : Bool) → same_text k x.key.name ≡ b → (if b then Some x else lookup_slot k xs) ≡ None
+        → (lookup_slot k xs ≡ None → HaveOtherKeys k xs)
         → HaveOtherKeys k (x ∷ xs)
     by_test true e g ih = absurd cc
     by_test false e g ih = (e, ih g)

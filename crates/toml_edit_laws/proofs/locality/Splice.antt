@@ -13,7 +13,8 @@ use Rattle.toml_edit_model.specs.Slots.{Slot}
 use Rattle.toml_edit_model.specs.Lists.{slot_list, slots_from}
 use Rattle.toml_edit_laws.proofs.common.PathLaws.{is_front, front-refl, below-last}
 use Rattle.toml_edit_laws.proofs.locality.Blocks.{Block, blocks, blocks-append}
-use Rattle.toml_edit_laws.proofs.locality.Under.{apart-keys, slot_lines, IsLineOut, IsBlockOut, slot-lines-under, node-under, lines-out, blocks-out, all-blocks-append}
+use Rattle.toml_edit_laws.proofs.locality.Under.{apart-keys, slot_lines, IsLineOut, IsBlockOut, slot-lines-under, node-under, lines-out}
+use Rattle.toml_edit_laws.proofs.locality.Under.{blocks-out, all-blocks-append}
 use Rattle.toml_edit_laws.proofs.locality.Slots.{slots_from-list, lines-append, walk-append, HaveOtherKeys, Found}
 use Rattle.toml_edit_laws.proofs.common.Each.{all-append, all-front, all-back}
 
@@ -44,32 +45,38 @@ module _ (mode : Mode) where
 
   -- the other slots of a table stand outside of a path at or below one of its slots
   module _ (q p : Path) (k : Text) (above : is_front (to_key p k) q ≡ true) where
-    pub other-lines-out : (bp : Path) (lk : List Key) (xs : List (Slot Node)) → below bp lk ≡ p → HaveOtherKeys k xs → AllByRecursion (IsLineOut q bp) (table_lines mode (slots_from xs) lk)
+    pub other-lines-out : (bp : Path) (lk : List Key) (xs : List (Slot Node)) → below bp lk ≡ p → HaveOtherKeys k xs
+        → AllByRecursion (IsLineOut q bp) (table_lines mode (slots_from xs) lk)
     other-lines-out bp lk [] e h = tt
     other-lines-out bp lk (x ∷ xs) e h =
         let r : Path = to_key p x.key.name in
         let there : below bp (lk ++ (x.key ∷ [])) ≡ r = below-last bp lk x.key ∙ ap (λ z. to_key z x.key.name) e in
         let under : is_front r (below bp (lk ++ (x.key ∷ []))) ≡ true = subst (λ z. is_front r z ≡ true) (sym there) (front-refl r) in
         all-append (IsLineOut q bp) (slot_lines mode x.key x.item lk) (table_lines mode (slots_from xs) lk)
-        (lines-out q r bp (slot_lines mode x.key x.item lk) (apart-keys p q k x.key.name above h.0) (slot-lines-under mode bp r x.key x.item lk under))
+        (lines-out q r bp (slot_lines mode x.key x.item lk) (apart-keys p q k x.key.name above h.0)
+        (slot-lines-under mode bp r x.key x.item lk under))
         (other-lines-out bp lk xs e h.1)
 
-    pub other-blocks-out : (ks : List Key) (xs : List (Slot Node)) → HaveOtherKeys k xs → AllByRecursion (IsBlockOut q) (blocks mode (slots_walk (slots_from xs) p ks))
+    pub other-blocks-out : (ks : List Key) (xs : List (Slot Node)) → HaveOtherKeys k xs
+        → AllByRecursion (IsBlockOut q) (blocks mode (slots_walk (slots_from xs) p ks))
     other-blocks-out ks [] h = tt
     other-blocks-out ks (x ∷ xs) h =
         let r : Path = to_key p x.key.name in
         let own = node_walk x.item r (ks ++ (x.key ∷ [])) false in
         all-blocks-append mode (IsBlockOut q) own (slots_walk (slots_from xs) p ks)
-        (blocks-out q r (blocks mode own) (apart-keys p q k x.key.name above h.0) (node-under mode r x.item r (ks ++ (x.key ∷ [])) false (front-refl r)))
+        (blocks-out q r (blocks mode own) (apart-keys p q k x.key.name above h.0) (node-under mode r x.item r (ks
+        ++ (x.key ∷ [])) false (front-refl r)))
         (other-blocks-out ks xs h.1)
 
   pub lines-split : (xs : List (Slot Node)) (y : Slot Node) (ys : List (Slot Node)) (lk : List Key)
-      → table_lines mode (slots_from (xs ++ (y ∷ ys))) lk ≡ table_lines mode (slots_from xs) lk ++ (slot_lines mode y.key y.item lk ++ table_lines mode (slots_from ys) lk)
+      → table_lines mode (slots_from (xs ++ (y ∷ ys))) lk ≡ table_lines mode (slots_from xs) lk
+      ++ (slot_lines mode y.key y.item lk ++ table_lines mode (slots_from ys) lk)
   lines-split xs y ys lk = lines-append mode xs (y ∷ ys) lk
 
   pub blocks-split : (xs : List (Slot Node)) (y : Slot Node) (ys : List (Slot Node)) (p : Path) (ks : List Key)
       → blocks mode (slots_walk (slots_from (xs ++ (y ∷ ys))) p ks)
-      ≡ blocks mode (slots_walk (slots_from xs) p ks) ++ (blocks mode (node_walk y.item (to_key p y.key.name) (ks ++ (y.key ∷ [])) false) ++ blocks mode (slots_walk (slots_from ys) p ks))
+      ≡ blocks mode (slots_walk (slots_from xs) p ks) ++ (blocks mode (node_walk y.item (to_key p y.key.name) (ks ++ (y.key ∷ [])) false)
+      ++ blocks mode (slots_walk (slots_from ys) p ks))
   blocks-split xs y ys p ks =
       let own = node_walk y.item (to_key p y.key.name) (ks ++ (y.key ∷ [])) false in
       ap (blocks mode) (walk-append xs (y ∷ ys) p ks)

@@ -27,7 +27,8 @@ module _ (k : Text) (G : Slot Node → Slot Node) (keeps : (s : Slot Node) → (
           ∙ ap (λ (y : Slot Node). Some (G y)) (some-is x s g)
       by_test false e g ih = if-false (same_text k x.key.name) (Some x) (lookup_slot k (changed k G ss)) e ∙ ih g
 
-  pub changed-twice : (F H : Slot Node → Slot Node) → ((s : Slot Node) → F (G s) ≡ H s) → (ss : List (Slot Node)) → changed k F (changed k G ss) ≡ changed k H ss
+  pub changed-twice : (F H : Slot Node → Slot Node) → ((s : Slot Node) → F (G s) ≡ H s) → (ss : List (Slot Node))
+      → changed k F (changed k G ss) ≡ changed k H ss
   changed-twice F H same [] = refl
   changed-twice F H same (x ∷ ss) = by_test (same_text k x.key.name) refl (changed-twice F H same ss)
     where
@@ -46,13 +47,16 @@ module _ (k : Text) (G : Slot Node → Slot Node) (keeps : (s : Slot Node) → (
       by_test : (b : Bool) → same_text k x.key.name ≡ b → without k (changed k G ss) ≡ without k ss
           → without k ((if b then G x else x) ∷ changed k G ss) ≡ (if not b then x ∷ without k ss else without k ss)
       by_test true e ih =
-          if-false (not (same_text k (G x).key.name)) (G x ∷ without k (changed k G ss)) (without k (changed k G ss)) (ap not (ap (same_text k) (keeps x) ∙ e)) ∙ ih
+          if-false (not (same_text k (G x).key.name)) (G x ∷ without k (changed k G ss)) (without k (changed k G ss))
+          (ap not (ap (same_text k) (keeps x) ∙ e)) ∙ ih
       by_test false e ih =
-          if-true (not (same_text k x.key.name)) (x ∷ without k (changed k G ss)) (without k (changed k G ss)) (ap not e) ∙ ap (λ ys. x ∷ ys) ih
+          if-true (not (same_text k x.key.name)) (x ∷ without k (changed k G ss)) (without k (changed k G ss)) (ap not e)
+          ∙ ap (λ ys. x ∷ ys) ih
 
 -- ---- changes inside
 
-slots-twice : (a b c : List (Slot Node) → List (Slot Node)) → ((ss : List (Slot Node)) → a (b ss) ≡ c ss) → (n : Node) → on_slots a (on_slots b n) ≡ on_slots c n
+slots-twice : (a b c : List (Slot Node) → List (Slot Node)) → ((ss : List (Slot Node)) → a (b ss) ≡ c ss) → (n : Node)
+    → on_slots a (on_slots b n) ≡ on_slots c n
 slots-twice a b c same (table f ss) = ap (λ xs. table f (slots_from xs)) (ap a (slot_list-from (b (slot_list ss))) ∙ same (slot_list ss))
 slots-twice a b c same (inline f ss) = ap (λ xs. inline f (slots_from xs)) (ap a (slot_list-from (b (slot_list ss))) ∙ same (slot_list ss))
 slots-twice a b c same (leaf s r d) = refl
@@ -68,7 +72,8 @@ items-twice a b c same (inline f ss) = refl
 items-twice a b c same (table f ss) = refl
 items-twice a b c same nothing = refl
 
-at-twice : (i : ℕ) (a b c : Node → Node) → ((n : Node) → a (b n) ≡ c n) → (ns : List Node) → changed_at i a (changed_at i b ns) ≡ changed_at i c ns
+at-twice : (i : ℕ) (a b c : Node → Node) → ((n : Node) → a (b n) ≡ c n) → (ns : List Node) → changed_at i a (changed_at i b ns)
+    ≡ changed_at i c ns
 at-twice i a b c same [] = refl
 at-twice zero a b c same (n ∷ ns) = ap (λ m. m ∷ ns) (same n)
 at-twice (suc i) a b c same (n ∷ ns) = ap (λ ms. n ∷ ms) (at-twice i a b c same ns)
@@ -80,24 +85,28 @@ along-twice (into_table k ∷ way) g h c same ss =
     changed-twice k (on_item (on_slots (along way h))) (λ s. refl) (on_item (on_slots (along way g))) (on_item (on_slots (along way c)))
     (λ s. ap (keyed s.key) (slots-twice (along way g) (along way h) (along way c) (along-twice way g h c same) s.item)) ss
 along-twice (into_element k i ∷ way) g h c same ss =
-    changed-twice k (on_item (on_items (changed_at i (on_slots (along way h))))) (λ s. refl) (on_item (on_items (changed_at i (on_slots (along way g)))))
+    changed-twice k (on_item (on_items (changed_at i (on_slots (along way h))))) (λ s. refl)
+    (on_item (on_items (changed_at i (on_slots (along way g)))))
     (on_item (on_items (changed_at i (on_slots (along way c)))))
     (λ s. ap (keyed s.key)
     (items-twice (changed_at i (on_slots (along way g))) (changed_at i (on_slots (along way h))) (changed_at i (on_slots (along way c)))
     (at-twice i (on_slots (along way g)) (on_slots (along way h)) (on_slots (along way c))
     (slots-twice (along way g) (along way h) (along way c) (along-twice way g h c same))) s.item)) ss
 
-pub edited-twice : (way : List Turn) (g h c : List (Slot Node) → List (Slot Node)) → ((ss : List (Slot Node)) → g (h ss) ≡ c ss) → (t : Tree)
+pub edited-twice : (way : List Turn) (g h c : List (Slot Node) → List (Slot Node)) → ((ss : List (Slot Node)) → g (h ss) ≡ c ss)
+    → (t : Tree)
     → edited way g (edited way h t) ≡ edited way c t
 edited-twice way g h c same t =
-    ap (λ xs. record t { slots = slots_from xs }) (ap (along way g) (slot_list-from (along way h (slot_list t.slots))) ∙ along-twice way g h c same (slot_list t.slots))
+    ap (λ xs. record t { slots = slots_from xs }) (ap (along way g) (slot_list-from (along way h (slot_list t.slots)))
+    ∙ along-twice way g h c same (slot_list t.slots))
 
 -- ---- the way still leads to the table
 
 abbrev pub with_slots : (List (Slot Node) → List (Slot Node)) → Visit → Visit
 with_slots g v = visit_of v.path v.keys v.is_element v.fields (slots_under g v.slots)
 
-pub leads-edited : (way : List Turn) (g : List (Slot Node) → List (Slot Node)) (s v : Visit) → Leads way s v → Leads way (with_slots (along way g) s) (with_slots g v)
+pub leads-edited : (way : List Turn) (g : List (Slot Node) → List (Slot Node)) (s v : Visit) → Leads way s v
+    → Leads way (with_slots (along way g) s) (with_slots g v)
 leads-edited [] g s v e = ap (with_slots g) e
 leads-edited (into_table k ∷ way) g s v (l, f, ss, eq, rest) = (
   l,
@@ -116,7 +125,8 @@ leads-edited (into_element k i ∷ way) g s v (l, e, xs, before, f, ss, after, e
   slots_under (along way g) ss,
   after,
   ap (lookup_slot k) (slot_list-from (changed k (on_item (on_items (changed_at i (on_slots (along way g))))) (slot_list s.slots)))
-      ∙ lookup-changed k (on_item (on_items (changed_at i (on_slots (along way g))))) (λ x. refl) (slot_list s.slots) (keyed l (tables e xs)) eq,
+      ∙ lookup-changed k (on_item (on_items (changed_at i (on_slots (along way g))))) (λ x. refl) (slot_list s.slots)
+      (keyed l (tables e xs)) eq,
   item_list-from (changed_at i (on_slots (along way g)) (item_list xs)) ∙ ap (changed_at i (on_slots (along way g))) items
       ∙ change-item before (table f ss) after i (on_slots (along way g)) place,
   place,

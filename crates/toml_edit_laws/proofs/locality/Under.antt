@@ -47,7 +47,8 @@ front-elements [] (t ∷ q) n m h g =
     eq-eqb n m same
 front-elements (s ∷ p) [] n m h g = absurd cc
 front-elements (s ∷ p) (t ∷ q) n m h g =
-    front-elements p q n m (and_right (same_step s t) (is_front (to_element p n) q) h) (and_right (same_step s t) (is_front (to_element p m) q) g)
+    front-elements p q n m (and_right (same_step s t) (is_front (to_element p n) q) h)
+    (and_right (same_step s t) (is_front (to_element p m) q) g)
 
 pub apart-elements : (p q : Path) (n m : ℕ) → is_front (to_element p n) q ≡ true → (n == m) ≡ false → IsApart q (to_element p m)
 apart-elements p q n m h d s e =
@@ -80,7 +81,11 @@ module _ (mode : Mode) where
 
   -- the lines of a slot
   abbrev pub slot_lines : Key → Node → List Key → List Line
-  slot_lines k n ks = elim (is_line_node n) [ true ↦ line_of (ks ++ (k ∷ [])) n (value_of mode n) | false ↦ dotted_lines mode n (ks ++ (k ∷ [])) ]
+  slot_lines k n ks = elim (is_line_node n) [
+    | true ↦ line_of (ks ++ (k ∷ [])) n (value_of mode n)
+    | false ↦
+        dotted_lines mode n (ks ++ (k ∷ []))
+  ]
 
   module _ (bp r : Path) where
     next-under : (ks : List Key) (k : Key) → is_front r (below bp ks) ≡ true → is_front r (below bp (ks ++ (k ∷ []))) ≡ true
@@ -94,16 +99,23 @@ module _ (mode : Mode) where
     either-way false xs ys h g = g
 
     mutual
-      inside-under : (ss : Slots) (ks : List Key) → is_front r (below bp ks) ≡ true → AllByRecursion (IsLineUnder r bp) (inside_lines mode ss ks)
+      inside-under : (ss : Slots) (ks : List Key) → is_front r (below bp ks) ≡ true
+          → AllByRecursion (IsLineUnder r bp) (inside_lines mode ss ks)
       inside-under no_slots ks h = tt
       inside-under (slot k n ss) ks h =
-          all-append (IsLineUnder r bp) (elim (is_line_node n) [ true ↦ line_of (ks ++ (k ∷ [])) n (value_of mode n) | false ↦ lines_inside mode n (ks ++ (k ∷ [])) ])
+          all-append (IsLineUnder r bp) (elim (is_line_node n) [
+            | true ↦ line_of (ks ++ (k ∷ [])) n (value_of mode n)
+            | false ↦
+                lines_inside mode n (ks ++ (k ∷ []))
+          ])
           (inside_lines mode ss ks)
-          (either-way (is_line_node n) (line_of (ks ++ (k ∷ [])) n (value_of mode n)) (lines_inside mode n (ks ++ (k ∷ []))) (next-under ks k h, tt)
+          (either-way (is_line_node n) (line_of (ks ++ (k ∷ [])) n (value_of mode n)) (lines_inside mode n (ks ++ (k ∷ [])))
+          (next-under ks k h, tt)
           (node-inside-under n (ks ++ (k ∷ [])) (next-under ks k h)))
           (inside-under ss ks h)
 
-      node-inside-under : (n : Node) (ks : List Key) → is_front r (below bp ks) ≡ true → AllByRecursion (IsLineUnder r bp) (lines_inside mode n ks)
+      node-inside-under : (n : Node) (ks : List Key) → is_front r (below bp ks) ≡ true
+          → AllByRecursion (IsLineUnder r bp) (lines_inside mode n ks)
       node-inside-under (inline f ss) ks h = inside-under ss ks h
       node-inside-under (table f ss) ks h = inside-under ss ks h
       node-inside-under (leaf s d e) ks h = tt
@@ -112,18 +124,22 @@ module _ (mode : Mode) where
       node-inside-under nothing ks h = tt
 
     mutual
-      pub lines-under : (ss : Slots) (ks : List Key) → is_front r (below bp ks) ≡ true → AllByRecursion (IsLineUnder r bp) (table_lines mode ss ks)
+      pub lines-under : (ss : Slots) (ks : List Key) → is_front r (below bp ks) ≡ true
+          → AllByRecursion (IsLineUnder r bp) (table_lines mode ss ks)
       lines-under no_slots ks h = tt
       lines-under (slot k n ss) ks h =
           all-append (IsLineUnder r bp) (slot_lines k n ks) (table_lines mode ss ks)
-          (either-way (is_line_node n) (line_of (ks ++ (k ∷ [])) n (value_of mode n)) (dotted_lines mode n (ks ++ (k ∷ []))) (next-under ks k h, tt)
+          (either-way (is_line_node n) (line_of (ks ++ (k ∷ [])) n (value_of mode n)) (dotted_lines mode n (ks ++ (k ∷ [])))
+          (next-under ks k h, tt)
           (dotted-under n (ks ++ (k ∷ [])) (next-under ks k h)))
           (lines-under ss ks h)
 
-      dotted-under : (n : Node) (ks : List Key) → is_front r (below bp ks) ≡ true → AllByRecursion (IsLineUnder r bp) (dotted_lines mode n ks)
+      dotted-under : (n : Node) (ks : List Key) → is_front r (below bp ks) ≡ true
+          → AllByRecursion (IsLineUnder r bp) (dotted_lines mode n ks)
       dotted-under (table f ss) ks h = if_dotted f.is_dotted (lines-under ss ks h)
         where
-          if_dotted : (b : Bool) → AllByRecursion (IsLineUnder r bp) (table_lines mode ss ks) → AllByRecursion (IsLineUnder r bp) (if b then table_lines mode ss ks else [])
+          if_dotted : (b : Bool) → AllByRecursion (IsLineUnder r bp) (table_lines mode ss ks)
+              → AllByRecursion (IsLineUnder r bp) (if b then table_lines mode ss ks else [])
           if_dotted true g = g
           if_dotted false g = tt
       dotted-under (inline f ss) ks h = inside-under ss ks h
@@ -135,18 +151,23 @@ module _ (mode : Mode) where
     pub slot-lines-under : (k : Key) (n : Node) (ks : List Key) → is_front r (below bp (ks ++ (k ∷ []))) ≡ true
         → AllByRecursion (IsLineUnder r bp) (slot_lines k n ks)
     slot-lines-under k n ks h =
-        either-way (is_line_node n) (line_of (ks ++ (k ∷ [])) n (value_of mode n)) (dotted_lines mode n (ks ++ (k ∷ []))) (h, tt) (dotted-under n (ks ++ (k ∷ [])) h)
+        either-way (is_line_node n) (line_of (ks ++ (k ∷ [])) n (value_of mode n)) (dotted_lines mode n (ks ++ (k ∷ []))) (
+          h,
+          tt,
+        ) (dotted-under n (ks ++ (k ∷ [])) h)
 
   -- ---- blocks
 
-  pub all-block : (P : Block → Type 0) (v : Visit) (vs : List Visit) → P (block_of mode v) → AllByRecursion P (blocks mode vs) → AllByRecursion P (blocks mode (v ∷ vs))
+  pub all-block : (P : Block → Type 0) (v : Visit) (vs : List Visit) → P (block_of mode v) → AllByRecursion P (blocks mode vs)
+      → AllByRecursion P (blocks mode (v ∷ vs))
   all-block P v vs h g = by_test v.fields.is_dotted
     where
       by_test : (b : Bool) → AllByRecursion P (if b then blocks mode vs else block_of mode v ∷ blocks mode vs)
       by_test true = g
       by_test false = (h, g)
 
-  pub all-blocks-append : (P : Block → Type 0) (vs ws : List Visit) → AllByRecursion P (blocks mode vs) → AllByRecursion P (blocks mode ws) → AllByRecursion P (blocks mode (vs ++ ws))
+  pub all-blocks-append : (P : Block → Type 0) (vs ws : List Visit) → AllByRecursion P (blocks mode vs) → AllByRecursion P (blocks mode ws)
+      → AllByRecursion P (blocks mode (vs ++ ws))
   all-blocks-append P vs ws h g = rw (blocks-append mode vs ws) (all-append P (blocks mode vs) (blocks mode ws) h g)
 
   module _ (r : Path) where
@@ -157,16 +178,19 @@ module _ (mode : Mode) where
     further p x h = front-through r p (p ++ (x ∷ [])) h (front-more p (x ∷ []))
 
     mutual
-      pub node-under : (n : Node) (p : Path) (ks : List Key) (b : Bool) → is_front r p ≡ true → AllByRecursion (IsBlockUnder r) (blocks mode (node_walk n p ks b))
+      pub node-under : (n : Node) (p : Path) (ks : List Key) (b : Bool) → is_front r p ≡ true
+          → AllByRecursion (IsBlockUnder r) (blocks mode (node_walk n p ks b))
       node-under (table f ss) p ks b h =
-          all-block (IsBlockUnder r) (visit_of p ks b f ss) (slots_walk ss p ks) (block-under (visit_of p ks b f ss) h) (slots-under ss p ks h)
+          all-block (IsBlockUnder r) (visit_of p ks b f ss) (slots_walk ss p ks) (block-under (visit_of p ks b f ss) h)
+          (slots-under ss p ks h)
       node-under (tables e xs) p ks b h = items-under xs p ks 0 h
       node-under (leaf s d e) p ks b h = tt
       node-under (list f xs) p ks b h = tt
       node-under (inline f ss) p ks b h = tt
       node-under nothing p ks b h = tt
 
-      pub items-under : (xs : Items) (p : Path) (ks : List Key) (n : ℕ) → is_front r p ≡ true → AllByRecursion (IsBlockUnder r) (blocks mode (items_walk xs p ks n))
+      pub items-under : (xs : Items) (p : Path) (ks : List Key) (n : ℕ) → is_front r p ≡ true
+          → AllByRecursion (IsBlockUnder r) (blocks mode (items_walk xs p ks n))
       items-under no_items p ks n h = tt
       items-under (item (table f ss) xs) p ks n h =
           let v = visit_of (to_element p n) ks true f ss in
@@ -180,7 +204,8 @@ module _ (mode : Mode) where
       items-under (item (inline f ss) xs) p ks n h = items-under xs p ks n h
       items-under (item nothing xs) p ks n h = items-under xs p ks n h
 
-      pub slots-under : (ss : Slots) (p : Path) (ks : List Key) → is_front r p ≡ true → AllByRecursion (IsBlockUnder r) (blocks mode (slots_walk ss p ks))
+      pub slots-under : (ss : Slots) (p : Path) (ks : List Key) → is_front r p ≡ true
+          → AllByRecursion (IsBlockUnder r) (blocks mode (slots_walk ss p ks))
       slots-under no_slots p ks h = tt
       slots-under (slot k n ss) p ks h =
           all-blocks-append (IsBlockUnder r) (node_walk n (to_key p k.name) (ks ++ (k ∷ [])) false) (slots_walk ss p ks)

@@ -5,7 +5,8 @@ use Rattle.toml_edit_model.specs.Mode.{Mode, line_end, line_newline}
 use Rattle.toml_edit_model.specs.Text.{Text}
 use Rattle.toml_edit_model.specs.Syntax.{Frame, key_line}
 use Rattle.toml_edit_model.specs.Paths.{Path}
-use Rattle.toml_edit_model.specs.Tree.{Decor, shown_prefix, shown_suffix, Key, Node, nothing, leaf, list, inline, table, tables, node_decor, is_value_node}
+use Rattle.toml_edit_model.specs.Tree.{Decor, shown_prefix, shown_suffix, Key, Node, nothing, leaf, list, inline, table, tables, node_decor}
+use Rattle.toml_edit_model.specs.Tree.{is_value_node}
 use Rattle.toml_edit_model.specs.HeaderOrder.{node_walk}
 use Rattle.toml_edit_model.specs.Print.{one_space, last_leaf, segments, line_of, value_of, is_line_node, dotted_lines}
 use Rattle.toml_edit_model.specs.Lists.{is_dotted_inline}
@@ -45,18 +46,21 @@ value-sound (tables x xs) h = absurd cc
 value-sound nothing h = tt
 
 module _ (mode : Mode) where
-  pub slot-line : (k : Key) (n : Node) (lk : List Key) → is_line_node n ≡ true → slot_lines mode k n lk ≡ value_line mode (lk ++ (k ∷ [])) n ∷ []
+  pub slot-line : (k : Key) (n : Node) (lk : List Key) → is_line_node n ≡ true → slot_lines mode k n lk ≡ value_line mode (lk ++ (k ∷ [])) n
+      ∷ []
   slot-line k n lk h = by_test (is_line_node n) h
     where
       by_test : (b : Bool) → b ≡ true
-          → (elim b [ true ↦ line_of (lk ++ (k ∷ [])) n (value_of mode n) | false ↦ dotted_lines mode n (lk ++ (k ∷ [])) ]) ≡ value_line mode (lk ++ (k ∷ [])) n ∷ []
+          → (elim b [ true ↦ line_of (lk ++ (k ∷ [])) n (value_of mode n) | false ↦ dotted_lines mode n (lk ++ (k ∷ [])) ])
+          ≡ value_line mode (lk ++ (k ∷ [])) n ∷ []
       by_test true e = refl
       by_test false e = absurd cc
 
   -- ---- in its frame
 
   pub keeps_frame : KeepsFrame mode
-  keeps_frame ks old n e = (frame_by (node_decor old), end_by (node_decor old), refl, ap (λ (d : Decor). key_line (frame_by d) (value_of mode n) (end_by d)) e)
+  keeps_frame ks old n e =
+      (frame_by (node_decor old), end_by (node_decor old), refl, ap (λ (d : Decor). key_line (frame_by d) (value_of mode n) (end_by d)) e)
     where
       frame_by : Decor → Frame
       frame_by d =

@@ -3,7 +3,8 @@ use Rattle.std.proofs.Common.{◌≡◌, refl, sym, ◌∙◌, ap, subst, Bool, 
 use Rattle.std.specs.Prelude.{◌&&◌, ◌||◌, not, if◌then◌else◌, map, find, is_some, Option}
 use Rattle.toml_edit_model.specs.Text.{Text, same_text, is_empty}
 use Rattle.toml_edit_model.specs.Paths.{Step, at_key, at_element, Path, same_step, same_path, Mention}
-use Rattle.toml_edit_laws.proofs.common.Tests.{append-nil, and_left, and_both, and-true, or-left, or-right, or-false, or-true, same_text-refl, same_text-is, true-false}
+use Rattle.toml_edit_laws.proofs.common.Tests.{append-nil, and_left, and_both, and-true, or-left, or-right, or-false, or-true}
+use Rattle.toml_edit_laws.proofs.common.Tests.{same_text-refl, same_text-is, true-false}
 use Rattle.toml_edit_laws.proofs.common.PathLaws.{same_step-refl, same_path-refl, same_path-is}
 use Rattle.toml_edit_laws.proofs.mentions.SomeAt.{some_at-append}
 use Rattle.toml_edit_laws.proofs.mentions.Named.{AreNamed, single-named, other-key, named-at}
@@ -32,7 +33,8 @@ under-other s t (m ∷ ms) h = rw h (under-other s t ms h)
 pub unmentioned-none : {S : Type 0} (ms : List (Mention S)) → ((p : Path) → some_at any_role p ms ≡ false) → ms ≡ []
 unmentioned-none [] h = refl
 unmentioned-none (m ∷ ms) h =
-    true-false (same_path m.path m.path && true) (and_both (same_path m.path m.path) true (same_path-refl m.path) refl) (or-left (same_path m.path m.path && true) (some_at any_role m.path ms) (h m.path))
+    true-false (same_path m.path m.path && true) (and_both (same_path m.path m.path) true (same_path-refl m.path) refl)
+    (or-left (same_path m.path m.path && true) (some_at any_role m.path ms) (h m.path))
 
 -- ---- which are kept
 
@@ -53,15 +55,18 @@ pub is_slot-later : {S : Type 0} (before : List (Mention S)) (m : Mention S) (af
     → is_slot before m (after ++ later) ≡ is_slot before m after
 is_slot-later before m after later h =
     ap (λ b. is_single m.path && (is_header_role m.role || (not (some_at any_role m.path before) && not b)))
-    (some_at-append is_header_role m.path after later ∙ ap (λ b. some_at is_header_role m.path after || b) (h m.path) ∙ or-false (some_at is_header_role m.path after))
+    (some_at-append is_header_role m.path after later ∙ ap (λ b. some_at is_header_role m.path after || b) (h m.path)
+    ∙ or-false (some_at is_header_role m.path after))
 
 pub kept_from-append : {S : Type 0} (before xs ys : List (Mention S)) → AreHeadless ys
     → kept_from before (xs ++ ys) ≡ kept_from before xs ++ kept_from (before ++ xs) ys
 kept_from-append before [] ys h = ap (λ ms. kept_from ms ys) (sym (append-nil before))
 kept_from-append before (m ∷ xs) ys h =
-    ap (λ b. if b then m ∷ kept_from (before ++ (m ∷ [])) (xs ++ ys) else kept_from (before ++ (m ∷ [])) (xs ++ ys)) (is_slot-later before m xs ys h)
+    ap (λ b. if b then m ∷ kept_from (before ++ (m ∷ [])) (xs ++ ys)
+    else kept_from (before ++ (m ∷ [])) (xs ++ ys)) (is_slot-later before m xs ys h)
     ∙ ap (λ ms. if is_slot before m xs then m ∷ ms else ms)
-    (kept_from-append (before ++ (m ∷ [])) xs ys h ∙ ap (λ ms. kept_from (before ++ (m ∷ [])) xs ++ kept_from ms ys) (append_assoc before (m ∷ []) xs))
+    (kept_from-append (before ++ (m ∷ [])) xs ys h ∙ ap (λ ms. kept_from (before ++ (m ∷ [])) xs
+    ++ kept_from ms ys) (append_assoc before (m ∷ []) xs))
     ∙ by_test (is_slot before m xs)
   where
     by_test : (b : Bool)
@@ -92,11 +97,14 @@ pub own-deeper : {S : Type 0} (s : Step) (ms : List (Mention S)) → own (all_de
 own-deeper s [] = refl
 own-deeper s (m ∷ ms) = own-deeper s ms
 
-pub kept_from-deeper : {S : Type 0} (before : List (Mention S)) (s : Step) (ms : List (Mention S)) → own ms ≡ [] → kept_from before (all_deeper s ms) ≡ []
+pub kept_from-deeper : {S : Type 0} (before : List (Mention S)) (s : Step) (ms : List (Mention S)) → own ms ≡ []
+    → kept_from before (all_deeper s ms) ≡ []
 kept_from-deeper before s [] h = refl
 kept_from-deeper before s (m ∷ ms) h =
     let rest = own-first m ms h in
-    ap (λ b. if b && (is_header_role m.role || (not (some_at any_role (s ∷ m.path) before) && not (some_at is_header_role (s ∷ m.path) (all_deeper s ms)))) then deeper s m ∷ kept_from (before ++ (deeper s m ∷ [])) (all_deeper s ms) else kept_from (before ++ (deeper s m ∷ [])) (all_deeper s ms))
+    ap (λ b. if b && (is_header_role m.role || (not (some_at any_role (s ∷ m.path) before)
+    && not (some_at is_header_role (s ∷ m.path) (all_deeper s ms)))) then deeper s m
+    ∷ kept_from (before ++ (deeper s m ∷ [])) (all_deeper s ms) else kept_from (before ++ (deeper s m ∷ [])) (all_deeper s ms))
     (single-below s m.path rest.0)
     ∙ kept_from-deeper (before ++ (deeper s m ∷ [])) s ms rest.1
 
@@ -128,7 +136,8 @@ some_at-first p (m ∷ ms) = by_test (same_path m.path p) (some_at-first p ms)
 pub plain-slot : {S : Type 0} (before : List (Mention S)) (m : Mention S) (ms : List (Mention S)) → AreHeadless (m ∷ ms)
     → is_slot before m ms ≡ (is_single m.path && not (some_at any_role m.path before))
 plain-slot before m ms h =
-    ap (λ b. is_single m.path && (b || (not (some_at any_role m.path before) && not (some_at is_header_role m.path ms)))) (headless-first m ms h)
+    ap (λ b. is_single m.path && (b || (not (some_at any_role m.path before) && not (some_at is_header_role m.path ms))))
+    (headless-first m ms h)
     ∙ ap (λ b. is_single m.path && (not (some_at any_role m.path before) && not b)) (headless-rest m ms h m.path)
     ∙ ap (λ b. is_single m.path && b) (and-true (not (some_at any_role m.path before)))
 
@@ -160,17 +169,20 @@ kept_from-find {S} k before [] n h = by_test (some_at any_role (at_key k ∷ [])
     by_test true = refl
     by_test false = refl
 kept_from-find k before (m ∷ ms) n h =
-    find-step k m (kept_from (before ++ (m ∷ [])) ms) (first_at (at_key k ∷ []) ms) (is_slot before m ms) (some_at any_role (at_key k ∷ []) before) (same_path m.path (at_key k ∷ []))
+    find-step k m (kept_from (before ++ (m ∷ [])) ms) (first_at (at_key k ∷ []) ms) (is_slot before m ms) (some_at any_role (at_key k
+    ∷ []) before) (same_path m.path (at_key k ∷ []))
     (kept_from-find k (before ++ (m ∷ [])) ms n.1 (headless-rest m ms h)
     ∙ ap (λ b. if b then None else first_at (at_key k ∷ []) ms) (some_at-append any_role (at_key k ∷ []) before (m ∷ [])))
     (λ e. let here = same_path-is m.path (at_key k ∷ []) e in (
       plain-slot before m ms h ∙ ap (λ p. is_single p && not (some_at any_role p before)) here,
       subst (λ x. same_text k x ≡ true) (named-at m.path m.segment.key k n.0 here) (same_text-refl k),
     ))
-    (λ e s. other-key m.path m.segment.key k n.0 (and_left (is_single m.path) (not (some_at any_role m.path before)) (sym (plain-slot before m ms h) ∙ s)) e)
+    (λ e s. other-key m.path m.segment.key k n.0 (and_left (is_single m.path) (not (some_at any_role m.path before))
+    (sym (plain-slot before m ms h) ∙ s)) e)
 
 -- The slot of a key is kept from the first mention at its path.
-pub kept-find : {S : Type 0} (k : Text) (ms : List (Mention S)) → AreNamed ms → AreHeadless ms → first_of_key k (kept ms) ≡ first_at (at_key k ∷ []) ms
+pub kept-find : {S : Type 0} (k : Text) (ms : List (Mention S)) → AreNamed ms → AreHeadless ms → first_of_key k (kept ms)
+    ≡ first_at (at_key k ∷ []) ms
 kept-find k ms n h = kept_from-find k [] ms n h
 
 -- each segment's key is another
@@ -180,17 +192,21 @@ AreDistinct (m ∷ ms) = (first_of_key m.segment.key ms ≡ None) × AreDistinct
 
 pub kept_from-distinct : {S : Type 0} (before ms : List (Mention S)) → AreNamed ms → AreHeadless ms → AreDistinct (kept_from before ms)
 kept_from-distinct before [] n h = tt
-kept_from-distinct {S} before (m ∷ ms) n h = by_slot (is_slot before m ms) refl (kept_from-distinct (before ++ (m ∷ [])) ms n.1 (headless-rest m ms h))
+kept_from-distinct {S} before (m ∷ ms) n h =
+    by_slot (is_slot before m ms) refl (kept_from-distinct (before ++ (m ∷ [])) ms n.1 (headless-rest m ms h))
   where
     later : List (Mention S)
     later = kept_from (before ++ (m ∷ [])) ms
 
     by_slot : (b : Bool) → is_slot before m ms ≡ b → AreDistinct later → AreDistinct (if b then m ∷ later else later)
     by_slot true e d =
-        let single : m.path ≡ at_key m.segment.key ∷ [] = single-named m.path m.segment.key n.0 (and_left (is_single m.path) (not (some_at any_role m.path before)) (sym (plain-slot before m ms h) ∙ e)) in
+        let single : m.path ≡ at_key m.segment.key ∷ [] =
+        single-named m.path m.segment.key n.0 (and_left (is_single m.path) (not (some_at any_role m.path before))
+        (sym (plain-slot before m ms h) ∙ e)) in
         let seen : some_at any_role (at_key m.segment.key ∷ []) (before ++ (m ∷ [])) ≡ true =
         some_at-append any_role (at_key m.segment.key ∷ []) before (m ∷ [])
-        ∙ ap (λ p. some_at any_role (at_key m.segment.key ∷ []) before || ((same_path p (at_key m.segment.key ∷ []) && true) || false)) single
+        ∙ ap (λ p. some_at any_role (at_key m.segment.key ∷ []) before
+        || ((same_path p (at_key m.segment.key ∷ []) && true) || false)) single
         ∙ ap (λ b. some_at any_role (at_key m.segment.key ∷ []) before || (((b && true) && true) || false)) (same_text-refl m.segment.key)
         ∙ or-true (some_at any_role (at_key m.segment.key ∷ []) before) in
         let none : first_of_key m.segment.key later ≡ None =
@@ -207,7 +223,8 @@ pub first_of_key-is : {S : Type 0} (k : Text) (ms : List (Mention S)) (m : Menti
 first_of_key-is k [] m h = absurd cc
 first_of_key-is {S} k (j ∷ ms) m h = by_test (is_of_key k j) refl h (first_of_key-is k ms m)
   where
-    by_test : (b : Bool) → is_of_key k j ≡ b → (if b then Some j else first_of_key k ms) ≡ Some m → (first_of_key k ms ≡ Some m → k ≡ m.segment.key) → k ≡ m.segment.key
+    by_test : (b : Bool) → is_of_key k j ≡ b → (if b then Some j else first_of_key k ms) ≡ Some m
+        → (first_of_key k ms ≡ Some m → k ≡ m.segment.key) → k ≡ m.segment.key
     by_test true e h ih =
         let here : j ≡ m = cc in
         same_text-is k j.segment.key e ∙ ap (λ (x : Mention S). x.segment.key) here

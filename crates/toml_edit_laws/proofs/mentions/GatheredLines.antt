@@ -43,7 +43,8 @@ abbrev pub keys_before : (Path → ℕ) → Path → List Segment → List Segme
 keys_before rank_of p [] rs = true
 keys_before rank_of p (s ∷ ss) [] = true
 keys_before rank_of p (s ∷ ss) (r ∷ rs) =
-    if same_text s.key r.key then keys_before rank_of (to_key p s.key) ss rs else nat_lt (rank_of (to_key p s.key)) (rank_of (to_key p r.key))
+    if same_text s.key r.key then keys_before rank_of (to_key p s.key) ss rs
+    else nat_lt (rank_of (to_key p s.key)) (rank_of (to_key p r.key))
 
 abbrev pub steps : List Text → Path
 steps q = map at_key q
@@ -75,7 +76,8 @@ AllPart path_of (x ∷ xs) = AllByRecursion (λ y. part_ways (path_of x) (path_o
 
 -- ---- one key down
 
-part-filter : {X : Type 0} (path_of : X → List Segment) (test : X → Bool) (xs : List X) → AllPart path_of xs → AllPart path_of (filter test xs)
+part-filter : {X : Type 0} (path_of : X → List Segment) (test : X → Bool) (xs : List X) → AllPart path_of xs
+    → AllPart path_of (filter test xs)
 part-filter path_of test [] h = tt
 part-filter path_of test (x ∷ xs) h =
     elim (cases_Bool (test x)) [
@@ -83,7 +85,8 @@ part-filter path_of test (x ∷ xs) h =
       | inr e ↦ rw e (part-filter path_of test xs h.1)
     ]
 
-part-below : (k : Text) (ss rs : List Segment) → has_first k ss ≡ true → has_first k rs ≡ true → part_ways ss rs ≡ part_ways (rest_of ss) (rest_of rs)
+part-below : (k : Text) (ss rs : List Segment) → has_first k ss ≡ true → has_first k rs ≡ true → part_ways ss rs
+    ≡ part_ways (rest_of ss) (rest_of rs)
 part-below k [] rs h g = absurd cc
 part-below k (s ∷ ss) [] h g = absurd cc
 part-below k (s ∷ ss) (r ∷ rs) h g =
@@ -95,13 +98,15 @@ parts-below : {X : Type 0} (k : Text) (path_of : X → List Segment) (xs : List 
 parts-below k path_of [] h g = tt
 parts-below {X = X} k path_of (x ∷ xs) h g = (both xs h.1 g.0, parts-below k path_of xs h.1 g.1)
   where
-    both : (ys : List X) → AllByRecursion (λ y. has_first k (path_of y) ≡ true) ys → AllByRecursion (λ y. part_ways (path_of x) (path_of y) ≡ true) ys
+    both : (ys : List X) → AllByRecursion (λ y. has_first k (path_of y) ≡ true) ys
+        → AllByRecursion (λ y. part_ways (path_of x) (path_of y) ≡ true) ys
         → AllByRecursion (λ y. part_ways (rests path_of x) (rests path_of y) ≡ true) ys
     both [] h2 g2 = tt
     both (y ∷ ys) h2 g2 = (sym (part-below k (path_of x) (path_of y) h.0 h2.0) ∙ g2.0, both ys h2.1 g2.1)
 
 -- the tests of a group
-pub group_pass : {X : Type 0} (k : Text) (path_of : X → List Segment) (xs : List X) → AllByRecursion (λ x. has_first k (path_of x) ≡ true) (group k path_of xs)
+pub group_pass : {X : Type 0} (k : Text) (path_of : X → List Segment) (xs : List X)
+    → AllByRecursion (λ x. has_first k (path_of x) ≡ true) (group k path_of xs)
 group_pass k path_of [] = tt
 group_pass k path_of (x ∷ xs) =
     elim (cases_Bool (has_first k (path_of x))) [
@@ -109,8 +114,10 @@ group_pass k path_of (x ∷ xs) =
       | inr e ↦ rw e (group_pass k path_of xs)
     ]
 
-pub group-part : {X : Type 0} (k : Text) (path_of : X → List Segment) (xs : List X) → AllPart path_of xs → AllPart (rests path_of) (group k path_of xs)
-group-part k path_of xs h = parts-below k path_of (group k path_of xs) (group_pass k path_of xs) (part-filter path_of (λ x. has_first k (path_of x)) xs h)
+pub group-part : {X : Type 0} (k : Text) (path_of : X → List Segment) (xs : List X) → AllPart path_of xs
+    → AllPart (rests path_of) (group k path_of xs)
+group-part k path_of xs h =
+    parts-below k path_of (group k path_of xs) (group_pass k path_of xs) (part-filter path_of (λ x. has_first k (path_of x)) xs h)
 
 -- a line that ends at its first key is alone in its group
 pub alone : {X : Type 0} (path_of : X → List Segment) (x : X) (more : List X) → AllPart path_of (x ∷ more) → path_of x ≡ [] → more ≡ []
@@ -125,8 +132,11 @@ part-filled (s ∷ ss) (r ∷ rs) h = refl
 
 pub go_on : {X : Type 0} (path_of : X → List Segment) (x : X) (more : List X) → AllPart path_of (x ∷ more) → is_empty (path_of x) ≡ false
     → AllFilled path_of (x ∷ more)
-go_on path_of x more h e =
-    (e, all-map (λ y. part_ways (path_of x) (path_of y) ≡ true) (λ y. is_empty (path_of y) ≡ false) more (λ y g. part-filled (path_of x) (path_of y) g) h.0)
+go_on path_of x more h e = (
+  e,
+  all-map (λ y. part_ways (path_of x) (path_of y) ≡ true) (λ y. is_empty (path_of y)
+      ≡ false) more (λ y g. part-filled (path_of x) (path_of y) g) h.0,
+)
 
 -- in a group the rests of the keys are compared
 comes-below : (rank_of : Path → ℕ) (p : Path) (k : Text) (ss rs : List Segment) → has_first k ss ≡ true → has_first k rs ≡ true
@@ -186,9 +196,11 @@ AreInOrder IsUsed rank_of p (k ∷ keys) =
 
 -- the line has one of these keys, which is used
 abbrev pub IsKeyed : {X : Type 0} → (Text → Type 0) → List Text → (X → List Segment) → X → Type 0
-IsKeyed IsUsed keys path_of x = (is_empty (path_of x) ≡ false) × (is_among (first_key (path_of x)) keys ≡ true) × IsUsed (first_key (path_of x))
+IsKeyed IsUsed keys path_of x = (is_empty (path_of x) ≡ false) × (is_among (first_key (path_of x)) keys ≡ true)
+    × IsUsed (first_key (path_of x))
 
-none-keyed : {X : Type 0} (IsUsed : Text → Type 0) (path_of : X → List Segment) (xs : List X) → AllByRecursion (IsKeyed IsUsed [] path_of) xs → xs ≡ []
+none-keyed : {X : Type 0} (IsUsed : Text → Type 0) (path_of : X → List Segment) (xs : List X)
+    → AllByRecursion (IsKeyed IsUsed [] path_of) xs → xs ≡ []
 none-keyed IsUsed path_of [] h = refl
 none-keyed IsUsed path_of (x ∷ xs) h = (let clash : false ≡ true = h.0.1 in absurd cc)
 
@@ -196,7 +208,8 @@ none-keyed IsUsed path_of (x ∷ xs) h = (let clash : false ≡ true = h.0.1 in 
 other-group : {X : Type 0} (path_of : X → List Segment) (k l : Text) (xs : List X) → same_text k l ≡ false → AllFilled path_of xs
     → group l path_of (filter (λ x. not (has_first k (path_of x))) xs) ≡ group l path_of xs
 other-group {X = X} path_of k l xs apart full =
-    filter-twice (λ x. is_empty (path_of x) ≡ false) (λ x. not (has_first k (path_of x))) (λ x. has_first l (path_of x)) (λ x. has_first l (path_of x)) both xs full
+    filter-twice (λ x. is_empty (path_of x) ≡ false) (λ x. not (has_first k (path_of x))) (λ x. has_first l (path_of x))
+    (λ x. has_first l (path_of x)) both xs full
   where
     both : (x : X) → is_empty (path_of x) ≡ false → (not (has_first k (path_of x)) && has_first l (path_of x)) ≡ has_first l (path_of x)
     both x e =
@@ -213,12 +226,14 @@ other-groups : {X : Type 0} (path_of : X → List Segment) (before : X → X →
     ≡ flat_map (λ l. sorted_by before (group l path_of xs)) keys
 other-groups path_of before k [] xs h full = refl
 other-groups path_of before k (l ∷ keys) xs h full =
-    ap (λ ys. sorted_by before ys ++ flat_map (λ j. sorted_by before (group j path_of (filter (λ x. not (has_first k (path_of x))) xs))) keys)
+    ap (λ ys. sorted_by before ys ++ flat_map (λ j. sorted_by before (group j path_of (filter (λ x. not (has_first k (path_of x))) xs)))
+    keys)
     (other-group path_of k l xs h.0 full)
     ∙ ap (λ ys. sorted_by before (group l path_of xs) ++ ys) (other-groups path_of before k keys xs h.1 full)
 
 -- Lines in their order are those of the first key, then those of the next.
-pub gathered-by : {X : Type 0} (IsUsed : Text → Type 0) (rank_of : Path → ℕ) (p : Path) (path_of : X → List Segment) (keys : List Text) (xs : List X)
+pub gathered-by : {X : Type 0} (IsUsed : Text → Type 0) (rank_of : Path → ℕ) (p : Path) (path_of : X
+    → List Segment) (keys : List Text) (xs : List X)
     → AreInOrder IsUsed rank_of p keys → AllByRecursion (IsKeyed IsUsed keys path_of) xs
     → sorted_by (λ x y. keys_before rank_of p (path_of x) (path_of y)) xs
     ≡ flat_map (λ k. sorted_by (λ x y. keys_before rank_of p (path_of x) (path_of y)) (group k path_of xs)) keys
@@ -229,7 +244,12 @@ gathered-by {X = X} IsUsed rank_of p path_of (k ∷ keys) xs h keyed =
     ∙ ap (λ ys. sorted_by before (group k path_of xs) ++ ys)
     (gathered-by IsUsed rank_of p path_of keys others h.1
     (all-map (λ x. IsKeyed IsUsed (k ∷ keys) path_of x × (not (has_first k (path_of x)) ≡ true)) (IsKeyed IsUsed keys path_of) others
-    (λ x g. (g.0.0, among-rest k (first_key (path_of x)) keys (sym (first-is k (path_of x) g.0.0) ∙ not-true (has_first k (path_of x)) g.1) g.0.1, g.0.2))
+    (λ x g. (
+      g.0.0,
+      among-rest k (first_key (path_of x)) keys (sym (first-is k (path_of x) g.0.0)
+          ∙ not-true (has_first k (path_of x)) g.1) g.0.1,
+      g.0.2,
+    ))
     (all_pass (IsKeyed IsUsed (k ∷ keys) path_of) (λ x. not (has_first k (path_of x))) xs keyed))
     ∙ other-groups path_of before k keys xs
     (all-map (λ l. (same_text k l ≡ false) × (IsUsed k → IsUsed l → nat_lt (rank_of (to_key p k)) (rank_of (to_key p l)) ≡ true))
@@ -251,4 +271,5 @@ gathered-by {X = X} IsUsed rank_of p path_of (k ∷ keys) xs h keyed =
         let is_later =
         among-has (λ l. (same_text k l ≡ false) × (IsUsed k → IsUsed l → nat_lt (rank_of (to_key p k)) (rank_of (to_key p l)) ≡ true))
         keys (first_key (path_of b)) h.0 among in
-        comes-first rank_of p k (path_of a) (path_of b) is_b.0 in_a out_b (is_later.1 (subst IsUsed (sym (first-same k (path_of a) in_a)) is_a.2) is_b.2)
+        comes-first rank_of p k (path_of a) (path_of b) is_b.0 in_a out_b
+        (is_later.1 (subst IsUsed (sym (first-same k (path_of a) in_a)) is_a.2) is_b.2)

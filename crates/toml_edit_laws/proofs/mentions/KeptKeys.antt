@@ -14,7 +14,8 @@ header-along : (p : Path) (ms : List (Mention Source)) → HaveOneHeader ms → 
 header-along [] ms h = h
 header-along (s ∷ p) ms h = header-along p (under s ms) (under-header s ms h)
 
-kept-along : (p q : Path) (ms : List (Mention Source)) → option_map told (kept_mention (under_path p ms) q) ≡ option_map told (kept_mention ms (p ++ q))
+kept-along : (p q : Path) (ms : List (Mention Source)) → option_map told (kept_mention (under_path p ms) q)
+    ≡ option_map told (kept_mention ms (p ++ q))
 kept-along [] q ms = refl
 kept-along (s ∷ p) q ms = kept-along p q (under s ms) ∙ kept-under s (p ++ q) ms
 

@@ -86,14 +86,18 @@ pub record Kept {S : Type 0} (before : List (Mention S)) (m : Mention S) (ms : L
 
 slot-is : {S : Type 0} (before : List (Mention S)) (m : Mention S) (after : List (Mention S)) → is_slot before m after ≡ true
     → (is_single m.path ≡ true) × (is_header_role m.role ≡ false → some_at any_role m.path before ≡ false)
-slot-is before m after h =
-    (and_left (is_single m.path) _ h, λ e. by_test (is_header_role m.role) (some_at any_role m.path before) e (and_right (is_single m.path) _ h))
+slot-is before m after h = (
+  and_left (is_single m.path) _ h,
+  λ e. by_test (is_header_role m.role) (some_at any_role m.path before) e
+      (and_right (is_single m.path) _ h),
+)
   where
     by_test : (a b : Bool) → a ≡ false → (a || (not b && not (some_at is_header_role m.path after))) ≡ true → b ≡ false
     by_test true b e g = absurd cc
     by_test false b e g = not-true b (and_left (not b) _ g)
 
-pub kept-is : {S : Type 0} (before : List (Mention S)) (m : Mention S) (ms : List (Mention S)) → Among m (kept_from before ms) → Kept before m ms
+pub kept-is : {S : Type 0} (before : List (Mention S)) (m : Mention S) (ms : List (Mention S)) → Among m (kept_from before ms)
+    → Kept before m ms
 kept-is before m [] h = elim h [ ]
 kept-is {S} before m (n ∷ ms) h = by_test (λ g. kept-is (before ++ (n ∷ [])) m ms g) (is_slot before n ms) refl h
   where
@@ -124,12 +128,14 @@ kept-has {S} before m (n ∷ ms) none h single new =
     by_path (λ g f. kept-has (before ++ (n ∷ [])) m ms (λ x a. none x (inr a)) g single f) (same_path n.path m.path) refl
   where
     later : (b : Bool) → ((k : Mention S) × Among k (kept_from (before ++ (n ∷ [])) ms) × (k.path ≡ m.path))
-        → (k : Mention S) × Among k (if b then n ∷ kept_from (before ++ (n ∷ [])) ms else kept_from (before ++ (n ∷ [])) ms) × (k.path ≡ m.path)
+        → (k : Mention S) × Among k (if b then n ∷ kept_from (before ++ (n ∷ [])) ms else kept_from (before ++ (n ∷ [])) ms)
+        × (k.path ≡ m.path)
     later true k = (k.0, inr k.1, k.2)
     later false k = k
 
     here : (b : Bool) → b ≡ true → n.path ≡ m.path
-        → (k : Mention S) × Among k (if b then n ∷ kept_from (before ++ (n ∷ [])) ms else kept_from (before ++ (n ∷ [])) ms) × (k.path ≡ m.path)
+        → (k : Mention S) × Among k (if b then n ∷ kept_from (before ++ (n ∷ [])) ms else kept_from (before ++ (n ∷ [])) ms)
+        × (k.path ≡ m.path)
     here true e g = (n, inl refl, g)
     here false e g = absurd cc
 

@@ -1,5 +1,6 @@
 -- The mention that a slot's key is kept from is the kept mention of the slot's path, one step down or many.
-use Rattle.std.proofs.Common.{◌≡◌, refl, sym, ◌∙◌, ap, subst, Bool, true, false, List, [], ◌∷◌, ◌++◌, append_assoc, Option, Some, None, inl, inr}
+use Rattle.std.proofs.Common.{◌≡◌, refl, sym, ◌∙◌, ap, subst, Bool, true, false, List, [], ◌∷◌, ◌++◌, append_assoc, Option, Some, None, inl}
+use Rattle.std.proofs.Common.{inr}
 use Rattle.std.specs.Prelude.{◌⊎◌, ◌&&◌, ◌||◌, find, option_map, if◌then◌else◌}
 use Rattle.std.specs.List.{AllByRecursion}
 use Rattle.std.specs.Option.{option_or as either, option_or}
@@ -29,7 +30,8 @@ told m = (m.segment, m.source)
 abbrev told_at : {S : Type 0} → (Role → Bool) → List (Mention S) → Path → Option (Segment × S)
 told_at test ms p = option_map told (find (λ m. test m.role) (mentions_at ms p))
 
-told-under : {S : Type 0} (test : Role → Bool) (s : Step) (q : Path) (ms : List (Mention S)) → told_at test (under s ms) q ≡ told_at test ms (s ∷ q)
+told-under : {S : Type 0} (test : Role → Bool) (s : Step) (q : Path) (ms : List (Mention S)) → told_at test (under s ms) q
+    ≡ told_at test ms (s ∷ q)
 told-under test s q [] = refl
 told-under {S = S} test s q (m ∷ ms) = by_path m.path (told-under test s q ms)
   where
@@ -63,13 +65,15 @@ kept-under {S = S} s q ms =
     map-or told (find (λ (m : Mention S). is_header_role m.role) (mentions_at (under s ms) q)) (first_of_list (mentions_at (under s ms) q))
     ∙ ap (λ o. option_or o (option_map told (first_of_list (mentions_at (under s ms) q)))) (told-under is_header_role s q ms)
     ∙ ap (option_or (told_at is_header_role ms (s ∷ q)))
-    (ap (option_map told) (first-found (mentions_at (under s ms) q)) ∙ told-under any_role s q ms ∙ sym (ap (option_map told) (first-found (mentions_at ms (s ∷ q)))))
+    (ap (option_map told) (first-found (mentions_at (under s ms) q)) ∙ told-under any_role s q ms
+    ∙ sym (ap (option_map told) (first-found (mentions_at ms (s ∷ q)))))
     ∙ sym (map-or told (find (λ (m : Mention S). is_header_role m.role) (mentions_at ms (s ∷ q))) (first_of_list (mentions_at ms (s ∷ q))))
 
 -- The kept segments below a step are those of the longer paths.
 pub under-kept : {S : Type 0} (s : Step) (q : Path) (ms : List (Mention S)) → kept_in (under s ms) q ≡ kept_in ms (s ∷ q)
 under-kept s q ms =
-    sym (map-twice told (λ t. t.0) (kept_mention (under s ms) q)) ∙ ap (option_map (λ t. t.0)) (kept-under s q ms) ∙ map-twice told (λ t. t.0) (kept_mention ms (s ∷ q))
+    sym (map-twice told (λ t. t.0) (kept_mention (under s ms) q)) ∙ ap (option_map (λ t. t.0)) (kept-under s q ms)
+    ∙ map-twice told (λ t. t.0) (kept_mention ms (s ∷ q))
 
 -- the statement that the kept key of a path is from
 abbrev pub kept_source : {S : Type 0} → List (Mention S) → Path → Option S
@@ -77,7 +81,8 @@ kept_source ms p = option_map (λ m. m.source) (kept_mention ms p)
 
 pub under-source : {S : Type 0} (s : Step) (q : Path) (ms : List (Mention S)) → kept_source (under s ms) q ≡ kept_source ms (s ∷ q)
 under-source s q ms =
-    sym (map-twice told (λ t. t.1) (kept_mention (under s ms) q)) ∙ ap (option_map (λ t. t.1)) (kept-under s q ms) ∙ map-twice told (λ t. t.1) (kept_mention ms (s ∷ q))
+    sym (map-twice told (λ t. t.1) (kept_mention (under s ms) q)) ∙ ap (option_map (λ t. t.1)) (kept-under s q ms)
+    ∙ map-twice told (λ t. t.1) (kept_mention ms (s ∷ q))
 
 -- ---- slots
 
@@ -167,5 +172,6 @@ kept-from-mentions {S = S} all before (m ∷ ms) is h =
     ]
 
 -- A slot's mention is the kept mention of its path.
-pub kept-mentions : {S : Type 0} (ms : List (Mention S)) → HaveOneHeader ms → AllByRecursion (λ m. kept_mention ms m.path ≡ Some m) (kept ms)
+pub kept-mentions : {S : Type 0} (ms : List (Mention S)) → HaveOneHeader ms
+    → AllByRecursion (λ m. kept_mention ms m.path ≡ Some m) (kept ms)
 kept-mentions ms h = kept-from-mentions ms [] ms refl h

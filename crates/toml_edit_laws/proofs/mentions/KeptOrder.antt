@@ -5,8 +5,10 @@ use Rattle.std.specs.List.{AllByRecursion}
 use Rattle.std.proofs.lemmas.Bool.{cases_Bool, not-true}
 use Rattle.toml_edit_model.specs.Text.{Text, same_text, one}
 use Rattle.toml_edit_model.specs.Syntax.{Statement, key_line, header, Document}
-use Rattle.toml_edit_model.specs.Paths.{Step, at_key, Path, same_step, same_path, to_key, Mention, header_role_of, path_start, Source, Placed, Context, source_of, mentions_of, context_after, placed_from, start_context, all_mentions}
-use Rattle.toml_edit_laws.proofs.common.Tests.{and_left, and_right, and-true, or-true, same_text-swap, or-left, or-right, true-false, false-by, same_text-is}
+use Rattle.toml_edit_model.specs.Paths.{Step, at_key, Path, same_step, same_path, to_key, Mention, header_role_of, path_start, Source}
+use Rattle.toml_edit_model.specs.Paths.{Placed, Context, source_of, mentions_of, context_after, placed_from, start_context, all_mentions}
+use Rattle.toml_edit_laws.proofs.common.Tests.{and_left, and_right, and-true, or-true, same_text-swap, or-left, or-right, true-false}
+use Rattle.toml_edit_laws.proofs.common.Tests.{false-by, same_text-is}
 use Rattle.toml_edit_laws.proofs.common.OrderLaws.{passes_first}
 use Rattle.toml_edit_laws.proofs.common.PathLaws.{same_step-is, same_path-refl, same_path-swap}
 use Rattle.toml_edit_laws.proofs.mentions.GatheredLines.{AreInOrder}
@@ -29,7 +31,8 @@ statement-named c (header h end) =
 placed-named : (c : Context) (ss : List Statement) → AreNamed (flat_map (λ s. s.mentions) (placed_from c ss))
 placed-named c [] = tt
 placed-named c (s ∷ ss) =
-    all-append (λ (m : Mention Source). EndsIn m.segment.key m.path) (mentions_of c s) (flat_map (λ (r : Placed). r.mentions) (placed_from (context_after c s) ss))
+    all-append (λ (m : Mention Source). EndsIn m.segment.key m.path) (mentions_of c s)
+    (flat_map (λ (r : Placed). r.mentions) (placed_from (context_after c s) ss))
     (statement-named c s) (placed-named (context_after c s) ss)
 
 pub document-named : (d : Document) → AreNamed (all_mentions d)
@@ -51,8 +54,10 @@ under-header {S = S} s (m ∷ ms) h = by_path m.path h.0 (under-header s ms h.1)
     by_path (t ∷ p) g ih =
         elim (cases_Bool (same_step t s)) [
           | inl e ↦
-              rw e
-              (λ is. some_at-under is_header_role s p ms ∙ ap (λ u. some_at is_header_role (u ∷ p) ms) (sym (same_step-is t s e)) ∙ g is, ih)
+              rw e (
+                λ is. some_at-under is_header_role s p ms ∙ ap (λ u. some_at is_header_role (u ∷ p) ms) (sym (same_step-is t s e)) ∙ g is,
+                ih,
+              )
           | inr e ↦ rw e ih
         ]
 
@@ -73,7 +78,8 @@ slot-parts before m after h =
     by_role true a b g = inl refl
     by_role false a b g = inr (not-true a (and_left (not a) (not b) g), not-true b (and_right (not a) (not b) g))
 
-pub kept-all : {S : Type 0} (P : Mention S → Type 0) (before ms : List (Mention S)) → AllByRecursion P ms → AllByRecursion P (kept_from before ms)
+pub kept-all : {S : Type 0} (P : Mention S → Type 0) (before ms : List (Mention S)) → AllByRecursion P ms
+    → AllByRecursion P (kept_from before ms)
 kept-all P before [] h = tt
 kept-all P before (m ∷ ms) h =
     elim (cases_Bool (is_slot before m ms)) [
@@ -106,7 +112,8 @@ new-later before ms m n h = (
     | inl e ↦
         inl
         (ap (λ b. (same_path m.path n.path && is_header_role m.role) || b) e ∙ or-true (same_path m.path n.path && is_header_role m.role))
-    | inr e ↦ inr (or-left (some_at any_role n.path before) (some_at any_role n.path (one m)) (sym (some_at-append any_role n.path before (one m)) ∙ e))
+    | inr e ↦ inr (or-left (some_at any_role n.path before) (some_at any_role n.path (one m))
+        (sym (some_at-append any_role n.path before (one m)) ∙ e))
   ],
 )
 
@@ -123,7 +130,8 @@ kept-new before (m ∷ ms) =
 
 -- the same by its key
 new-at : {S : Type 0} (before ms : List (Mention S)) (m n : Mention S) → IsNew (before ++ one m) ms n → n.path ≡ one (at_key n.segment.key)
-    → (some_at is_header_role (one (at_key n.segment.key)) ms ≡ true) ⊎ (some_at any_role (one (at_key n.segment.key)) (before ++ one m) ≡ false)
+    → (some_at is_header_role (one (at_key n.segment.key)) ms ≡ true)
+    ⊎ (some_at any_role (one (at_key n.segment.key)) (before ++ one m) ≡ false)
 new-at before ms m n h path_is =
     elim h.1 [
       | inl e ↦ inl (subst (λ q. some_at is_header_role q ms ≡ true) path_is e)
@@ -141,11 +149,13 @@ none-both : {S : Type 0} (q r : Path) (ms : List (Mention S)) → some_at any_ro
 none-both q r [] h g = tt
 none-both {S = S} q r (m ∷ ms) h g = (
   (none q h, none r g),
-  none-both q r ms (or-right (same_path m.path q && true) (some_at any_role q ms) h) (or-right (same_path m.path r && true) (some_at any_role r ms) g),
+  none-both q r ms (or-right (same_path m.path q && true) (some_at any_role q ms) h) (or-right (same_path m.path r
+      && true) (some_at any_role r ms) g),
 )
   where
     none : (p : Path) → some_at any_role p (m ∷ ms) ≡ false → is_at p m ≡ false
-    none p e = same_path-swap p m.path ∙ sym (and-true (same_path m.path p)) ∙ or-left (same_path m.path p && true) (some_at any_role p ms) e
+    none p e = same_path-swap p m.path ∙ sym (and-true (same_path m.path p))
+        ∙ or-left (same_path m.path p && true) (some_at any_role p ms) e
 
 module _ {S : Type 0} (rank_of : Path → ℕ) (p : Path) (all : List (Mention S)) (follow : RanksFollow rank_of p all) where
   -- a slot's key comes before that of a later slot
@@ -190,7 +200,8 @@ module _ {S : Type 0} (rank_of : Path → ℕ) (p : Path) (all : List (Mention S
           elim own [
             | inl e ↦
                 true-false (same_path m.path (one (at_key k)) && is_header_role m.role) (rw here e)
-                (or-left (same_path m.path (one (at_key k)) && is_header_role m.role) (some_at is_header_role (one (at_key k)) ms) (plain_here k h))
+                (or-left (same_path m.path (one (at_key k)) && is_header_role m.role) (some_at is_header_role (one (at_key k)) ms)
+                (plain_here k h))
             | inr e ↦ e
           ]
 
@@ -199,7 +210,8 @@ module _ {S : Type 0} (rank_of : Path → ℕ) (p : Path) (all : List (Mention S
           elim new [
             | inl e ↦
                 true-false (some_at is_header_role (one (at_key l)) ms) e
-                (or-right (same_path m.path (one (at_key l)) && is_header_role m.role) (some_at is_header_role (one (at_key l)) ms) (plain_here l h))
+                (or-right (same_path m.path (one (at_key l)) && is_header_role m.role) (some_at is_header_role (one (at_key l)) ms)
+                (plain_here l h))
             | inr e ↦
                 or-left (some_at any_role (one (at_key l)) before) (some_at any_role (one (at_key l)) (one m))
                 (sym (some_at-append any_role (one (at_key l)) before (one m)) ∙ e)
@@ -240,7 +252,8 @@ module _ {S : Type 0} (rank_of : Path → ℕ) (p : Path) (all : List (Mention S
           let own : (is_header_role m.role ≡ true) ⊎ (some_at any_role (one (at_key k)) before ≡ false) =
           elim parts.1 [ inl r ↦ inl r | inr r ↦ inr (subst (λ q. some_at any_role q before ≡ false) path_is r.0) ] in
           all-image (λ n. n.segment.key) IsAfter (kept_from (before ++ one m) ms)
-          (all-map (λ n. IsNew (before ++ one m) ms n × EndsIn n.segment.key n.path) (λ n. IsAfter n.segment.key) (kept_from (before ++ one m) ms)
+          (all-map (λ n. IsNew (before ++ one m) ms n × EndsIn n.segment.key n.path) (λ n. IsAfter n.segment.key) (kept_from (before
+          ++ one m) ms)
           (λ n h.
           later-key before ms m k n.segment.key is path_is own (subst (λ q. some_at is_header_role q ms ≡ false) path_is none_after)
           (new-at before ms m n h.0 (single-named n.path n.segment.key h.1 h.0.0)))
@@ -248,6 +261,7 @@ module _ {S : Type 0} (rank_of : Path → ℕ) (p : Path) (all : List (Mention S
           (kept-new (before ++ one m) ms) (kept-all (λ n. EndsIn n.segment.key n.path) (before ++ one m) ms named.1)))
 
 -- The keys of the slots are in order, but for those of plain headers.
-pub kept-in-order : {S : Type 0} (rank_of : Path → ℕ) (p : Path) (ms : List (Mention S)) → RanksFollow rank_of p ms → AreNamed ms → HaveOneHeader ms
+pub kept-in-order : {S : Type 0} (rank_of : Path → ℕ) (p : Path) (ms : List (Mention S)) → RanksFollow rank_of p ms → AreNamed ms
+    → HaveOneHeader ms
     → AreInOrder (IsPlain ms) rank_of p (map (λ m. m.segment.key) (kept ms))
 kept-in-order rank_of p ms follow named one_header = kept-order-from rank_of p ms follow [] ms refl named one_header

@@ -1,5 +1,6 @@
 -- The kept segments and the ranks of the paths of lines, and how the keys of a printed line spell its path.
-use Rattle.std.proofs.Common.{◌≡◌, refl, ◌∙◌, ap, subst, ℕ, Bool, true, false, List, [], ◌∷◌, ◌++◌, append_assoc, Option, Some, None, inl, inr}
+use Rattle.std.proofs.Common.{◌≡◌, refl, ◌∙◌, ap, subst, ℕ, Bool, true, false, List, [], ◌∷◌, ◌++◌, append_assoc, Option, Some, None, inl}
+use Rattle.std.proofs.Common.{inr}
 use Rattle.std.specs.Prelude.{◌&&◌, ◌||◌, filter, find, map, flat_map, option_map, unwrap_or, if◌then◌else◌}
 use Rattle.std.specs.List.{list_any}
 use Rattle.std.proofs.lemmas.Bool.{cases_Bool}
@@ -44,7 +45,8 @@ abbrev pub kept_below : (Path → Option Segment) → Path → List Segment → 
 kept_below kept_at p [] = []
 kept_below kept_at p (s ∷ ss) = unwrap_or (kept_at (to_key p s.key)) s ∷ kept_below kept_at (to_key p s.key) ss
 
-pub flat_map-filter : {A B : Type 0} (test : A → Bool) (f : A → List B) (xs : List A) → flat_map (λ x. if test x then f x else []) xs ≡ flat_map f (filter test xs)
+pub flat_map-filter : {A B : Type 0} (test : A → Bool) (f : A → List B) (xs : List A) → flat_map (λ x. if test x then f x else []) xs
+    ≡ flat_map f (filter test xs)
 flat_map-filter test f [] = refl
 flat_map-filter test f (x ∷ xs) =
     elim (cases_Bool (test x)) [
@@ -61,12 +63,14 @@ group-kept kept_at p path_of xs k h a q =
     ∙ ap first_of_list (flat_map-filter (λ x. has_first k (path_of x)) (λ x. segment_at (a ∷ q) (rests path_of x)) xs)
 
 -- the kept segment of a key is that of the line that leads
-pub kept-here : {X : Type 0} (kept_at : Path → Option Segment) (p : Path) (path_of : X → List Segment) (xs : List X) (x : X) (s : Segment) (rest : List Segment)
+pub kept-here : {X : Type 0} (kept_at : Path → Option Segment) (p : Path) (path_of : X
+    → List Segment) (xs : List X) (x : X) (s : Segment) (rest : List Segment)
     → AreKept kept_at p path_of xs → path_of x ≡ s ∷ rest → Leads path_of xs x → kept_at (to_key p s.key) ≡ Some s
 kept-here kept_at p path_of xs x s rest h is leads =
     h s.key []
     ∙ ap first_of_list (flat_map-filter (λ y. has_first s.key (path_of y)) (λ y. first_segment (path_of y)) xs)
-    ∙ ap (λ ys. first_of_list (flat_map (λ y. first_segment (path_of y)) ys)) (subst (λ ss. group (first_key ss) path_of xs ≡ x ∷ leads.0) is leads.1)
+    ∙ ap (λ ys. first_of_list (flat_map (λ y. first_segment (path_of y)) ys)) (subst (λ ss. group (first_key ss) path_of xs ≡ x
+    ∷ leads.0) is leads.1)
     ∙ ap (λ ss. first_of_list (first_segment ss ++ flat_map (λ y. first_segment (path_of y)) leads.0)) is
 
 -- ---- the mentions of lines
@@ -83,7 +87,8 @@ at-longer source start k l q p (s ∷ []) =
     ]
 at-longer {S = S} source start k l q p (s ∷ r ∷ rest) =
     elim (cases_Bool (same_text k l)) [
-      | inl e ↦ rw e (by_here (same_path q (to_key p s.key)) (at-longer source (next_start start s) k l q (to_key p s.key) (r ∷ rest) ∙ rw e refl))
+      | inl e ↦ rw e (by_here (same_path q (to_key p s.key)) (at-longer source (next_start start s) k l q (to_key p s.key) (r ∷ rest)
+          ∙ rw e refl))
       | inr e ↦ rw e (at-longer source (next_start start s) k l q (to_key p s.key) (r ∷ rest) ∙ rw e refl)
     ]
   where
@@ -94,7 +99,8 @@ at-longer {S = S} source start k l q p (s ∷ r ∷ rest) =
     shorter = mentions_at (line_mentions source (next_start start s) (to_key p s.key) (r ∷ rest)) q
 
     by_here : (b : Bool) → map (λ (m : Mention S). m.segment) longer ≡ map (λ (m : Mention S). m.segment) shorter
-        → map (λ (m : Mention S). m.segment) (if b then mention_of source start (at_key l ∷ to_key p s.key) dotted_role s ∷ longer else longer)
+        → map (λ (m : Mention S). m.segment) (if b then mention_of source start (at_key l ∷ to_key p s.key) dotted_role s ∷ longer
+        else longer)
         ≡ map (λ (m : Mention S). m.segment) (if b then mention_of source start (to_key p s.key) dotted_role s ∷ shorter else shorter)
     by_here true e = ap (λ ys. s ∷ ys) e
     by_here false e = e
@@ -106,7 +112,8 @@ no-empty-path (t ∷ p) s = refl
 none-at : {S : Type 0} (source : S) (start : ℕ) (p : Path) (ss : List Segment) → mentions_at (line_mentions source start p ss) [] ≡ []
 none-at source start p [] = refl
 none-at source start p (s ∷ []) = rw (no-empty-path p (at_key s.key)) refl
-none-at source start p (s ∷ r ∷ rest) = rw (no-empty-path p (at_key s.key)) (none-at source (next_start start s) (to_key p s.key) (r ∷ rest))
+none-at source start p (s ∷ r ∷ rest) =
+    rw (no-empty-path p (at_key s.key)) (none-at source (next_start start s) (to_key p s.key) (r ∷ rest))
 
 line-segment : {S : Type 0} (source : S) (start : ℕ) (k : Text) (q : List Text) (ss : List Segment)
     → map (λ m. m.segment) (mentions_at (line_mentions source start [] ss) (steps (k ∷ q))) ≡ segment_at (k ∷ q) ss
@@ -125,16 +132,19 @@ line-segment {S = S} source start k [] (s ∷ rest) =
 line-segment {S = S} source start k (l ∷ q) (s ∷ rest) =
     ap (λ ms. map (λ (m : Mention S). m.segment) (mentions_at ms (steps (k ∷ l ∷ q)))) (line-from source start [] s rest)
     ∙ elim (cases_Bool (same_text k s.key)) [
-      | inl e ↦ rw e (at-longer source (next_start start s) k s.key (steps (l ∷ q)) [] rest ∙ rw e (line-segment source (next_start start s) l q rest))
+      | inl e ↦ rw e (at-longer source (next_start start s) k s.key (steps (l ∷ q)) [] rest
+          ∙ rw e (line-segment source (next_start start s) l q rest))
       | inr e ↦ rw e (at-longer source (next_start start s) k s.key (steps (l ∷ q)) [] rest ∙ rw e refl)
     ]
 
 lines-segments : {S X : Type 0} (source : X → S) (start : X → ℕ) (path_of : X → List Segment) (k : Text) (q : List Text) (xs : List X)
-    → map (λ m. m.segment) (mentions_at (flat_lines source start path_of xs) (steps (k ∷ q))) ≡ flat_map (λ x. segment_at (k ∷ q) (path_of x)) xs
+    → map (λ m. m.segment) (mentions_at (flat_lines source start path_of xs) (steps (k ∷ q)))
+    ≡ flat_map (λ x. segment_at (k ∷ q) (path_of x)) xs
 lines-segments source start path_of k q [] = refl
 lines-segments {S = S} source start path_of k q (x ∷ xs) =
     ap (map (λ (m : Mention S). m.segment))
-    (filter-append (λ (m : Mention S). same_path (steps (k ∷ q)) m.path) (line_mentions (source x) (start x) [] (path_of x)) (flat_lines source start path_of xs))
+    (filter-append (λ (m : Mention S). same_path (steps (k ∷ q)) m.path) (line_mentions (source x) (start x) [] (path_of x))
+    (flat_lines source start path_of xs))
     ∙ map-append (λ (m : Mention S). m.segment) (mentions_at (line_mentions (source x) (start x) [] (path_of x)) (steps (k ∷ q)))
     (mentions_at (flat_lines source start path_of xs) (steps (k ∷ q)))
     ∙ ap (λ ys. ys ++ map (λ (m : Mention S). m.segment) (mentions_at (flat_lines source start path_of xs) (steps (k ∷ q))))
@@ -143,7 +153,8 @@ lines-segments {S = S} source start path_of k q (x ∷ xs) =
 
 -- ---- kept segments
 
-no-header-found : {S : Type 0} (p : Path) (ms : List (Mention S)) → NoHeaders ms → find (λ m. is_header_role m.role) (mentions_at ms p) ≡ None
+no-header-found : {S : Type 0} (p : Path) (ms : List (Mention S)) → NoHeaders ms → find (λ m. is_header_role m.role) (mentions_at ms p)
+    ≡ None
 no-header-found p [] h = refl
 no-header-found p (m ∷ ms) h =
     elim (cases_Bool (same_path p m.path)) [
@@ -151,7 +162,8 @@ no-header-found p (m ∷ ms) h =
       | inr e ↦ rw e (no-header-found p ms h.1)
     ]
 
-first-segment : {S : Type 0} (ms : List (Mention S)) → option_map (λ m. m.segment) (first_of_list ms) ≡ first_of_list (map (λ m. m.segment) ms)
+first-segment : {S : Type 0} (ms : List (Mention S)) → option_map (λ m. m.segment) (first_of_list ms)
+    ≡ first_of_list (map (λ m. m.segment) ms)
 first-segment [] = refl
 first-segment (m ∷ ms) = refl
 
@@ -185,14 +197,17 @@ any-longer source start k l q p [] = elim (cases_Bool (same_text k l)) [ inl e �
 any-longer source start k l q p (s ∷ []) = elim (cases_Bool (same_text k l)) [ inl e ↦ rw e refl | inr e ↦ rw e refl ]
 any-longer source start k l q p (s ∷ r ∷ rest) =
     elim (cases_Bool (same_text k l)) [
-      | inl e ↦ rw e (ap (λ b. same_path q (to_key p s.key) || b) (any-longer source (next_start start s) k l q (to_key p s.key) (r ∷ rest) ∙ rw e refl))
+      | inl e ↦ rw e (ap (λ b. same_path q (to_key p s.key) || b) (any-longer source (next_start start s) k l q (to_key p s.key) (r ∷ rest)
+          ∙ rw e refl))
       | inr e ↦ rw e (any-longer source (next_start start s) k l q (to_key p s.key) (r ∷ rest) ∙ rw e refl)
     ]
 
-none-any : {S : Type 0} (source : S) (start : ℕ) (p : Path) (ss : List Segment) → list_any (λ m. same_path [] m.path) (line_mentions source start p ss) ≡ false
+none-any : {S : Type 0} (source : S) (start : ℕ) (p : Path) (ss : List Segment)
+    → list_any (λ m. same_path [] m.path) (line_mentions source start p ss) ≡ false
 none-any source start p [] = refl
 none-any source start p (s ∷ []) = rw (no-empty-path p (at_key s.key)) refl
-none-any source start p (s ∷ r ∷ rest) = rw (no-empty-path p (at_key s.key)) (none-any source (next_start start s) (to_key p s.key) (r ∷ rest))
+none-any source start p (s ∷ r ∷ rest) =
+    rw (no-empty-path p (at_key s.key)) (none-any source (next_start start s) (to_key p s.key) (r ∷ rest))
 
 -- a line mentions the paths that its keys begin with
 line-mentions : {S : Type 0} (source : S) (start : ℕ) (k : Text) (q : List Text) (ss : List Segment)
@@ -201,7 +216,8 @@ line-mentions source start k q [] = refl
 line-mentions {S = S} source start k [] (s ∷ rest) =
     ap (list_any (λ (m : Mention S). same_path (steps (one k)) m.path)) (line-from source start [] s rest)
     ∙ ap (λ b. (same_text k s.key && true) || b)
-    (any-longer source (next_start start s) k s.key [] [] rest ∙ ap (λ b. same_text k s.key && b) (none-any source (next_start start s) [] rest))
+    (any-longer source (next_start start s) k s.key [] [] rest
+    ∙ ap (λ b. same_text k s.key && b) (none-any source (next_start start s) [] rest))
     ∙ by_test (same_text k s.key)
   where
     by_test : (b : Bool) → ((b && true) || (b && false)) ≡ (b && true)
@@ -210,7 +226,8 @@ line-mentions {S = S} source start k [] (s ∷ rest) =
 line-mentions {S = S} source start k (l ∷ q) (s ∷ rest) =
     ap (list_any (λ (m : Mention S). same_path (steps (k ∷ l ∷ q)) m.path)) (line-from source start [] s rest)
     ∙ ap (λ b. (same_text k s.key && false) || b)
-    (any-longer source (next_start start s) k s.key (steps (l ∷ q)) [] rest ∙ ap (λ b. same_text k s.key && b) (line-mentions source (next_start start s) l q rest))
+    (any-longer source (next_start start s) k s.key (steps (l ∷ q)) [] rest
+    ∙ ap (λ b. same_text k s.key && b) (line-mentions source (next_start start s) l q rest))
     ∙ by_test (same_text k s.key) (begins_with (l ∷ q) rest)
   where
     by_test : (b c : Bool) → ((b && false) || (b && c)) ≡ (b && c)
@@ -253,7 +270,8 @@ module _ (mode : Mode) where
   segments-bare (k ∷ l ∷ rest) = ap (λ ss. segment_of k [] (dot_suffix mode k) ∷ ss) (after-bare (l ∷ rest))
 
   -- the key of a mention is printed as its segment
-  pub key-shown : {S : Type 0} (own : Decor) (m : Mention S) → IsSpacedSegment m.segment → key_segment (key_of (owned_in mode) own m) ≡ m.segment
+  pub key-shown : {S : Type 0} (own : Decor) (m : Mention S) → IsSpacedSegment m.segment → key_segment (key_of (owned_in mode) own m)
+      ≡ m.segment
   key-shown own m h =
       ap (λ t. record m.segment { before = t; after = shown_text mode m.segment.after }) (white-shown mode m.segment.before h.0)
       ∙ ap (λ t. record m.segment { after = t }) (white-shown mode m.segment.after h.1)

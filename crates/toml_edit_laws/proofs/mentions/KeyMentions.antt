@@ -53,7 +53,8 @@ no-rest x s [] r e = cc
 no-rest x s (t ∷ q) r e = absurd cc
 
 pub line-closed : {S : Type 0} (source : S) (i : ℕ) (p : Path) (ss : List Segment) (m : Mention S) → Among m (line_mentions source i p ss)
-    → (s : Step) (q r : Path) → m.path ≡ p ++ (s ∷ (q ++ r)) → (n : Mention S) × Among n (line_mentions source i p ss) × (n.path ≡ p ++ (s ∷ q))
+    → (s : Step) (q r : Path) → m.path ≡ p ++ (s ∷ (q ++ r)) → (n : Mention S) × Among n (line_mentions source i p ss)
+    × (n.path ≡ p ++ (s ∷ q))
 line-closed source i p [] m h s q r e = elim h [ ]
 line-closed source i p (a ∷ []) m (inl g) s q r e =
     let only = no-rest (at_key a.key) s q r (append_cancel_left p _ _ (ap (λ n. n.path) (sym g) ∙ e)) in

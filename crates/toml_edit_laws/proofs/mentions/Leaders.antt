@@ -9,9 +9,11 @@ use Rattle.toml_edit_model.specs.Text.{Text, same_text, one, is_empty}
 use Rattle.toml_edit_model.specs.Syntax.{Segment}
 use Rattle.toml_edit_model.specs.Paths.{at_key, Path, to_key}
 use Rattle.toml_edit_laws.specs.FlatTree.{is_among}
-use Rattle.toml_edit_laws.proofs.common.Tests.{or-left, or-right, and-true, or-false, same_text-refl, same_text-is, same_text-swap, true-false, false-by}
+use Rattle.toml_edit_laws.proofs.common.Tests.{or-left, or-right, and-true, or-false, same_text-refl, same_text-is, same_text-swap}
+use Rattle.toml_edit_laws.proofs.common.Tests.{true-false, false-by}
 use Rattle.toml_edit_laws.proofs.common.OrderLaws.{none-left, passes_first, first-filter, first-alike}
-use Rattle.toml_edit_laws.proofs.mentions.GatheredLines.{first_key, has_first, begins_with, steps, first-is, keys_before, group, rests, AllFilled, AreInOrder, IsKeyed, gathered-by}
+use Rattle.toml_edit_laws.proofs.mentions.GatheredLines.{first_key, has_first, begins_with, steps, first-is, keys_before, group, rests}
+use Rattle.toml_edit_laws.proofs.mentions.GatheredLines.{AllFilled, AreInOrder, IsKeyed, gathered-by}
 use Rattle.toml_edit_laws.proofs.common.Each.{all-both, all-append, all-map}
 use Rattle.toml_edit_model.specs.Order.{sorted_by}
 
@@ -39,7 +41,8 @@ group-ranked rank_of p path_of xs k h a q b r =
     ap (λ u. nat_lt (rank_of u) (rank_of (to_key p k ++ steps (b ∷ r)))) (append_assoc p (one (at_key k)) (steps (a ∷ q)))
     ∙ ap (λ u. nat_lt (rank_of (p ++ steps (k ∷ a ∷ q))) (rank_of u)) (append_assoc p (one (at_key k)) (steps (b ∷ r)))
     ∙ h k (a ∷ q) k (b ∷ r)
-    ∙ first-filter (λ x. has_first k (path_of x)) (λ x. begins_with (a ∷ q) (rests path_of x)) (λ x. begins_with (b ∷ r) (rests path_of x)) xs
+    ∙ first-filter (λ x. has_first k (path_of x)) (λ x. begins_with (a ∷ q) (rests path_of x)) (λ x. begins_with (b ∷ r) (rests path_of x))
+    xs
 
 -- ---- keys that were seen
 
@@ -63,12 +66,17 @@ is_among-one k l seen =
     list_any-append (same_text l) seen (one k) ∙ ap (λ b. is_among l seen || b) (or-false (same_text l k) ∙ same_text-swap l k)
 
 -- the tests of two keys that weren't seen fail at the lines whose keys were
-fails-before : {X : Type 0} (path_of : X → List Segment) (k l : Text) (seen : List Text) (xs : List X) → is_among k seen ≡ false → is_among l seen ≡ false
+fails-before : {X : Type 0} (path_of : X → List Segment) (k l : Text) (seen : List Text) (xs : List X) → is_among k seen ≡ false
+    → is_among l seen ≡ false
     → AllFilled path_of xs → AllByRecursion (IsSeen seen path_of) xs
     → AllByRecursion (λ y. (has_first k (path_of y) ≡ false) × (has_first l (path_of y) ≡ false)) xs
 fails-before path_of k l seen [] h g full old = tt
 fails-before path_of k l seen (y ∷ xs) h g full old = (
-  (first-is k (path_of y) full.0 ∙ among-same k (first_key (path_of y)) seen h old.0, first-is l (path_of y) full.0 ∙ among-same l (first_key (path_of y)) seen g old.0),
+  (
+    first-is k (path_of y) full.0 ∙ among-same k (first_key (path_of y)) seen h old.0,
+    first-is l (path_of y) full.0
+        ∙ among-same l (first_key (path_of y)) seen g old.0,
+  ),
   fails-before path_of k l seen xs h g full.1 old.1,
 )
 
@@ -91,7 +99,8 @@ abbrev pub leader_keys : {X : Type 0} → List Text → (X → List Segment) →
 leader_keys seen path_of xs = map (λ x. first_key (path_of x)) (leaders seen path_of xs)
 
 -- the keys of the leaders are new
-new-keys : {X : Type 0} (seen : List Text) (path_of : X → List Segment) (xs : List X) → AllByRecursion (λ l. is_among l seen ≡ false) (leader_keys seen path_of xs)
+new-keys : {X : Type 0} (seen : List Text) (path_of : X → List Segment) (xs : List X)
+    → AllByRecursion (λ l. is_among l seen ≡ false) (leader_keys seen path_of xs)
 new-keys seen path_of [] = tt
 new-keys seen path_of (x ∷ xs) =
     let k : Text = first_key (path_of x) in
@@ -113,14 +122,16 @@ either : (a b c : Bool) → ((a || b) || c) ≡ (a || (b || c))
 either true b c = refl
 either false b c = refl
 
-one-led : (t k : Text) (seen keys : List Text) → (is_among t (seen ++ one k) || is_among t keys) ≡ true → (is_among t seen || is_among t (k ∷ keys)) ≡ true
+one-led : (t k : Text) (seen keys : List Text) → (is_among t (seen ++ one k) || is_among t keys) ≡ true
+    → (is_among t seen || is_among t (k ∷ keys)) ≡ true
 one-led t k seen keys h =
     sym (either (is_among t seen) (same_text t k) (is_among t keys))
     ∙ ap (λ b. (is_among t seen || b) || is_among t keys) (same_text-swap t k)
     ∙ ap (λ b. b || is_among t keys) (sym (is_among-one k t seen)) ∙ h
 
 -- each line has one of the leaders' keys, unless its key was seen
-led : {X : Type 0} (seen : List Text) (path_of : X → List Segment) (xs : List X) → AllByRecursion (IsLed seen (leader_keys seen path_of xs) path_of) xs
+led : {X : Type 0} (seen : List Text) (path_of : X → List Segment) (xs : List X)
+    → AllByRecursion (IsLed seen (leader_keys seen path_of xs) path_of) xs
 led seen path_of [] = tt
 led seen path_of (x ∷ xs) =
     let k : Text = first_key (path_of x) in
@@ -134,7 +145,8 @@ led seen path_of (x ∷ xs) =
           let is : leader_keys seen path_of (x ∷ xs) ≡ k ∷ later = rw e refl in
           subst (λ ks. AllByRecursion (IsLed seen ks path_of) (x ∷ xs)) (sym is) (
             one-led k k seen later (ap (λ b. b || is_among k later) (now-seen k seen)),
-            all-map (IsLed (seen ++ one k) later path_of) (IsLed seen (k ∷ later) path_of) xs (λ y g. one-led (first_key (path_of y)) k seen later g)
+            all-map (IsLed (seen ++ one k) later path_of) (IsLed seen (k ∷ later) path_of) xs
+                (λ y g. one-led (first_key (path_of y)) k seen later g)
                 (led (seen ++ one k) path_of xs),
           )
     ]
@@ -150,19 +162,25 @@ module _ {X : Type 0} (rank_of : Path → ℕ) (p : Path) (path_of : X → List 
       let k : Text = first_key (path_of x) in
       ranked k [] l []
       ∙ first-alike (λ y. is_empty (path_of y) ≡ false) (λ y. begins_with (one k) (path_of y)) (λ y. begins_with (one l) (path_of y))
-      (λ y. has_first k (path_of y)) (λ y. has_first l (path_of y)) (λ y e. (and-true (has_first k (path_of y)), and-true (has_first l (path_of y)))) all full
+      (λ y. has_first k (path_of y)) (λ y. has_first l (path_of y)) (λ y e. (
+        and-true (has_first k (path_of y)),
+        and-true (has_first l (path_of y)),
+      )) all full
       ∙ ap (passes_first (λ y. has_first k (path_of y)) (λ y. has_first l (path_of y))) is
-      ∙ first-at (λ y. has_first k (path_of y)) (λ y. has_first l (path_of y)) seen_before x later (fails-before path_of k l seen seen_before new other full_before old)
+      ∙ first-at (λ y. has_first k (path_of y)) (λ y. has_first l (path_of y)) seen_before x later
+      (fails-before path_of k l seen seen_before new other full_before old)
       (first-is k (path_of x) full_x ∙ same_text-refl k) (first-is l (path_of x) full_x ∙ same_text-swap l k ∙ apart)
 
   keys-ordered : (all seen_before : List X) (xs : List X) (seen : List Text)
-      → all ≡ seen_before ++ xs → AllFilled path_of all → AllFilled path_of seen_before → AllFilled path_of xs → AllByRecursion (IsSeen seen path_of) seen_before
+      → all ≡ seen_before ++ xs → AllFilled path_of all → AllFilled path_of seen_before → AllFilled path_of xs
+      → AllByRecursion (IsSeen seen path_of) seen_before
       → AreRanked rank_of p path_of all → AreInOrder (λ k. Unit {0}) rank_of p (leader_keys seen path_of xs)
   keys-ordered all seen_before [] seen is full full_before full_xs old ranked = tt
   keys-ordered all seen_before (x ∷ xs) seen is full full_before full_xs old ranked =
       let k : Text = first_key (path_of x) in
       let here : all ≡ (seen_before ++ one x) ++ xs = is ∙ sym (append_assoc seen_before (one x) xs) in
-      let full_here : AllFilled path_of (seen_before ++ one x) = all-append (λ y. is_empty (path_of y) ≡ false) seen_before (one x) full_before (full_xs.0, tt) in
+      let full_here : AllFilled path_of (seen_before ++ one x) =
+      all-append (λ y. is_empty (path_of y) ≡ false) seen_before (one x) full_before (full_xs.0, tt) in
       elim (cases_Bool (is_among k seen)) [
         | inl e ↦
             rw e
@@ -180,20 +198,24 @@ module _ {X : Type 0} (rank_of : Path → ℕ) (p : Path) (path_of : X → List 
                   (apart, λ _ _. earlier-key all seen_before x xs seen l is full full_before full_xs.0 old e new apart ranked))
                   (new-keys (seen ++ one k) path_of xs),
               keys-ordered all (seen_before ++ one x) xs (seen ++ one k) here full full_here full_xs.1
-                  (all-append (IsSeen (seen ++ one k) path_of) seen_before (one x) (still-seen path_of k seen seen_before old) (now-seen k seen, tt)) ranked,
+                  (all-append (IsSeen (seen ++ one k) path_of) seen_before (one x) (still-seen path_of k seen seen_before old)
+                  (now-seen k seen, tt)) ranked,
             )
       ]
 
   -- Lines in their order are those of the first key mentioned, then those of the next.
   pub gathered : (xs : List X) → AllFilled path_of xs → AreRanked rank_of p path_of xs
       → sorted_by (λ x y. keys_before rank_of p (path_of x) (path_of y)) xs
-      ≡ flat_map (λ x. sorted_by (λ y z. keys_before rank_of p (path_of y) (path_of z)) (group (first_key (path_of x)) path_of xs)) (leaders [] path_of xs)
+      ≡ flat_map (λ x. sorted_by (λ y z. keys_before rank_of p (path_of y) (path_of z)) (group (first_key (path_of x)) path_of xs))
+      (leaders [] path_of xs)
   gathered xs full ranked =
       gathered-by (λ k. Unit {0}) rank_of p path_of (leader_keys [] path_of xs) xs (keys-ordered xs [] xs [] refl full tt full tt ranked)
       (all-map (λ x. (is_empty (path_of x) ≡ false) × (is_among (first_key (path_of x)) (leader_keys [] path_of xs) ≡ true))
       (IsKeyed (λ k. Unit {0}) (leader_keys [] path_of xs) path_of) xs (λ x g. (g.0, g.1, tt))
-      (all-both (λ x. is_empty (path_of x) ≡ false) (λ x. is_among (first_key (path_of x)) (leader_keys [] path_of xs) ≡ true) xs full (led [] path_of xs)))
-      ∙ flat_map-map (λ k. sorted_by (λ y z. keys_before rank_of p (path_of y) (path_of z)) (group k path_of xs)) (λ x. first_key (path_of x)) (leaders [] path_of xs)
+      (all-both (λ x. is_empty (path_of x) ≡ false) (λ x. is_among (first_key (path_of x)) (leader_keys [] path_of xs)
+      ≡ true) xs full (led [] path_of xs)))
+      ∙ flat_map-map (λ k. sorted_by (λ y z. keys_before rank_of p (path_of y) (path_of z)) (group k path_of xs))
+      (λ x. first_key (path_of x)) (leaders [] path_of xs)
 
 leading-from : {X : Type 0} (path_of : X → List Segment) (all seen_before : List X) (xs : List X) (seen : List Text)
     → all ≡ seen_before ++ xs → AllFilled path_of seen_before → AllFilled path_of xs → AllByRecursion (IsSeen seen path_of) seen_before
@@ -202,7 +224,8 @@ leading-from path_of all seen_before [] seen is full_before full_xs old = tt
 leading-from path_of all seen_before (x ∷ xs) seen is full_before full_xs old =
     let k : Text = first_key (path_of x) in
     let here : all ≡ (seen_before ++ one x) ++ xs = is ∙ sym (append_assoc seen_before (one x) xs) in
-    let full_here : AllFilled path_of (seen_before ++ one x) = all-append (λ y. is_empty (path_of y) ≡ false) seen_before (one x) full_before (full_xs.0, tt) in
+    let full_here : AllFilled path_of (seen_before ++ one x) =
+    all-append (λ y. is_empty (path_of y) ≡ false) seen_before (one x) full_before (full_xs.0, tt) in
     elim (cases_Bool (is_among k seen)) [
       | inl e ↦
           rw e
@@ -218,13 +241,15 @@ leading-from path_of all seen_before (x ∷ xs) seen is full_before full_xs old 
                     ∙ filter-append (λ y. has_first k (path_of y)) seen_before (x ∷ xs)
                     ∙ ap (λ ys. ys ++ group k path_of (x ∷ xs))
                     (none-left (λ y. has_first k (path_of y)) seen_before
-                    (all-map (λ y. (has_first k (path_of y) ≡ false) × (has_first k (path_of y) ≡ false)) (λ y. has_first k (path_of y) ≡ false) seen_before (λ y h. h.0)
+                    (all-map (λ y. (has_first k (path_of y) ≡ false) × (has_first k (path_of y) ≡ false)) (λ y. has_first k (path_of y)
+                    ≡ false) seen_before (λ y h. h.0)
                     (fails-before path_of k k seen seen_before e e full_before old)))
                     ∙ rw (first-is k (path_of x) full_xs.0 ∙ same_text-refl k) refl,
               ),
             ),
             leading-from path_of all (seen_before ++ one x) xs (seen ++ one k) here full_here full_xs.1
-                (all-append (IsSeen (seen ++ one k) path_of) seen_before (one x) (still-seen path_of k seen seen_before old) (now-seen k seen, tt)),
+                (all-append (IsSeen (seen ++ one k) path_of) seen_before (one x) (still-seen path_of k seen seen_before old)
+                (now-seen k seen, tt)),
           )
     ]
 

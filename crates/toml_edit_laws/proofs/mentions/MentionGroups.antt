@@ -43,11 +43,13 @@ pub under-lower : {S : Type 0} (s : Step) (ms : List (Mention S)) → under s ms
 under-lower s [] = refl
 under-lower {S = S} s (m ∷ ms) = by_path m.path (under-lower s ms)
   where
-    by_path : (p : Path) → under s ms ≡ under s (lower ms) → under s ((record m { path = p }) ∷ ms) ≡ under s (lower ((record m { path = p }) ∷ ms))
+    by_path : (p : Path) → under s ms ≡ under s (lower ms) → under s ((record m { path = p }) ∷ ms)
+        ≡ under s (lower ((record m { path = p }) ∷ ms))
     by_path [] ih = ih
     by_path (t ∷ p) ih = ap (λ ns. inside s (record m { path = t ∷ p }) (t ∷ p) ++ ns) ih
 
-at-lower : {S : Type 0} (test : Role → Bool) (s : Step) (q : Path) (ms : List (Mention S)) → some_at test (s ∷ q) ms ≡ some_at test (s ∷ q) (lower ms)
+at-lower : {S : Type 0} (test : Role → Bool) (s : Step) (q : Path) (ms : List (Mention S)) → some_at test (s ∷ q) ms
+    ≡ some_at test (s ∷ q) (lower ms)
 at-lower test s q [] = refl
 at-lower {S = S} test s q (m ∷ ms) = by_path m.path (at-lower test s q ms)
   where
@@ -64,14 +66,18 @@ kept-lower-from before [] = refl
 kept-lower-from {S = S} before (m ∷ ms) = by_path m.path (λ p. kept-lower-from (before ++ one (record m { path = p })) ms)
   where
     by_path : (p : Path)
-        → ((p : Path) → kept_from (before ++ one (record m { path = p })) ms ≡ kept_from (lower (before ++ one (record m { path = p }))) (lower ms))
+        → ((p : Path) → kept_from (before ++ one (record m { path = p })) ms
+        ≡ kept_from (lower (before ++ one (record m { path = p }))) (lower ms))
         → kept_from before ((record m { path = p }) ∷ ms) ≡ kept_from (lower before) (lower ((record m { path = p }) ∷ ms))
-    by_path [] ih = ih [] ∙ ap (λ b. kept_from b (lower ms)) (lower-append before (one (record m { path = [] })) ∙ append-nil (lower before))
+    by_path [] ih = ih [] ∙ ap (λ b. kept_from b (lower ms)) (lower-append before (one (record m { path = [] }))
+        ∙ append-nil (lower before))
     by_path (t ∷ p) ih =
         let n : Mention S = record m { path = t ∷ p } in
         ap (λ b. if b then n ∷ kept_from (before ++ one n) ms else kept_from (before ++ one n) ms)
-        (ap (λ b. is_single (t ∷ p) && (is_header_role m.role || (not b && not (some_at is_header_role (t ∷ p) ms)))) (at-lower any_role t p before)
-        ∙ ap (λ b. is_single (t ∷ p) && (is_header_role m.role || (not (some_at any_role (t ∷ p) (lower before)) && not b))) (at-lower is_header_role t p ms))
+        (ap (λ b. is_single (t ∷ p) && (is_header_role m.role || (not b && not (some_at is_header_role (t ∷ p) ms))))
+        (at-lower any_role t p before)
+        ∙ ap (λ b. is_single (t ∷ p) && (is_header_role m.role || (not (some_at any_role (t ∷ p) (lower before)) && not b)))
+        (at-lower is_header_role t p ms))
         ∙ ap (λ ks. if is_slot (lower before) n (lower ms) then n ∷ ks else ks)
         (ih (t ∷ p) ∙ ap (λ b. kept_from b (lower ms)) (lower-append before (one n)))
 
@@ -91,23 +97,30 @@ under-line source start k l p (s ∷ r ∷ rest) =
     (under-line source (next_start start s) k l (to_key p s.key) (r ∷ rest))
     ∙ elim (cases_Bool (same_text l k)) [ inl e ↦ rw e refl | inr e ↦ rw e refl ]
 
-pub lower-line : {S : Type 0} (source : S) (start : ℕ) (p : Path) (ss : List Segment) → lower (line_mentions source start p ss) ≡ line_mentions source start p ss
+pub lower-line : {S : Type 0} (source : S) (start : ℕ) (p : Path) (ss : List Segment) → lower (line_mentions source start p ss)
+    ≡ line_mentions source start p ss
 lower-line source start p [] = refl
 lower-line source start p (s ∷ []) = rw (not_empty-last p (at_key s.key)) refl
 lower-line source start p (s ∷ r ∷ rest) =
     rw (not_empty-last p (at_key s.key))
-    (ap (λ ms. mention_of source start (to_key p s.key) dotted_role s ∷ ms) (lower-line source (next_start start s) (to_key p s.key) (r ∷ rest)))
+    (ap (λ ms. mention_of source start (to_key p s.key) dotted_role s
+    ∷ ms) (lower-line source (next_start start s) (to_key p s.key) (r ∷ rest)))
 
 -- under a key stand the rests of the lines that begin with it
 below-line : {S : Type 0} (source : S) (start : ℕ) (k : Text) (ss : List Segment)
     → lower (under (at_key k) (line_mentions source start [] ss))
     ≡ (if has_first k ss then line_mentions source (below_start start ss) [] (rest_of ss) else [])
 below-line source start k [] = refl
-below-line source start k (s ∷ []) = rw (same_text-swap s.key k) (elim (cases_Bool (same_text k s.key)) [ inl e ↦ rw e refl | inr e ↦ rw e refl ])
+below-line source start k (s ∷ []) =
+    rw (same_text-swap s.key k) (elim (cases_Bool (same_text k s.key)) [ inl e ↦ rw e refl | inr e ↦ rw e refl ])
 below-line source start k (s ∷ r ∷ rest) =
     ap (λ ms. lower (inside (at_key k) (mention_of source start (one (at_key s.key)) dotted_role s) (one (at_key s.key)) ++ ms))
     (under-line source (next_start start s) k s.key [] (r ∷ rest))
-    ∙ rw (same_text-swap s.key k) (elim (cases_Bool (same_text k s.key)) [ inl e ↦ rw e (lower-line source (next_start start s) [] (r ∷ rest)) | inr e ↦ rw e refl ])
+    ∙ rw (same_text-swap s.key k) (elim (cases_Bool (same_text k s.key)) [
+      | inl e ↦
+          rw e (lower-line source (next_start start s) [] (r ∷ rest))
+      | inr e ↦ rw e refl
+    ])
 
 -- the lines of a table, as far as their keys begin in it
 abbrev pub flat_lines : {S X : Type 0} → (X → S) → (X → ℕ) → (X → List Segment) → List X → List (Mention S)
@@ -120,9 +133,11 @@ pub below-lines : {S X : Type 0} (source : X → S) (start : X → ℕ) (path_of
 below-lines source start path_of k [] = refl
 below-lines source start path_of k (x ∷ xs) =
     ap lower (under-append (at_key k) (line_mentions (source x) (start x) [] (path_of x)) (flat_lines source start path_of xs))
-    ∙ lower-append (under (at_key k) (line_mentions (source x) (start x) [] (path_of x))) (under (at_key k) (flat_lines source start path_of xs))
+    ∙ lower-append (under (at_key k) (line_mentions (source x) (start x) [] (path_of x)))
+    (under (at_key k) (flat_lines source start path_of xs))
     ∙ ap (λ ms. ms ++ lower (under (at_key k) (flat_lines source start path_of xs))) (below-line (source x) (start x) k (path_of x))
-    ∙ ap (λ ms. (if has_first k (path_of x) then line_mentions (source x) (below_start (start x) (path_of x)) [] (rest_of (path_of x)) else []) ++ ms)
+    ∙ ap (λ ms. (if has_first k (path_of x) then line_mentions (source x) (below_start (start x) (path_of x)) [] (rest_of (path_of x))
+    else []) ++ ms)
     (below-lines source start path_of k xs)
     ∙ elim (cases_Bool (has_first k (path_of x))) [ inl e ↦ rw e refl | inr e ↦ rw e refl ]
 
@@ -137,10 +152,12 @@ line-headers source start p [] = tt
 line-headers source start p (s ∷ []) = (refl, tt)
 line-headers source start p (s ∷ r ∷ rest) = (refl, line-headers source (next_start start s) (to_key p s.key) (r ∷ rest))
 
-pub lines-headers : {S X : Type 0} (source : X → S) (start : X → ℕ) (path_of : X → List Segment) (xs : List X) → NoHeaders (flat_lines source start path_of xs)
+pub lines-headers : {S X : Type 0} (source : X → S) (start : X → ℕ) (path_of : X → List Segment) (xs : List X)
+    → NoHeaders (flat_lines source start path_of xs)
 lines-headers source start path_of [] = tt
 lines-headers {S = S} source start path_of (x ∷ xs) =
-    all-append (λ (m : Mention S). is_header_role m.role ≡ false) (line_mentions (source x) (start x) [] (path_of x)) (flat_lines source start path_of xs)
+    all-append (λ (m : Mention S). is_header_role m.role
+    ≡ false) (line_mentions (source x) (start x) [] (path_of x)) (flat_lines source start path_of xs)
     (line-headers (source x) (start x) [] (path_of x)) (lines-headers source start path_of xs)
 
 no-header-at : {S : Type 0} (p : Path) (ms : List (Mention S)) → NoHeaders ms → some_at is_header_role p ms ≡ false
@@ -169,7 +186,8 @@ long-path k l (t ∷ p) s = none (same_text l k)
     none false = refl
 
 skip-longer : {S : Type 0} (source : S) (start : ℕ) (k : Text) (p : Path) (ss : List Segment) (before more : List (Mention S))
-    → kept_from before (line_mentions source start (at_key k ∷ p) ss ++ more) ≡ kept_from (before ++ line_mentions source start (at_key k ∷ p) ss) more
+    → kept_from before (line_mentions source start (at_key k ∷ p) ss ++ more)
+    ≡ kept_from (before ++ line_mentions source start (at_key k ∷ p) ss) more
 skip-longer source start k p [] before more = ap (λ b. kept_from b more) (sym (append-nil before))
 skip-longer source start k p (s ∷ []) before more = rw (not-single k p (at_key s.key)) refl
 skip-longer {S = S} source start k p (s ∷ r ∷ rest) before more =
@@ -211,13 +229,15 @@ line-at source start k s rest =
 kept-line : {S : Type 0} (source : S) (start : ℕ) (s : Segment) (rest : List Segment) (before more : List (Mention S)) → NoHeaders more
     → kept_from before (line_mentions source start [] (s ∷ rest) ++ more)
     ≡ (if some_at any_role (one (at_key s.key)) before then kept_from (before ++ line_mentions source start [] (s ∷ rest)) more
-    else mention_of source start (one (at_key s.key)) (first_role rest) s ∷ kept_from (before ++ line_mentions source start [] (s ∷ rest)) more)
+    else mention_of source start (one (at_key s.key)) (first_role rest) s
+    ∷ kept_from (before ++ line_mentions source start [] (s ∷ rest)) more)
 kept-line {S = S} source start s rest before more h =
     let m : Mention S = mention_of source start (one (at_key s.key)) (first_role rest) s in
     let longer : List (Mention S) = line_mentions source (next_start start s) (one (at_key s.key)) rest in
     let none : some_at is_header_role (one (at_key s.key)) (longer ++ more) ≡ false =
     no-header-at (one (at_key s.key)) (longer ++ more)
-    (all-append (λ (n : Mention S). is_header_role n.role ≡ false) longer more (line-headers source (next_start start s) (one (at_key s.key)) rest) h) in
+    (all-append (λ (n : Mention S). is_header_role n.role
+    ≡ false) longer more (line-headers source (next_start start s) (one (at_key s.key)) rest) h) in
     let after : kept_from (before ++ one m) (longer ++ more) ≡ kept_from (before ++ line_mentions source start [] (s ∷ rest)) more =
     skip-longer source (next_start start s) s.key [] rest (before ++ one m) more
     ∙ ap (λ b. kept_from b more) (append_assoc before (one m) longer ∙ ap (λ ms. before ++ ms) (sym (line-from source start [] s rest))) in
@@ -227,7 +247,8 @@ kept-line {S = S} source start s rest before more h =
     (kept_from (before ++ one m) (longer ++ more)) (m ∷ kept_from (before ++ one m) (longer ++ more)) (plain-role rest) none
     ∙ ap (λ ks. if seen then ks else m ∷ ks) after
   where
-    by_tests : {A : Type 0} (a b c : Bool) (x y : A) → a ≡ false → c ≡ false → (if a || (not b && not c) then y else x) ≡ (if b then x else y)
+    by_tests : {A : Type 0} (a b c : Bool) (x y : A) → a ≡ false → c ≡ false → (if a || (not b && not c) then y else x)
+        ≡ (if b then x else y)
     by_tests true b c x y e g = cc
     by_tests false b true x y e g = cc
     by_tests false true false x y e g = refl
@@ -237,10 +258,12 @@ kept-line {S = S} source start s rest before more h =
 abbrev AreSeen : {S : Type 0} → List (Mention S) → List Text → Type 0
 AreSeen before seen = (k : Text) → some_at any_role (one (at_key k)) before ≡ is_among k seen
 
-more-seen : {S : Type 0} (source : S) (start : ℕ) (s : Segment) (rest : List Segment) (before : List (Mention S)) (seen : List Text) → AreSeen before seen
+more-seen : {S : Type 0} (source : S) (start : ℕ) (s : Segment) (rest : List Segment) (before : List (Mention S)) (seen : List Text)
+    → AreSeen before seen
     → AreSeen (before ++ line_mentions source start [] (s ∷ rest)) (seen ++ one s.key)
 more-seen {S = S} source start s rest before seen h k =
-    list_any-append (λ (m : Mention S). same_path m.path (one (at_key k)) && any_role m.role) before (line_mentions source start [] (s ∷ rest))
+    list_any-append (λ (m : Mention S). same_path m.path (one (at_key k))
+    && any_role m.role) before (line_mentions source start [] (s ∷ rest))
     ∙ ap (λ b. b || some_at any_role (one (at_key k)) (line_mentions source start [] (s ∷ rest))) (h k)
     ∙ ap (λ b. is_among k seen || b) (line-at source start k s rest ∙ sym (or-false (same_text k s.key)))
     ∙ sym (list_any-append (same_text k) seen (one s.key))
@@ -258,19 +281,23 @@ through-if : {A B : Type 0} (f : A → B) (b : Bool) (x y : A) → f (if b then 
 through-if f true x y = refl
 through-if f false x y = refl
 
-kept-from-lines : {S X : Type 0} (source : X → S) (start : X → ℕ) (path_of : X → List Segment) (before : List (Mention S)) (seen : List Text) (xs : List X)
+kept-from-lines : {S X : Type 0} (source : X → S) (start : X → ℕ) (path_of : X
+    → List Segment) (before : List (Mention S)) (seen : List Text) (xs : List X)
     → AreSeen before seen → AllFilled path_of xs
-    → kept_from before (flat_lines source start path_of xs) ≡ flat_map (λ x. first_mention (source x) (start x) (path_of x)) (leaders seen path_of xs)
+    → kept_from before (flat_lines source start path_of xs)
+    ≡ flat_map (λ x. first_mention (source x) (start x) (path_of x)) (leaders seen path_of xs)
 kept-from-lines source start path_of before seen [] h full = refl
 kept-from-lines {S = S} {X = X} source start path_of before seen (x ∷ xs) h full =
     by_keys (path_of x) full.0 (λ b t g. kept-from-lines source start path_of b t xs g full.1)
-    ∙ sym (through-if first_mentions (is_among (first_key (path_of x)) seen) (leaders seen path_of xs) (x ∷ leaders (seen ++ one (first_key (path_of x))) path_of xs))
+    ∙ sym (through-if first_mentions (is_among (first_key (path_of x)) seen) (leaders seen path_of xs) (x
+    ∷ leaders (seen ++ one (first_key (path_of x))) path_of xs))
   where
     first_mentions : List X → List (Mention S)
     first_mentions ys = flat_map (λ y. first_mention (source y) (start y) (path_of y)) ys
 
     by_keys : (ss : List Segment) → is_empty ss ≡ false
-        → ((b : List (Mention S)) (t : List Text) → AreSeen b t → kept_from b (flat_lines source start path_of xs) ≡ first_mentions (leaders t path_of xs))
+        → ((b : List (Mention S)) (t : List Text) → AreSeen b t → kept_from b (flat_lines source start path_of xs)
+        ≡ first_mentions (leaders t path_of xs))
         → kept_from before (line_mentions (source x) (start x) [] ss ++ flat_lines source start path_of xs)
         ≡ (if is_among (first_key ss) seen then first_mentions (leaders seen path_of xs)
         else first_mention (source x) (start x) ss ++ first_mentions (leaders (seen ++ one (first_key ss)) path_of xs))
@@ -281,7 +308,8 @@ kept-from-lines {S = S} {X = X} source start path_of before seen (x ∷ xs) h fu
         kept-line (source x) (start x) s rest before (flat_lines source start path_of xs) (lines-headers source start path_of xs)
         ∙ rw (h s.key) (elim (cases_Bool (is_among s.key seen)) [
           | inl g ↦ rw g (ih (before ++ line) seen (λ k. here k ∙ seen-again s.key k seen g))
-          | inr g ↦ rw g (ap (λ ms. mention_of (source x) (start x) (one (at_key s.key)) (first_role rest) s ∷ ms) (ih (before ++ line) (seen ++ one s.key) here))
+          | inr g ↦ rw g (ap (λ ms. mention_of (source x) (start x) (one (at_key s.key)) (first_role rest) s
+              ∷ ms) (ih (before ++ line) (seen ++ one s.key) here))
         ])
 
 -- The slots of a table of lines are those of the first mentions of their leaders.

@@ -1,6 +1,7 @@
 -- Mentions whose paths end in the keys of their segments.
 use Rattle.toml_edit_model.specs.Text.{Text, one, same_text}
-use Rattle.toml_edit_model.specs.Paths.{Path, to_key, Mention, at_element, at_key, Step, same_step, line_mentions, next_start, elements_at, header_mentions, in_last, same_path}
+use Rattle.toml_edit_model.specs.Paths.{Path, to_key, Mention, at_element, at_key, Step, same_step, line_mentions, next_start, elements_at}
+use Rattle.toml_edit_model.specs.Paths.{header_mentions, in_last, same_path}
 use Rattle.std.proofs.Common.{◌≡◌, List, refl, true, ◌∷◌, inl, inr, false, subst, ◌∙◌, ◌++◌, ℕ, ap, sym, []}
 use Rattle.std.specs.Prelude.{◌⊎◌}
 use Rattle.std.specs.List.{AllByRecursion}
@@ -64,7 +65,8 @@ header-named source arrays role start p (s ∷ r ∷ rest) =
     (inr (p, refl), header-named source arrays role (next_start start s) (in_last (elements_at arrays here) here) (r ∷ rest))
 
 pub other-key : (p : Path) (l k : Text) → EndsIn l p → is_single p ≡ true → same_path p (at_key k ∷ []) ≡ false → same_text k l ≡ false
-other-key p l k n h e = same_text-swap k l ∙ sym (and-true (same_text l k)) ∙ ap (λ r. same_path r (at_key k ∷ [])) (sym (single-named p l n h)) ∙ e
+other-key p l k n h e = same_text-swap k l ∙ sym (and-true (same_text l k))
+    ∙ ap (λ r. same_path r (at_key k ∷ [])) (sym (single-named p l n h)) ∙ e
 
 pub key-at : (q : Path) (l k : Text) → to_key q l ≡ at_key k ∷ [] → k ≡ l
 key-at [] l k e = cc

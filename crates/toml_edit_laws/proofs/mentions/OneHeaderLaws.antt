@@ -5,7 +5,9 @@ use Rattle.std.specs.List.{AllByRecursion, list_all}
 use Rattle.std.proofs.lemmas.List.Folds.{list_all-append}
 use Rattle.toml_edit_model.specs.Text.{one}
 use Rattle.toml_edit_model.specs.Syntax.{Segment, Statement, key_line, header, Document}
-use Rattle.toml_edit_model.specs.Paths.{Path, same_path, to_key, Mention, next_start, line_mentions, elements_at, in_last, passing_role, header_mentions, header_role_of, path_start, Source, Placed, Context, source_of, mentions_of, context_after, placed_from, start_context, all_mentions}
+use Rattle.toml_edit_model.specs.Paths.{Path, same_path, to_key, Mention, next_start, line_mentions, elements_at, in_last, passing_role}
+use Rattle.toml_edit_model.specs.Paths.{header_mentions, header_role_of, path_start, Source, Placed, Context, source_of, mentions_of}
+use Rattle.toml_edit_model.specs.Paths.{context_after, placed_from, start_context, all_mentions}
 use Rattle.toml_edit_model.specs.Accepted.{agree, is_sound, is_accepted}
 use Rattle.toml_edit_laws.specs.OneByOne.{is_right_after, all_right_after}
 use Rattle.toml_edit_laws.proofs.common.Tests.{and_left, and_right}
@@ -14,14 +16,16 @@ use Rattle.toml_edit_laws.proofs.mentions.KeptOrder.{HaveOneHeader}
 use Rattle.toml_edit_laws.proofs.mentions.SomeAt.{some_at-append}
 use Rattle.toml_edit_laws.proofs.common.Each.{all-map}
 use Rattle.toml_edit_laws.proofs.one_by_one.Together.{accepted-right}
-use Rattle.toml_edit_model.specs.Roles.{Role, dotted_role, implied_role, header_role, array_role, value_role, continued_role, may_meet, is_header_role}
+use Rattle.toml_edit_model.specs.Roles.{Role, dotted_role, implied_role, header_role, array_role, value_role, continued_role, may_meet}
+use Rattle.toml_edit_model.specs.Roles.{is_header_role}
 use Rattle.toml_edit_model.specs.TableMentions.{some_at}
 
 -- the headers of these mentions have no other header among those
 abbrev HaveNoHeaderIn : {S : Type 0} → List (Mention S) → List (Mention S) → Type 0
 HaveNoHeaderIn later ms = AllByRecursion (λ m. is_header_role m.role ≡ true → some_at is_header_role m.path later ≡ false) ms
 
-header-append : {S : Type 0} (ms ns : List (Mention S)) → HaveOneHeader ms → HaveNoHeaderIn ns ms → HaveOneHeader ns → HaveOneHeader (ms ++ ns)
+header-append : {S : Type 0} (ms ns : List (Mention S)) → HaveOneHeader ms → HaveNoHeaderIn ns ms → HaveOneHeader ns
+    → HaveOneHeader (ms ++ ns)
 header-append [] ns h g k = k
 header-append (m ∷ ms) ns h g k = (
   λ is. some_at-append is_header_role m.path ms ns ∙ ap (λ b. b || some_at is_header_role m.path ns) (h.0 is) ∙ g.0 is,
@@ -44,8 +48,10 @@ pub header-header : {S : Type 0} (source : S) (arrays : List Path) (role : Role)
 header-header source arrays role start p [] = tt
 header-header source arrays role start p (s ∷ []) = (λ is. refl, tt)
 header-header source arrays role start p (s ∷ r ∷ rest) =
-    let here : Path = to_key p s.key in
-    (λ is. absurd (passing-role (elements_at arrays here) is), header-header source arrays role (next_start start s) (in_last (elements_at arrays here) here) (r ∷ rest))
+    let here : Path = to_key p s.key in (
+      λ is. absurd (passing-role (elements_at arrays here) is),
+      header-header source arrays role (next_start start s) (in_last (elements_at arrays here) here) (r ∷ rest),
+    )
 
 pub statement-header : (c : Context) (s : Statement) → HaveOneHeader (mentions_of c s)
 statement-header c (key_line f v end) =
@@ -109,7 +115,8 @@ agrees-later earlier more e (s ∷ rest) h =
           (ap (λ d. all_right_after d rest) (sym (append_assoc earlier (e ∷ more) (one s))) ∙ and_right right others h),
     )
 
-joined-one : (m : Mention Source) (places : List Placed) → AllByRecursion (λ s. meets_all m s.mentions ≡ true) places → is_header_role m.role ≡ true
+joined-one : (m : Mention Source) (places : List Placed) → AllByRecursion (λ s. meets_all m s.mentions ≡ true) places
+    → is_header_role m.role ≡ true
     → some_at is_header_role m.path (flat_map (λ s. s.mentions) places) ≡ false
 joined-one m [] h is = refl
 joined-one m (s ∷ places) h is =
@@ -136,7 +143,8 @@ placed-header c [] earlier h = tt
 placed-header c (s ∷ ss) earlier h =
     let here : Placed = record { source = source_of c s; mentions = mentions_of c s } in
     let later : List Placed = placed_from (context_after c s) ss in
-    let rest : all_right_after (earlier ++ one here) later ≡ true = and_right (is_right_after earlier here) (all_right_after (earlier ++ one here) later) h in
+    let rest : all_right_after (earlier ++ one here) later ≡ true =
+    and_right (is_right_after earlier here) (all_right_after (earlier ++ one here) later) h in
     header-append (mentions_of c s) (flat_map (λ (r : Placed). r.mentions) later) (statement-header c s)
     (joined-headers (mentions_of c s) later (agrees-later earlier [] here later rest))
     (placed-header (context_after c s) ss (earlier ++ one here) rest)

@@ -6,10 +6,13 @@ use Rattle.std.proofs.lemmas.Bool.{cases_Bool}
 use Rattle.std.proofs.lemmas.List.Folds.{flat_map-map}
 use Rattle.toml_edit_model.specs.Text.{Text, same_text, one}
 use Rattle.toml_edit_model.specs.Syntax.{Segment, Statement, key_line, header, Document}
-use Rattle.toml_edit_model.specs.Paths.{Step, at_key, Path, same_step, same_path, to_key, path_start, header_role_of, Mention, next_start, line_mentions, elements_at, in_last, header_mentions, header_path, keys_of, Placed, Context, context_after, mentions_of, source_of, placed_from, start_context, placed, all_mentions}
+use Rattle.toml_edit_model.specs.Paths.{Step, at_key, Path, same_step, same_path, to_key, path_start, header_role_of, Mention, next_start}
+use Rattle.toml_edit_model.specs.Paths.{line_mentions, elements_at, in_last, header_mentions, header_path, keys_of, Placed, Context}
+use Rattle.toml_edit_model.specs.Paths.{context_after, mentions_of, source_of, placed_from, start_context, placed, all_mentions}
 use Rattle.toml_edit_laws.proofs.common.Tests.{true-false, false-by}
 use Rattle.toml_edit_laws.proofs.common.OrderLaws.{passes_first, place-first}
-use Rattle.toml_edit_laws.proofs.common.PathLaws.{same_step-is, same_step-refl, same_path-is, is_front, front-refl, front-key, front-more, front-through, front-keys, in_last-front}
+use Rattle.toml_edit_laws.proofs.common.PathLaws.{same_step-is, same_step-refl, same_path-is, is_front, front-refl, front-key, front-more}
+use Rattle.toml_edit_laws.proofs.common.PathLaws.{front-through, front-keys, in_last-front}
 use Rattle.toml_edit_laws.proofs.mentions.Placed.{mention_lists}
 use Rattle.toml_edit_laws.proofs.common.Each.{all-map}
 use Rattle.toml_edit_model.specs.Roles.{Role}
@@ -62,13 +65,15 @@ abbrev NotBoth : {A : Type 0} → (A → Bool) → (A → Bool) → List A → T
 NotBoth test other xs = (list_any test xs && list_any other xs) ≡ false
 
 first-append : {A : Type 0} (test other : A → Bool) (xs ys : List A) → NotBoth test other xs
-    → passes_first test other (xs ++ ys) ≡ (if list_any other xs then false else (if list_any test xs then true else passes_first test other ys))
+    → passes_first test other (xs ++ ys) ≡ (if list_any other xs then false
+    else (if list_any test xs then true else passes_first test other ys))
 first-append test other [] ys h = refl
 first-append test other (x ∷ xs) ys h =
     by_tests (test x) (other x) (list_any test xs) (list_any other xs) (passes_first test other ys) (passes_first test other (xs ++ ys)) h
     (first-append test other xs ys)
   where
-    by_tests : (a b c d e f : Bool) → ((a || c) && (b || d)) ≡ false → ((c && d) ≡ false → f ≡ (if d then false else (if c then true else e)))
+    by_tests : (a b c d e f : Bool) → ((a || c) && (b || d)) ≡ false
+        → ((c && d) ≡ false → f ≡ (if d then false else (if c then true else e)))
         → (if b then false else (if a then true else f)) ≡ (if b || d then false else (if a || c then true else e))
     by_tests a true c d e f h ih = refl
     by_tests true false c true e f h ih = cc
@@ -113,18 +118,21 @@ pub ranks-follow : {S : Type 0} (mss : List (List (Mention S))) → AllAlong mss
 ranks-follow {S = S} mss h q k l apart first =
     place-first (list_any (is_at (to_key q k))) (list_any (is_at (to_key q l))) mss
     ∙ sym (first-joined (is_at (to_key q k)) (is_at (to_key q l)) mss
-    (all-map (λ ms. (p : Path) × AreAlong p ms) (NotBoth (is_at (to_key q k)) (is_at (to_key q l))) mss (λ ms g. one-of-two g.0 q k l ms apart g.1) h))
+    (all-map (λ ms. (p : Path) × AreAlong p ms) (NotBoth (is_at (to_key q k)) (is_at (to_key q l))) mss
+    (λ ms g. one-of-two g.0 q k l ms apart g.1) h))
     ∙ first
 
 -- ---- the mentions of a statement
 
 -- the mentions of a line are along its path
-pub line-along : {S : Type 0} (source : S) (start : ℕ) (p : Path) (ss : List Segment) → AreAlong (p ++ keys_of ss) (line_mentions source start p ss)
+pub line-along : {S : Type 0} (source : S) (start : ℕ) (p : Path) (ss : List Segment)
+    → AreAlong (p ++ keys_of ss) (line_mentions source start p ss)
 line-along source start p [] = tt
 line-along source start p (s ∷ []) = (front-key p s.key [], tt)
 line-along {S = S} source start p (s ∷ r ∷ rest) = (
   front-key p s.key (keys_of (r ∷ rest)),
-  subst (λ q. AreAlong q (line_mentions source (next_start start s) (to_key p s.key) (r ∷ rest))) (append_assoc p (one (at_key s.key)) (keys_of (r ∷ rest)))
+  subst (λ q. AreAlong q (line_mentions source (next_start start s) (to_key p s.key) (r ∷ rest)))
+      (append_assoc p (one (at_key s.key)) (keys_of (r ∷ rest)))
       (line-along source (next_start start s) (to_key p s.key) (r ∷ rest)),
 )
 
@@ -135,7 +143,8 @@ front-header arrays p (s ∷ r ∷ rest) =
     let here : Path = to_key p s.key in
     let next : Path = in_last (elements_at arrays here) here in
     front-through p here (header_path arrays next (r ∷ rest)) (front-more p (one (at_key s.key)))
-    (front-through here next (header_path arrays next (r ∷ rest)) (in_last-front (elements_at arrays here) here) (front-header arrays next (r ∷ rest)))
+    (front-through here next (header_path arrays next (r ∷ rest)) (in_last-front (elements_at arrays here) here)
+    (front-header arrays next (r ∷ rest)))
 
 -- and those of a header
 pub header-along : {S : Type 0} (source : S) (arrays : List Path) (role : Role) (start : ℕ) (p : Path) (ss : List Segment)
@@ -145,15 +154,19 @@ header-along source arrays role start p (s ∷ []) = (front-refl (to_key p s.key
 header-along source arrays role start p (s ∷ r ∷ rest) =
     let here : Path = to_key p s.key in
     let next : Path = in_last (elements_at arrays here) here in (
-      front-through here next (header_path arrays next (r ∷ rest)) (in_last-front (elements_at arrays here) here) (front-header arrays next (r ∷ rest)),
+      front-through here next (header_path arrays next (r ∷ rest)) (in_last-front (elements_at arrays here) here)
+          (front-header arrays next (r ∷ rest)),
       header-along source arrays role (next_start start s) next (r ∷ rest),
     )
 
 statement-along : (c : Context) (s : Statement) → (p : Path) × AreAlong p (mentions_of c s)
 statement-along c (key_line f v end) =
     (c.block ++ keys_of f.path, line-along (source_of c (key_line f v end)) (c.start + path_start (key_line f v end)) c.block f.path)
-statement-along c (header h end) =
-    (header_path c.arrays [] h.path, header-along (source_of c (header h end)) c.arrays (header_role_of h) (c.start + path_start (header h end)) [] h.path)
+statement-along c (header h end) = (
+  header_path c.arrays [] h.path,
+  header-along (source_of c (header h end)) c.arrays (header_role_of h) (c.start
+      + path_start (header h end)) [] h.path,
+)
 
 placed-along : (c : Context) (ss : List Statement) → AllAlong (mention_lists (placed_from c ss))
 placed-along c [] = tt

@@ -3,7 +3,8 @@ use Rattle.std.proofs.Common.{false, Bool, true, refl, ◌≡◌}
 use Rattle.toml_edit_laws.proofs.normal_texts.Trims.{is_last_role}
 use Rattle.std.specs.Prelude.{if◌then◌else◌, ◌&&◌}
 use Rattle.toml_edit_laws.proofs.common.Tests.{and_left, and_right}
-use Rattle.toml_edit_model.specs.Roles.{Role, header_role, array_role, value_role, dotted_role, continued_role, implied_role, is_array_role, is_header_role}
+use Rattle.toml_edit_model.specs.Roles.{Role, header_role, array_role, value_role, dotted_role, continued_role, implied_role, is_array_role}
+use Rattle.toml_edit_model.specs.Roles.{is_header_role}
 
 abbrev pub is_bracket_role : Role → Bool
 is_bracket_role header_role = true
@@ -45,7 +46,8 @@ header-is continued_role h = absurd cc
 
 -- what holds of the six roles holds of each
 abbrev pub every_role : (Role → Bool) → Bool
-every_role test = test dotted_role && (test implied_role && (test header_role && (test array_role && (test value_role && test continued_role))))
+every_role test = test dotted_role && (test implied_role
+    && (test header_role && (test array_role && (test value_role && test continued_role))))
 
 pub by_role : (test : Role → Bool) → every_role test ≡ true → (r : Role) → test r ≡ true
 by_role test h dotted_role = and_left (test dotted_role) _ h

@@ -12,14 +12,17 @@ use Rattle.toml_edit_laws.proofs.mentions.RoleTests.{implies}
 use Rattle.toml_edit_model.specs.Roles.{Role, any_role}
 use Rattle.toml_edit_model.specs.TableMentions.{some_at, inside, under}
 
-pub some_at-append : {S : Type 0} (test : Role → Bool) (p : Path) (xs ys : List (Mention S)) → some_at test p (xs ++ ys) ≡ (some_at test p xs || some_at test p ys)
+pub some_at-append : {S : Type 0} (test : Role → Bool) (p : Path) (xs ys : List (Mention S)) → some_at test p (xs ++ ys)
+    ≡ (some_at test p xs || some_at test p ys)
 some_at-append test p xs ys = list_any-append (λ m. same_path m.path p && test m.role) xs ys
 
 pub under-append : {S : Type 0} (s : Step) (xs ys : List (Mention S)) → under s (xs ++ ys) ≡ under s xs ++ under s ys
 under-append s [] ys = refl
-under-append s (m ∷ xs) ys = ap (λ zs. inside s m m.path ++ zs) (under-append s xs ys) ∙ sym (append_assoc (inside s m m.path) (under s xs) (under s ys))
+under-append s (m ∷ xs) ys = ap (λ zs. inside s m m.path ++ zs) (under-append s xs ys)
+    ∙ sym (append_assoc (inside s m m.path) (under s xs) (under s ys))
 
-pub some_at-under : {S : Type 0} (test : Role → Bool) (s : Step) (q : Path) (ms : List (Mention S)) → some_at test q (under s ms) ≡ some_at test (s ∷ q) ms
+pub some_at-under : {S : Type 0} (test : Role → Bool) (s : Step) (q : Path) (ms : List (Mention S)) → some_at test q (under s ms)
+    ≡ some_at test (s ∷ q) ms
 some_at-under test s q [] = refl
 some_at-under {S = S} test s q (m ∷ ms) = by_path m.path (some_at-under test s q ms)
   where
@@ -54,7 +57,8 @@ pub under-own-mention : {S : Type 0} (source : S) (start : ℕ) (role : Role) (g
     → under s us ≡ under s (us ++ (own_mention source start role g ∷ []))
 under-own-mention source start role g us s = sym (under-append s us (own_mention source start role g ∷ []) ∙ append-nil (under s us))
 
-pub among-test : {S : Type 0} (test : Role → Bool) (m : Mention S) (ms : List (Mention S)) → Among m ms → test m.role ≡ true → some_at test m.path ms ≡ true
+pub among-test : {S : Type 0} (test : Role → Bool) (m : Mention S) (ms : List (Mention S)) → Among m ms → test m.role ≡ true
+    → some_at test m.path ms ≡ true
 among-test test m [] h e = elim h [ ]
 among-test test m (n ∷ ms) (inl g) e =
     ap (λ (x : Mention _). (same_path x.path m.path && test x.role) || some_at test m.path ms) (sym g)
@@ -63,7 +67,8 @@ among-test test m (n ∷ ms) (inl g) e =
 among-test test m (n ∷ ms) (inr h) e =
     ap (λ b. (same_path n.path m.path && test n.role) || b) (among-test test m ms h e) ∙ or-true (same_path n.path m.path && test n.role)
 
-pub any-test : {S : Type 0} (test : Role → Bool) (p : Path) (ms : List (Mention S)) → some_at any_role p ms ≡ false → some_at test p ms ≡ false
+pub any-test : {S : Type 0} (test : Role → Bool) (p : Path) (ms : List (Mention S)) → some_at any_role p ms ≡ false → some_at test p ms
+    ≡ false
 any-test test p [] h = refl
 any-test test p (m ∷ ms) h =
     or_from (same_path m.path p && test m.role) (some_at test p ms)

@@ -39,15 +39,19 @@ abbrev all_agree_core : (Role → Role → Bool) → List (List Core) → Bool
 all_agree_core may [] = true
 all_agree_core may (c ∷ cs) = list_all (agree_core may c) cs && all_agree_core may cs
 
-all_agree-cores : {S : Type 0} (may : Role → Role → Bool) (mss : List (List (Mention S))) → all_agree may mss ≡ all_agree_core may (map cores mss)
+all_agree-cores : {S : Type 0} (may : Role → Role → Bool) (mss : List (List (Mention S))) → all_agree may mss
+    ≡ all_agree_core may (map cores mss)
 all_agree-cores may [] = refl
-all_agree-cores {S = S} may (m ∷ mss) = ap (λ b. b && all_agree may mss) (each mss) ∙ ap (λ b. list_all (agree_core may (cores m)) (map cores mss) && b) (all_agree-cores may mss)
+all_agree-cores {S = S} may (m ∷ mss) = ap (λ b. b && all_agree may mss) (each mss)
+    ∙ ap (λ b. list_all (agree_core may (cores m)) (map cores mss) && b) (all_agree-cores may mss)
   where
     each : (nss : List (List (Mention S))) → list_all (agree may m) nss ≡ list_all (agree_core may (cores m)) (map cores nss)
     each [] = refl
-    each (n ∷ nss) = ap (λ b. b && list_all (agree may m) nss) (agree-cores may m n) ∙ ap (λ b. agree_core may (cores m) (cores n) && b) (each nss)
+    each (n ∷ nss) = ap (λ b. b && list_all (agree may m) nss) (agree-cores may m n)
+        ∙ ap (λ b. agree_core may (cores m) (cores n) && b) (each nss)
 
-pub all_agree-alike : {S : Type 0} (may : Role → Role → Bool) (mss nss : List (List (Mention S))) → map cores mss ≡ map cores nss → all_agree may mss ≡ all_agree may nss
+pub all_agree-alike : {S : Type 0} (may : Role → Role → Bool) (mss nss : List (List (Mention S))) → map cores mss ≡ map cores nss
+    → all_agree may mss ≡ all_agree may nss
 all_agree-alike may mss nss e = all_agree-cores may mss ∙ ap (all_agree_core may) e ∙ sym (all_agree-cores may nss)
 
 -- ---- agreement both ways
@@ -102,7 +106,8 @@ module _ {S : Type 0} (may : Role → Role → Bool) (both : MeetsBoth may) wher
 
 -- what goes over others only where the relation is kept
 pub pairs-insert : {A : Type 0} (R : A → A → Type 0) (before : A → A → Bool) (a : A) (xs : List A)
-    → AllByRecursion (λ x. before a x ≡ false → R a x → R x a) xs → AllByRecursion (R a) xs → AllPairs R xs → AllPairs R (insert_by before a xs)
+    → AllByRecursion (λ x. before a x ≡ false → R a x → R x a) xs → AllByRecursion (R a) xs → AllPairs R xs
+    → AllPairs R (insert_by before a xs)
 pairs-insert R before a [] f h g = (tt, tt)
 pairs-insert R before a (x ∷ xs) f h g =
     elim (cases_Bool (before a x)) [
@@ -110,7 +115,8 @@ pairs-insert R before a (x ∷ xs) f h g =
       | inr e ↦ rw e (all-insert (R x) before a xs (f.0 e h.0) g.0, pairs-insert R before a xs f.1 h.1 g.1)
     ]
 
-pub all-ordered : (P : Placed → Type 0) (mss : List (List (Mention Source))) (xs : List Placed) → AllByRecursion P xs → AllByRecursion P (ordered mss xs)
+pub all-ordered : (P : Placed → Type 0) (mss : List (List (Mention Source))) (xs : List Placed) → AllByRecursion P xs
+    → AllByRecursion P (ordered mss xs)
 all-ordered P mss [] h = tt
 all-ordered P mss (x ∷ xs) h =
     elim (cases_Bool (is_line x.source.statement)) [
@@ -133,7 +139,8 @@ pairs-ordered R P swap mss (x ∷ xs) h g =
       | inr e ↦ rw e (all-ordered (R x) mss xs g.0, pairs-ordered R P swap mss xs h.1 g.1)
     ]
   where
-    swaps : is_line x.source.statement ≡ true → (ys : List Placed) → AllByRecursion P ys → AllByRecursion (λ y. line_before mss x y ≡ false → R x y → R y x) ys
+    swaps : is_line x.source.statement ≡ true → (ys : List Placed) → AllByRecursion P ys
+        → AllByRecursion (λ y. line_before mss x y ≡ false → R x y → R y x) ys
     swaps e [] k = tt
     swaps e (y ∷ ys) k = (λ f r. swap x y h.0 k.0 e (not-before mss x y f) r, swaps e ys k.1)
 
@@ -169,12 +176,14 @@ from-right earlier (x ∷ xs) h =
         let more = split ys g.1 in (
           (and_left (earlier_agree earlier y) (agree may_meet x.mentions y.mentions && true) both, more.0),
           (
-            and_left (agree may_meet x.mentions y.mentions) true (and_right (earlier_agree earlier y) (agree may_meet x.mentions y.mentions && true) both),
+            and_left (agree may_meet x.mentions y.mentions) true (and_right (earlier_agree earlier y) (agree may_meet x.mentions y.mentions
+                && true) both),
             more.1,
           ),
         )
 
-pub to-right : (earlier xs : List Placed) → AllByRecursion IsSound xs → AllByRecursion (λ y. earlier_agree earlier y ≡ true) xs → AllPairs AgreesWith xs
+pub to-right : (earlier xs : List Placed) → AllByRecursion IsSound xs → AllByRecursion (λ y. earlier_agree earlier y ≡ true) xs
+    → AllPairs AgreesWith xs
     → all_right_after earlier xs ≡ true
 to-right earlier [] h g k = refl
 to-right earlier (x ∷ xs) h g k =
@@ -187,23 +196,33 @@ to-right earlier (x ∷ xs) h g k =
     join [] a b = tt
     join (y ∷ ys) a b = (
       list_all-append (λ (e : Placed). agree may_meet e.mentions y.mentions) earlier (x ∷ [])
-          ∙ and_both (earlier_agree earlier y) (agree may_meet x.mentions y.mentions && true) a.0 (and_both (agree may_meet x.mentions y.mentions) true b.0 refl),
+          ∙ and_both (earlier_agree earlier y) (agree may_meet x.mentions y.mentions
+          && true) a.0 (and_both (agree may_meet x.mentions y.mentions) true b.0 refl),
       join ys a.1 b.1,
     )
 
 -- ---- pairs
 
-pub all_agree-pairs : {S : Type 0} (may : Role → Role → Bool) (mss : List (List (Mention S))) → all_agree may mss ≡ true → AllPairs (λ m n. agree may m n ≡ true) mss
+pub all_agree-pairs : {S : Type 0} (may : Role → Role → Bool) (mss : List (List (Mention S))) → all_agree may mss ≡ true
+    → AllPairs (λ m n. agree may m n ≡ true) mss
 all_agree-pairs may [] h = tt
-all_agree-pairs {S = S} may (m ∷ rest) h = (each rest (and_left (list_all (agree may m) rest) (all_agree may rest) h), all_agree-pairs may rest (and_right (list_all (agree may m) rest) (all_agree may rest) h))
+all_agree-pairs {S = S} may (m ∷ rest) h = (
+  each rest (and_left (list_all (agree may m) rest) (all_agree may rest) h),
+  all_agree-pairs may rest (and_right (list_all (agree may m) rest) (all_agree may rest) h),
+)
   where
     each : (ns : List (List (Mention S))) → list_all (agree may m) ns ≡ true → AllByRecursion (λ n. agree may m n ≡ true) ns
     each [] g = tt
-    each (n ∷ ns) g = (and_left (agree may m n) (list_all (agree may m) ns) g, each ns (and_right (agree may m n) (list_all (agree may m) ns) g))
+    each (n ∷ ns) g = (
+      and_left (agree may m n) (list_all (agree may m) ns) g,
+      each ns (and_right (agree may m n) (list_all (agree may m) ns) g),
+    )
 
-pub pairs-all_agree : {S : Type 0} (may : Role → Role → Bool) (mss : List (List (Mention S))) → AllPairs (λ m n. agree may m n ≡ true) mss → all_agree may mss ≡ true
+pub pairs-all_agree : {S : Type 0} (may : Role → Role → Bool) (mss : List (List (Mention S))) → AllPairs (λ m n. agree may m n ≡ true) mss
+    → all_agree may mss ≡ true
 pairs-all_agree may [] h = refl
-pairs-all_agree {S = S} may (m ∷ rest) h = and_both (list_all (agree may m) rest) (all_agree may rest) (each rest h.0) (pairs-all_agree may rest h.1)
+pairs-all_agree {S = S} may (m ∷ rest) h =
+    and_both (list_all (agree may m) rest) (all_agree may rest) (each rest h.0) (pairs-all_agree may rest h.1)
   where
     each : (ns : List (List (Mention S))) → AllByRecursion (λ n. agree may m n ≡ true) ns → list_all (agree may m) ns ≡ true
     each [] g = refl

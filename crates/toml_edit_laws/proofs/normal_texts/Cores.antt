@@ -4,7 +4,9 @@ use Rattle.std.specs.Prelude.{map, find, flat_map, option_map, unwrap_or}
 use Rattle.std.specs.List.{AllByRecursion}
 use Rattle.toml_edit_model.specs.Text.{Text}
 use Rattle.toml_edit_model.specs.Syntax.{Segment, Statement, key_line, header}
-use Rattle.toml_edit_model.specs.Paths.{Path, same_path, to_key, passing_role, Mention, Context, next_start, line_mentions, elements_at, in_last, header_mentions, header_path, header_role_of, path_start, source_of, mentions_of, context_after, placed_from}
+use Rattle.toml_edit_model.specs.Paths.{Path, same_path, to_key, passing_role, Mention, Context, next_start, line_mentions, elements_at}
+use Rattle.toml_edit_model.specs.Paths.{in_last, header_mentions, header_path, header_role_of, path_start, source_of, mentions_of}
+use Rattle.toml_edit_model.specs.Paths.{context_after, placed_from}
 use Rattle.toml_edit_laws.proofs.common.PathLaws.{same_path-is}
 use Rattle.toml_edit_laws.proofs.clashes.ClashKept.{find-all}
 use Rattle.toml_edit_laws.proofs.common.Cores.{Core, cores, keys_of_segments, line_cores}
@@ -31,7 +33,8 @@ header_place arrays p (k ∷ l ∷ rest) =
     let here = to_key p k in
     header_place arrays (in_last (elements_at arrays here) here) (l ∷ rest)
 
-pub line-cores : {S : Type 0} (source : S) (start : ℕ) (p : Path) (ss : List Segment) → cores (line_mentions source start p ss) ≡ line_cores p (keys_of_segments ss)
+pub line-cores : {S : Type 0} (source : S) (start : ℕ) (p : Path) (ss : List Segment) → cores (line_mentions source start p ss)
+    ≡ line_cores p (keys_of_segments ss)
 line-cores source start p [] = refl
 line-cores source start p (s ∷ []) = refl
 line-cores source start p (s ∷ r ∷ rest) =
@@ -46,7 +49,8 @@ header-cores source arrays role start p (s ∷ r ∷ rest) =
     ap (λ cs. (here, passing_role (elements_at arrays here)) ∷ cs)
     (header-cores source arrays role (next_start start s) (in_last (elements_at arrays here) here) (r ∷ rest))
 
-pub header-place : (arrays : List Path) (p : Path) (ss : List Segment) → header_path arrays p ss ≡ header_place arrays p (keys_of_segments ss)
+pub header-place : (arrays : List Path) (p : Path) (ss : List Segment) → header_path arrays p ss
+    ≡ header_place arrays p (keys_of_segments ss)
 header-place arrays p [] = refl
 header-place arrays p (s ∷ []) = refl
 header-place arrays p (s ∷ r ∷ rest) =
@@ -105,7 +109,8 @@ kept-holds {S = S} P ms p k h e =
     each : AllByRecursion (λ m. P m × (same_path p m.path ≡ true)) (mentions_at ms p)
     each = all_pass P (λ m. same_path p m.path) ms h
 
-    first : (xs : List (Mention S)) → AllByRecursion (λ m. P m × (same_path p m.path ≡ true)) xs → first_of_list xs ≡ Some k → P k × (same_path p k.path ≡ true)
+    first : (xs : List (Mention S)) → AllByRecursion (λ m. P m × (same_path p m.path ≡ true)) xs → first_of_list xs ≡ Some k → P k
+        × (same_path p k.path ≡ true)
     first [] g d = absurd cc
     first (x ∷ xs) g d = (let same : x ≡ k = cc in subst (λ m. P m × (same_path p m.path ≡ true)) same g.0)
 
@@ -119,16 +124,19 @@ kept-holds {S = S} P ms p k h e =
 pub kept-key : {S : Type 0} (ms : List (Mention S)) (m : Mention S) → AreKeyed ms → IsKeyed m → (kept_segment ms m).key ≡ m.segment.key
 kept-key {S = S} ms m h g = by_kept (kept_mention ms m.path) refl
   where
-    by_kept : (o : Option (Mention S)) → kept_mention ms m.path ≡ o → (unwrap_or (option_map (λ k. k.segment) o) m.segment).key ≡ m.segment.key
+    by_kept : (o : Option (Mention S)) → kept_mention ms m.path ≡ o → (unwrap_or (option_map (λ k. k.segment) o) m.segment).key
+        ≡ m.segment.key
     by_kept None e = refl
     by_kept (Some k) e =
         let is = kept-holds IsKeyed ms m.path k h e in
         key-end is.0.0 g.0 k.segment.key m.segment.key (sym is.0.1 ∙ sym (same_path-is m.path k.path is.1) ∙ g.1)
 
-kept-keys : {S : Type 0} (ms own : List (Mention S)) → AreKeyed ms → AreKeyed own → keys_of_segments (map (kept_segment ms) own) ≡ keys_of_segments (own_path own)
+kept-keys : {S : Type 0} (ms own : List (Mention S)) → AreKeyed ms → AreKeyed own → keys_of_segments (map (kept_segment ms) own)
+    ≡ keys_of_segments (own_path own)
 kept-keys ms [] h g = refl
 kept-keys {S = S} ms (m ∷ own) h g =
-    ap (λ k. k ∷ keys_of_segments (map (kept_segment ms) own)) (kept-key ms m h g.0) ∙ ap (λ ks. m.segment.key ∷ ks) (kept-keys ms own h g.1)
+    ap (λ k. k ∷ keys_of_segments (map (kept_segment ms) own)) (kept-key ms m h g.0)
+    ∙ ap (λ ks. m.segment.key ∷ ks) (kept-keys ms own h g.1)
 
 end-keys : (ss : List Segment) → keys_of_segments (unspaced_end ss) ≡ keys_of_segments ss
 end-keys [] = refl
@@ -140,5 +148,6 @@ ends-keys [] = refl
 ends-keys (s ∷ rest) = end-keys (record s { before = [] } ∷ rest)
 
 -- Paths spelled as their kept keys have the same keys.
-pub kept-path-keys : {S : Type 0} (ms own : List (Mention S)) → AreKeyed ms → AreKeyed own → keys_of_segments (kept_path ms own) ≡ keys_of_segments (own_path own)
+pub kept-path-keys : {S : Type 0} (ms own : List (Mention S)) → AreKeyed ms → AreKeyed own → keys_of_segments (kept_path ms own)
+    ≡ keys_of_segments (own_path own)
 kept-path-keys ms own h g = ends-keys (map (kept_segment ms) own) ∙ kept-keys ms own h g

@@ -1,11 +1,13 @@
 -- The blocks of headers, one after another: none is too late.
-use Rattle.std.proofs.Common.{◌≡◌, refl, sym, ap, subst, ℕ, zero, suc, ◌<◌, ◌≤◌, arith, Bool, true, false, List, [], ◌∷◌, ◌++◌, append_assoc, length}
+use Rattle.std.proofs.Common.{◌≡◌, refl, sym, ap, subst, ℕ, zero, suc, ◌<◌, ◌≤◌, arith, Bool, true, false, List, [], ◌∷◌, ◌++◌}
+use Rattle.std.proofs.Common.{append_assoc, length}
 use Rattle.std.specs.Prelude.{◌&&◌, ◌||◌, filter, if◌then◌else◌}
 use Rattle.std.specs.List.{AllByRecursion}
 use Rattle.std.proofs.lemmas.Bool.{ltb-true, or_from}
 use Rattle.toml_edit_model.specs.Text.{one}
 use Rattle.toml_edit_model.specs.Syntax.{Segment, Header, Statement, key_line, header}
-use Rattle.toml_edit_model.specs.Paths.{at_key, at_element, Path, same_step, same_path, to_key, to_element, elements_at, in_last, header_path, Context, block_of, arrays_with, context_after}
+use Rattle.toml_edit_model.specs.Paths.{at_key, at_element, Path, same_step, same_path, to_key, to_element, elements_at, in_last}
+use Rattle.toml_edit_model.specs.Paths.{header_path, Context, block_of, arrays_with, context_after}
 use Rattle.toml_edit_model.specs.Fits.{is_below, is_after_element}
 use Rattle.toml_edit_laws.proofs.common.Tests.{and_left, and_right, append-nil, false-by}
 use Rattle.toml_edit_laws.proofs.common.PathLaws.{same_step-is, same_path-refl}
@@ -56,36 +58,48 @@ over-key arrays p [] k h = tt
 over-key arrays p (at_key l ∷ q) k h = over-key arrays (to_key p l) q k h
 over-key arrays p (at_element n ∷ q) k h = (h.0, over-key arrays (to_element p n) q k h.1)
 
-under-element : (arrays : List Path) (p q : Path) (n : ℕ) → IsUnder arrays p q → n < elements_at arrays (p ++ q) → IsUnder arrays p (q ++ (at_element n ∷ []))
+under-element : (arrays : List Path) (p q : Path) (n : ℕ) → IsUnder arrays p q → n < elements_at arrays (p ++ q)
+    → IsUnder arrays p (q ++ (at_element n ∷ []))
 under-element arrays p [] n h g = (subst (λ r. n < elements_at arrays r) (append-nil p) g, tt)
 under-element arrays p (at_key l ∷ q) n h g =
     under-element arrays (to_key p l) q n h (subst (λ r. n < elements_at arrays r) (sym (append_assoc p (one (at_key l)) q)) g)
-under-element arrays p (at_element i ∷ q) n h g =
-    (h.0, under-element arrays (to_element p i) q n h.1 (subst (λ r. n < elements_at arrays r) (sym (append_assoc p (one (at_element i)) q)) g))
+under-element arrays p (at_element i ∷ q) n h g = (
+  h.0,
+  under-element arrays (to_element p i) q n h.1
+      (subst (λ r. n < elements_at arrays r) (sym (append_assoc p (one (at_element i)) q)) g),
+)
 
-over-element : (arrays : List Path) (p q : Path) (n : ℕ) → IsOver arrays p q → elements_at arrays (p ++ q) ≤ suc n → IsOver arrays p (q ++ (at_element n ∷ []))
+over-element : (arrays : List Path) (p q : Path) (n : ℕ) → IsOver arrays p q → elements_at arrays (p ++ q) ≤ suc n
+    → IsOver arrays p (q ++ (at_element n ∷ []))
 over-element arrays p [] n h g = (subst (λ r. elements_at arrays r ≤ suc n) (append-nil p) g, tt)
 over-element arrays p (at_key l ∷ q) n h g =
     over-element arrays (to_key p l) q n h (subst (λ r. elements_at arrays r ≤ suc n) (sym (append_assoc p (one (at_key l)) q)) g)
-over-element arrays p (at_element i ∷ q) n h g =
-    (h.0, over-element arrays (to_element p i) q n h.1 (subst (λ r. elements_at arrays r ≤ suc n) (sym (append_assoc p (one (at_element i)) q)) g))
+over-element arrays p (at_element i ∷ q) n h g = (
+  h.0,
+  over-element arrays (to_element p i) q n h.1
+      (subst (λ r. elements_at arrays r ≤ suc n) (sym (append_assoc p (one (at_element i)) q)) g),
+)
 
 ends-element : (arrays : List Path) (p q : Path) (n : ℕ) → elements_at arrays (p ++ q) ≤ n → EndsNew arrays p (q ++ (at_element n ∷ []))
 ends-element arrays p [] n g = subst (λ r. elements_at arrays r ≤ n) (append-nil p) g
-ends-element arrays p (at_key l ∷ q) n g = ends-element arrays (to_key p l) q n (subst (λ r. elements_at arrays r ≤ n) (sym (append_assoc p (one (at_key l)) q)) g)
+ends-element arrays p (at_key l ∷ q) n g =
+    ends-element arrays (to_key p l) q n (subst (λ r. elements_at arrays r ≤ n) (sym (append_assoc p (one (at_key l)) q)) g)
 ends-element arrays p (at_element i ∷ []) n g =
     subst (λ r. elements_at arrays r ≤ n) refl g
 ends-element arrays p (at_element i ∷ t ∷ q) n g =
-    ends-element arrays (to_element p i) (t ∷ q) n (subst (λ r. elements_at arrays r ≤ n) (sym (append_assoc p (one (at_element i)) (t ∷ q))) g)
+    ends-element arrays (to_element p i) (t ∷ q) n (subst (λ r. elements_at arrays r ≤ n)
+    (sym (append_assoc p (one (at_element i)) (t ∷ q))) g)
 
 -- ---- the path of a header
 
-last-numbers : (arrays : List Path) (p : Path) (n : ℕ) → elements_at arrays p ≡ n → IsUnder arrays [] p × IsOver arrays [] p → IsUnder arrays [] (in_last n p) × IsOver arrays [] (in_last n p)
+last-numbers : (arrays : List Path) (p : Path) (n : ℕ) → elements_at arrays p ≡ n → IsUnder arrays [] p × IsOver arrays [] p
+    → IsUnder arrays [] (in_last n p) × IsOver arrays [] (in_last n p)
 last-numbers arrays p zero e h = h
 last-numbers arrays p (suc n) e h =
     (under-element arrays [] p n h.0 (omega arith), over-element arrays [] p n h.1 (omega arith))
 
-path-numbers : (arrays : List Path) (p : Path) (ss : List Segment) → IsUnder arrays [] p × IsOver arrays [] p → IsUnder arrays [] (header_path arrays p ss) × IsOver arrays [] (header_path arrays p ss)
+path-numbers : (arrays : List Path) (p : Path) (ss : List Segment) → IsUnder arrays [] p × IsOver arrays [] p
+    → IsUnder arrays [] (header_path arrays p ss) × IsOver arrays [] (header_path arrays p ss)
 path-numbers arrays p [] h = h
 path-numbers arrays p (s ∷ []) h = (under-key arrays [] p s.key h.0, over-key arrays [] p s.key h.1)
 path-numbers arrays p (s ∷ r ∷ rest) h =
@@ -130,7 +144,8 @@ block-numbers c h = record { under = by_under h.is_array; over = by_over h.is_ar
     counted = ap (λ b. length (if b then p ∷ filter (same_path p) c.arrays else filter (same_path p) c.arrays)) (same_path-refl p)
 
     by_under : (b : Bool) → IsUnder (if b then p ∷ c.arrays else c.arrays) [] (if b then to_element p n else p)
-    by_under true = under-element (p ∷ c.arrays) [] p n (under-more c.arrays (p ∷ c.arrays) [] p (one-more c.arrays p) both.0) (let e : elements_at (p ∷ c.arrays) p ≡ suc n = counted in omega arith)
+    by_under true = under-element (p ∷ c.arrays) [] p n (under-more c.arrays (p ∷ c.arrays) [] p (one-more c.arrays p) both.0)
+        (let e : elements_at (p ∷ c.arrays) p ≡ suc n = counted in omega arith)
     by_under false = both.0
 
     by_over : (b : Bool) → IsOver c.arrays [] (if b then to_element p n else p)
@@ -143,13 +158,16 @@ block-numbers c h = record { under = by_under h.is_array; over = by_over h.is_ar
 
 -- ---- none is too late
 
-after-clash : (arrays more : List Path) (p q r : Path) → Grows arrays more → IsUnder arrays p q → IsOver more p r → is_after_element q r ≡ true → ⊥
+after-clash : (arrays more : List Path) (p q r : Path) → Grows arrays more → IsUnder arrays p q → IsOver more p r → is_after_element q r
+    ≡ true → ⊥
 after-clash arrays more p [] r g h o e = cc
 after-clash arrays more p (at_key k ∷ q) [] g h o e = absurd cc
 after-clash arrays more p (at_key k ∷ q) (at_element m ∷ r) g h o e = absurd cc
 after-clash arrays more p (at_key k ∷ q) (at_key l ∷ r) g h o e =
-    let same : at_key k ≡ at_key l = same_step-is (at_key k) (at_key l) (and_left (same_step (at_key k) (at_key l)) (is_after_element q r) e) in
-    after-clash arrays more (to_key p k) q r g h (subst (λ s. IsOver more (p ++ (s ∷ [])) r) (sym same) o) (and_right (same_step (at_key k) (at_key l)) (is_after_element q r) e)
+    let same : at_key k ≡ at_key l =
+    same_step-is (at_key k) (at_key l) (and_left (same_step (at_key k) (at_key l)) (is_after_element q r) e) in
+    after-clash arrays more (to_key p k) q r g h (subst (λ s. IsOver more (p ++ (s ∷ [])) r) (sym same) o)
+    (and_right (same_step (at_key k) (at_key l)) (is_after_element q r) e)
 after-clash arrays more p (at_element n ∷ []) [] g h o e = absurd cc
 after-clash arrays more p (at_element n ∷ []) (at_key l ∷ r) g h o e = absurd cc
 after-clash arrays more p (at_element n ∷ []) (at_element m ∷ r) g h o e =
@@ -161,7 +179,8 @@ after-clash arrays more p (at_element n ∷ []) (at_element m ∷ r) g h o e =
 after-clash arrays more p (at_element n ∷ s ∷ q) [] g h o e = absurd cc
 after-clash arrays more p (at_element n ∷ s ∷ q) (at_key l ∷ r) g h o e = absurd cc
 after-clash arrays more p (at_element n ∷ s ∷ q) (at_element m ∷ r) g h o e =
-    let same : at_element n ≡ at_element m = same_step-is (at_element n) (at_element m) (and_left (same_step (at_element n) (at_element m)) (is_after_element (s ∷ q) r) e) in
+    let same : at_element n ≡ at_element m =
+    same_step-is (at_element n) (at_element m) (and_left (same_step (at_element n) (at_element m)) (is_after_element (s ∷ q) r) e) in
     after-clash arrays more (to_element p n) (s ∷ q) r g h.1 (subst (λ t. IsOver more (p ++ (t ∷ [])) r) (sym same) o.1)
     (and_right (same_step (at_element n) (at_element m)) (is_after_element (s ∷ q) r) e)
 
@@ -172,16 +191,19 @@ below-clash arrays more p (at_element n ∷ q) (at_key l ∷ r) g h o e = absurd
 below-clash arrays more p (at_key k ∷ q) (at_element m ∷ r) g h o e = absurd cc
 below-clash arrays more p (at_key k ∷ q) (at_key l ∷ r) g h o e =
     let same : at_key l ≡ at_key k = same_step-is (at_key l) (at_key k) (and_left (same_step (at_key l) (at_key k)) (is_below r q) e) in
-    below-clash arrays more (to_key p k) q r g h (subst (λ s. EndsNew more (p ++ (s ∷ [])) r) same o) (and_right (same_step (at_key l) (at_key k)) (is_below r q) e)
+    below-clash arrays more (to_key p k) q r g h (subst (λ s. EndsNew more (p ++ (s ∷ [])) r) same o)
+    (and_right (same_step (at_key l) (at_key k)) (is_below r q) e)
 below-clash arrays more p (at_element n ∷ q) (at_element m ∷ []) g h o e =
-    let same : at_element m ≡ at_element n = same_step-is (at_element m) (at_element n) (and_left (same_step (at_element m) (at_element n)) (is_below [] q) e) in
+    let same : at_element m ≡ at_element n =
+    same_step-is (at_element m) (at_element n) (and_left (same_step (at_element m) (at_element n)) (is_below [] q) e) in
     let is : m ≡ n = cc in
     let a : n < elements_at arrays p = h.0 in
     let b : elements_at arrays p ≤ elements_at more p = g p in
     let c : elements_at more p ≤ m = o in
     omega arith
 below-clash arrays more p (at_element n ∷ q) (at_element m ∷ t ∷ r) g h o e =
-    let same : at_element m ≡ at_element n = same_step-is (at_element m) (at_element n) (and_left (same_step (at_element m) (at_element n)) (is_below (t ∷ r) q) e) in
+    let same : at_element m ≡ at_element n =
+    same_step-is (at_element m) (at_element n) (and_left (same_step (at_element m) (at_element n)) (is_below (t ∷ r) q) e) in
     below-clash arrays more (to_element p n) q (t ∷ r) g h.1 (subst (λ s. EndsNew more (p ++ (s ∷ [])) (t ∷ r)) same o)
     (and_right (same_step (at_element m) (at_element n)) (is_below (t ∷ r) q) e)
 
@@ -200,12 +222,14 @@ too_late e p f q = (f && is_below q p) || (e && is_after_element p q)
 abbrev pub NotLate : Chunk → Chunk → Type 0
 NotLate a b = too_late (is_element_chunk a) a.block (is_element_chunk b) b.block ≡ false
 
-not-late : (e : Bool) (b : Path) (arrays : List Path) (c : Context) (h : Header) → IsUnder arrays [] b → Grows arrays c.arrays → too_late e b h.is_array (block_of c h) ≡ false
+not-late : (e : Bool) (b : Path) (arrays : List Path) (c : Context) (h : Header) → IsUnder arrays [] b → Grows arrays c.arrays
+    → too_late e b h.is_array (block_of c h) ≡ false
 not-late e b arrays c h u g =
     let block = block-numbers c h in
     or_from (h.is_array && is_below (block_of c h) b) (e && is_after_element b (block_of c h))
     (false-by (h.is_array && is_below (block_of c h) b) (λ x.
-    below-clash arrays c.arrays [] b (block_of c h) g u (block.ends (and_left h.is_array (is_below (block_of c h) b) x)) (and_right h.is_array (is_below (block_of c h) b) x)))
+    below-clash arrays c.arrays [] b (block_of c h) g u (block.ends (and_left h.is_array (is_below (block_of c h) b) x))
+    (and_right h.is_array (is_below (block_of c h) b) x)))
     (false-by (e && is_after_element b (block_of c h)) (λ x.
     after-clash arrays c.arrays [] b (block_of c h) g u block.over (and_right e (is_after_element b (block_of c h)) x)))
 
@@ -217,7 +241,8 @@ later-chunks e b arrays c (header h end ∷ ss) u g = (
   not-late e b arrays c h u g,
   later-chunks e b arrays (context_after c (header h end)) ss u
       (λ p. let x : elements_at arrays p ≤ elements_at c.arrays p = g p in
-      let y : elements_at c.arrays p ≤ elements_at (context_after c (header h end)).arrays p = after-grows c (header h end) p in omega arith),
+      let y : elements_at c.arrays p ≤ elements_at (context_after c (header h end)).arrays p = after-grows c (header h end) p in
+      omega arith),
 )
 
 -- Headers stand one after another, none too late.

@@ -1,5 +1,6 @@
 -- The kept segments of elements in order, spelled as their kept keys, are those of the elements.
-use Rattle.std.proofs.Common.{◌≡◌, ◌⊎◌, refl, sym, ◌∙◌, ap, subst, ℕ, ◌<◌, arith, Bool, true, false, List, [], ◌∷◌, ◌++◌, Option, Some, None, inl, inr}
+use Rattle.std.proofs.Common.{◌≡◌, ◌⊎◌, refl, sym, ◌∙◌, ap, subst, ℕ, ◌<◌, arith, Bool, true, false, List, [], ◌∷◌, ◌++◌, Option, Some}
+use Rattle.std.proofs.Common.{None, inl, inr}
 use Rattle.std.specs.Prelude.{◌&&◌, ◌||◌, map, find, flat_map, option_map, unwrap_or, if◌then◌else◌}
 use Rattle.std.specs.List.{AllByRecursion, list_any}
 use Rattle.std.proofs.lemmas.Bool.{cases_Bool}
@@ -18,7 +19,8 @@ use Rattle.toml_edit_laws.proofs.common.Pairs.{AllPairs}
 use Rattle.toml_edit_laws.proofs.common.OptionSteps.{map-or}
 use Rattle.toml_edit_laws.proofs.common.Searches.{find-filter, first-filter, find-some, find-there, find-none}
 use Rattle.toml_edit_laws.proofs.normal_texts.TaggedMentions.{tagged, mentions_of_all, in-tagged, tagged-in, find-tagged, first-tagged, at}
-use Rattle.toml_edit_model.specs.Roles.{Role, dotted_role, implied_role, header_role, array_role, value_role, continued_role, is_header_role}
+use Rattle.toml_edit_model.specs.Roles.{Role, dotted_role, implied_role, header_role, array_role, value_role, continued_role}
+use Rattle.toml_edit_model.specs.Roles.{is_header_role}
 use Rattle.toml_edit_model.specs.Kept.{mentions_at, first_of_list, kept_mention, kept_segment, unspaced_ends, kept_path}
 use Rattle.toml_edit_model.specs.Settled.{own_path}
 use Rattle.std.specs.Option.{option_or}
@@ -31,13 +33,15 @@ headed p c = same_path p c.0 && is_header_role c.1
 pub kept-found : {S : Type 0} (ms : List (Mention S)) (p : Path)
     → kept_mention ms p ≡ option_or (find (λ m. headed p (core m)) ms) (find (λ m. at p (core m)) ms)
 kept-found {S = S} ms p =
-    ap (λ o. option_or o (first_of_list (mentions_at ms p))) (find-filter (λ (m : Mention S). same_path p m.path) (λ m. is_header_role m.role) ms)
+    ap (λ o. option_or o (first_of_list (mentions_at ms p)))
+    (find-filter (λ (m : Mention S). same_path p m.path) (λ m. is_header_role m.role) ms)
     ∙ ap (option_or (find (λ m. headed p (core m)) ms)) (first-filter (λ (m : Mention S). same_path p m.path) ms)
 
 -- ---- trimmed segments
 
 -- what is trimmed here is so elsewhere, if it is first and last there only where it is here
-pub trim-same : (b p : Path) (r : Role) (s : Segment) (c q : Path) (u : Role) → trim b p r s ≡ s → is_next c q ≡ is_next b p → (is_last_role u ≡ true → is_last_role r ≡ true)
+pub trim-same : (b p : Path) (r : Role) (s : Segment) (c q : Path) (u : Role) → trim b p r s ≡ s → is_next c q ≡ is_next b p
+    → (is_last_role u ≡ true → is_last_role r ≡ true)
     → trim c q u s ≡ s
 trim-same b p r s c q u h e f =
     let one : (if is_next b p then [] else s.before) ≡ s.before = ap (λ (x : Segment). x.before) h in
@@ -87,7 +91,8 @@ module _ {S X : Type 0} (line : X → Bool) (block : X → ℕ) (base : X → Pa
       → (is_last_role m.role ≡ false) × (is_last_role n.role ≡ false)
 
   abbrev pub Stays : X → X → Type 0
-  Stays x y = ((block x < block y) ⊎ ((block x ≡ block y) × (line y ≡ true))) × (line x ≡ true → line y ≡ true → block x ≡ block y → base x ≡ base y) × DontEnd x y
+  Stays x y = ((block x < block y) ⊎ ((block x ≡ block y) × (line y ≡ true)))
+      × (line x ≡ true → line y ≡ true → block x ≡ block y → base x ≡ base y) × DontEnd x y
 
   abbrev pub Precedes : (Path → ℕ) → X → X → Type 0
   Precedes r x y = (block x < block y) ⊎ ((block x ≡ block y) × (line y ≡ true) × (line x ≡ true → strict r (told x) (told y) ≡ true))
@@ -101,10 +106,12 @@ module _ {S X : Type 0} (line : X → Bool) (block : X → ℕ) (base : X → Pa
   abbrev segment_of_tag : List (Mention S) → X × Mention S → Segment
   segment_of_tag ms w = trimmed (base w.0) (kept_segment ms) w.1
 
-  find-one : {T : Type 0} (ms : List (Mention S)) (test : Core → Bool) (z : X) (ks : List (Mention S)) (us : List (X × Mention S)) (n : List (Mention T)) (ns : List (Mention T))
+  find-one : {T : Type 0} (ms : List (Mention S)) (test : Core
+      → Bool) (z : X) (ks : List (Mention S)) (us : List (X × Mention S)) (n : List (Mention T)) (ns : List (Mention T))
       → cores n ≡ cores ks → own_path n ≡ map (trimmed (base z) (kept_segment ms)) ks
       → option_map (λ m. m.segment) (find (λ m. test (core m)) ns) ≡ option_map (segment_of_tag ms) (find (λ w. test (core w.1)) us)
-      → option_map (λ m. m.segment) (find (λ m. test (core m)) (n ++ ns)) ≡ option_map (segment_of_tag ms) (find (λ w. test (core w.1)) (map (λ m. (z, m)) ks ++ us))
+      → option_map (λ m. m.segment) (find (λ m. test (core m)) (n ++ ns))
+      ≡ option_map (segment_of_tag ms) (find (λ w. test (core w.1)) (map (λ m. (z, m)) ks ++ us))
   find-one ms test z [] us [] ns a b ih = ih
   find-one ms test z [] us (i ∷ n) ns a b ih = absurd cc
   find-one ms test z (k ∷ ks) us [] ns a b ih = absurd cc
@@ -119,8 +126,10 @@ module _ {S X : Type 0} (line : X → Bool) (block : X → ℕ) (base : X → Pa
         | inr e ↦ rw (same ∙ e) (rw e (find-one ms test z ks us n ns more rest ih))
       ]
 
-  find-anew : {T : Type 0} (ms : List (Mention S)) (test : Core → Bool) (zs : List X) (ns : List (List (Mention T))) → AllByRecursion IsSpaced zs → AreAnew ms ment zs ns
-      → option_map (λ m. m.segment) (find (λ m. test (core m)) (flat_map (λ m. m) ns)) ≡ option_map (segment_of_tag ms) (find (λ w. test (core w.1)) (tagged ment zs))
+  find-anew : {T : Type 0} (ms : List (Mention S)) (test : Core → Bool) (zs : List X) (ns : List (List (Mention T)))
+      → AllByRecursion IsSpaced zs → AreAnew ms ment zs ns
+      → option_map (λ m. m.segment) (find (λ m. test (core m)) (flat_map (λ m. m) ns))
+      ≡ option_map (segment_of_tag ms) (find (λ w. test (core w.1)) (tagged ment zs))
   find-anew ms test [] [] s h = refl
   find-anew ms test [] (n ∷ ns) s h = absurd h
   find-anew ms test (z ∷ zs) [] s h = absurd h
@@ -133,18 +142,21 @@ module _ {S X : Type 0} (line : X → Bool) (block : X → ℕ) (base : X → Pa
   one-last : (r : Path → ℕ) (x y : X) → Stays x y → Precedes r y x → (line x ≡ true) × (line y ≡ true) × (base x ≡ base y)
   one-last r x y s p = by_blocks s.0 p
     where
-      by_blocks : (block x < block y) ⊎ ((block x ≡ block y) × (line y ≡ true)) → Precedes r y x → (line x ≡ true) × (line y ≡ true) × (base x ≡ base y)
+      by_blocks : (block x < block y) ⊎ ((block x ≡ block y) × (line y ≡ true)) → Precedes r y x → (line x ≡ true) × (line y ≡ true)
+          × (base x ≡ base y)
       by_blocks (inl a) (inl b) = absurd (omega arith)
       by_blocks (inl a) (inr b) = (let e : block y ≡ block x = b.0 in absurd (omega arith))
       by_blocks (inr a) (inl b) = (let e : block x ≡ block y = a.0 in absurd (omega arith))
       by_blocks (inr a) (inr b) = (b.1, a.1, s.1 b.1 a.1 a.0)
 
   -- a mention of the same path in the same element, or in another that stays
-  still-trimmed : (p : Path) (z y : X) (k j : Mention S) → IsSpaced z → Among k (ment z) → same_path p k.path ≡ true → same_path p j.path ≡ true
+  still-trimmed : (p : Path) (z y : X) (k j : Mention S) → IsSpaced z → Among k (ment z) → same_path p k.path ≡ true → same_path p j.path
+      ≡ true
       → base y ≡ base z → (is_last_role j.role ≡ true → is_last_role k.role ≡ true) → trim (base y) j.path j.role k.segment ≡ k.segment
   still-trimmed p z y k j s a e f b l =
       let is : j.path ≡ k.path = sym (same_path-is p j.path f) ∙ same_path-is p k.path e in
-      trim-same (base z) k.path k.role k.segment (base y) j.path j.role (all-among (λ m. trimmed (base z) (λ i. i.segment) m ≡ m.segment) k (ment z) s.own a)
+      trim-same (base z) k.path k.role k.segment (base y) j.path j.role (all-among (λ m. trimmed (base z) (λ i. i.segment) m
+      ≡ m.segment) k (ment z) s.own a)
       (ap (λ q. is_next (base y) q) is ∙ ap (λ c. is_next c k.path) b) l
 
   module _ (r : Path → ℕ) (test : X → X → Bool) (xs : List X) (stay : AllPairs Stays xs) (spaced : AllByRecursion IsSpaced xs)
@@ -155,7 +167,8 @@ module _ {S X : Type 0} (line : X → Bool) (block : X → ℕ) (base : X → Pa
     from-order : (w : X × Mention S) → Among w (tagged ment zs) → Among w (tagged ment xs)
     from-order w a =
         let parts = tagged-in ment zs w a in
-        in-tagged ment xs w.0 w.1 (all-among (λ x. Among x xs) w.0 zs (all-lines line block told base (λ x. []) (λ x. Among x xs) test xs (among-each xs)) parts.0) parts.1
+        in-tagged ment xs w.0 w.1 (all-among (λ x. Among x xs) w.0 zs
+        (all-lines line block told base (λ x. []) (λ x. Among x xs) test xs (among-each xs)) parts.0) parts.1
 
     to-order : (w : X × Mention S) → Among w (tagged ment xs) → Among w (tagged ment zs)
     to-order w a =
@@ -200,18 +213,21 @@ module _ {S X : Type 0} (line : X → Bool) (block : X → ℕ) (base : X → Pa
           v,
           there.1,
           ap (trim (base v.0) v.1.path v.1.role) (kept-of p w.1 v.1 g here)
-              ∙ still-trimmed p w.0 v.0 w.1 v.1 (spaced-at w found.0) (tagged-in ment xs w found.0).1 (and_left (same_path p w.1.path) (is_header_role w.1.role) found.1) here
+              ∙ still-trimmed p w.0 v.0 w.1 v.1 (spaced-at w found.0) (tagged-in ment xs w found.0).1
+              (and_left (same_path p w.1.path) (is_header_role w.1.role) found.1) here
               (header-base p v back again.1 ∙ sym (header-base p w found.0 found.1))
               (λ l. header-last w.1.role (and_right (same_path p w.1.path) (is_header_role w.1.role) found.1)),
         )
 
     -- the element names the path
-    named : (p : Path) (w : X × Mention S) → Among w.1 (ment w.0) → same_path p w.1.path ≡ true → list_any (λ m. at p (core m)) (ment w.0) ≡ true
+    named : (p : Path) (w : X × Mention S) → Among w.1 (ment w.0) → same_path p w.1.path ≡ true → list_any (λ m. at p (core m)) (ment w.0)
+        ≡ true
     named p w a h = by_list (ment w.0) a
       where
         by_list : (us : List (Mention S)) → Among w.1 us → list_any (λ m. at p (core m)) us ≡ true
         by_list [] a = elim a [ ]
-        by_list (u ∷ us) (inl e) = ap (λ b. b || list_any (λ m. at p (core m)) us) (subst (λ (m : Mention S). same_path p m.path ≡ true) e h)
+        by_list (u ∷ us) (inl e) =
+            ap (λ b. b || list_any (λ m. at p (core m)) us) (subst (λ (m : Mention S). same_path p m.path ≡ true) e h)
         by_list (u ∷ us) (inr n) = ap (λ b. same_path p u.path || b) (by_list us n) ∙ or-true (same_path p u.path)
           where
             or-true : (b : Bool) → (b || true) ≡ true
@@ -232,7 +248,8 @@ module _ {S X : Type 0} (line : X → Bool) (block : X → ℕ) (base : X → Pa
         let first = first-tagged ment p Stays xs w h stay in
         let second = first-tagged ment p (Precedes r) zs v there.1 precede in
         let one : (v.0 ≡ w.0) ⊎ Stays w.0 v.0 =
-        all-among (λ x. list_any (λ m. at p (core m)) (ment x) ≡ true → (x ≡ w.0) ⊎ Stays w.0 x) v.0 xs first.1 in_v.0 (named p v in_v.1 again.1) in
+        all-among (λ x. list_any (λ m. at p (core m)) (ment x) ≡ true → (x ≡ w.0)
+        ⊎ Stays w.0 x) v.0 xs first.1 in_v.0 (named p v in_v.1 again.1) in
         let other : (w.0 ≡ v.0) ⊎ Precedes r v.0 w.0 =
         all-among (λ x. list_any (λ m. at p (core m)) (ment x) ≡ true → (x ≡ v.0) ⊎ Precedes r v.0 x) w.0 zs second.1
         (tagged-in ment zs w (to-order w found.0)).0 (named p w in_w.1 found.1) in
@@ -249,7 +266,8 @@ module _ {S X : Type 0} (line : X → Bool) (block : X → ℕ) (base : X → Pa
                 | inl e ↦ same (sym e)
                 | inr q ↦
                     let lines = one-last r w.0 v.0 s q in
-                    let met : same_path w.1.path v.1.path ≡ true = subst (λ x. same_path x v.1.path ≡ true) (same_path-is p w.1.path found.1) again.1 in
+                    let met : same_path w.1.path v.1.path ≡ true =
+                    subst (λ x. same_path x v.1.path ≡ true) (same_path-is p w.1.path found.1) again.1 in
                     (sym lines.2, λ l. true-false (is_last_role v.1.role) l (s.2 lines.0 lines.1 w.1 v.1 in_w.1 in_v.1 met).1)
               ]
         ] in (
@@ -264,58 +282,74 @@ module _ {S X : Type 0} (line : X → Bool) (block : X → ℕ) (base : X → Pa
 
     -- The kept segment of a path is that of the elements in order, spelled anew.
     segment-kept : {T : Type 0} (ns : List (List (Mention T))) → AreAnew ms ment zs ns → (w : X × Mention S) → Among w (tagged ment zs)
-        → (s : Segment) × (option_map (λ m. m.segment) (kept_mention ms w.1.path) ≡ Some s) × (option_map (λ m. m.segment) (kept_mention (flat_map (λ m. m) ns) w.1.path) ≡ Some s)
+        → (s : Segment) × (option_map (λ m. m.segment) (kept_mention ms w.1.path) ≡ Some s)
+        × (option_map (λ m. m.segment) (kept_mention (flat_map (λ m. m) ns) w.1.path) ≡ Some s)
     segment-kept {T} ns anew w a =
         let p : Path = w.1.path in
         let new : List (Mention T) = flat_map (λ m. m) ns in
-        let old_is : kept_mention ms p ≡ option_or (option_map (λ w. w.1) (find (λ v. headed p (core v.1)) (tagged ment xs))) (option_map (λ w. w.1) (find (λ v. at p (core v.1)) (tagged ment xs))) =
+        let old_is : kept_mention ms p ≡ option_or (option_map (λ w. w.1) (find (λ v. headed p (core v.1)) (tagged ment xs)))
+        (option_map (λ w. w.1) (find (λ v. at p (core v.1)) (tagged ment xs))) =
         kept-found ms p ∙ ap (λ o. option_or o (find (λ m. at p (core m)) ms)) (find-tagged ment (headed p) xs)
         ∙ ap (option_or (option_map (λ w. w.1) (find (λ v. headed p (core v.1)) (tagged ment xs)))) (find-tagged ment (at p) xs) in
         let new_is : option_map (λ m. m.segment) (kept_mention new p)
-        ≡ option_or (option_map (segment_of_tag ms) (find (λ v. headed p (core v.1)) (tagged ment zs))) (option_map (segment_of_tag ms) (find (λ v. at p (core v.1)) (tagged ment zs))) =
+        ≡ option_or (option_map (segment_of_tag ms) (find (λ v. headed p (core v.1)) (tagged ment zs)))
+        (option_map (segment_of_tag ms) (find (λ v. at p (core v.1)) (tagged ment zs))) =
         ap (option_map (λ m. m.segment)) (kept-found new p)
         ∙ map-or (λ m. m.segment) (find (λ m. headed p (core m)) new) (find (λ m. at p (core m)) new)
-        ∙ ap (λ o. option_or o (option_map (λ m. m.segment) (find (λ m. at p (core m)) new))) (find-anew ms (headed p) zs ns spaced-lines anew)
-        ∙ ap (option_or (option_map (segment_of_tag ms) (find (λ v. headed p (core v.1)) (tagged ment zs)))) (find-anew ms (at p) zs ns spaced-lines anew) in
+        ∙ ap (λ o. option_or o (option_map (λ m. m.segment) (find (λ m. at p (core m)) new)))
+        (find-anew ms (headed p) zs ns spaced-lines anew)
+        ∙ ap (option_or (option_map (segment_of_tag ms) (find (λ v. headed p (core v.1)) (tagged ment zs))))
+        (find-anew ms (at p) zs ns spaced-lines anew) in
         by_header T p w a (same_path-refl p) new old_is new_is (find (λ v. headed p (core v.1)) (tagged ment xs)) refl
       where
-        none-there : (p : Path) → find (λ v. headed p (core v.1)) (tagged ment xs) ≡ None → (o : Option (X × Mention S)) → find (λ v. headed p (core v.1)) (tagged ment zs) ≡ o
+        none-there : (p : Path) → find (λ v. headed p (core v.1)) (tagged ment xs) ≡ None → (o : Option (X × Mention S))
+            → find (λ v. headed p (core v.1)) (tagged ment zs) ≡ o
             → find (λ v. headed p (core v.1)) (tagged ment zs) ≡ None
         none-there p h None e = e
         none-there p h (Some v) e =
             let found = find-some (λ (v : X × Mention S). headed p (core v.1)) (tagged ment zs) v e in
             absurd (find-none (λ (v : X × Mention S). headed p (core v.1)) (tagged ment xs) v h (from-order v found.0) found.1)
 
-        by_header : (T : Type 0) (p : Path) (w : X × Mention S) → Among w (tagged ment zs) → same_path p w.1.path ≡ true → (new : List (Mention T))
-            → kept_mention ms p ≡ option_or (option_map (λ w. w.1) (find (λ v. headed p (core v.1)) (tagged ment xs))) (option_map (λ w. w.1) (find (λ v. at p (core v.1)) (tagged ment xs)))
+        by_header : (T : Type 0) (p : Path) (w : X × Mention S) → Among w (tagged ment zs) → same_path p w.1.path ≡ true
+            → (new : List (Mention T))
+            → kept_mention ms p ≡ option_or (option_map (λ w. w.1) (find (λ v. headed p (core v.1)) (tagged ment xs)))
+            (option_map (λ w. w.1) (find (λ v. at p (core v.1)) (tagged ment xs)))
             → option_map (λ m. m.segment) (kept_mention new p)
-            ≡ option_or (option_map (segment_of_tag ms) (find (λ v. headed p (core v.1)) (tagged ment zs))) (option_map (segment_of_tag ms) (find (λ v. at p (core v.1)) (tagged ment zs)))
+            ≡ option_or (option_map (segment_of_tag ms) (find (λ v. headed p (core v.1)) (tagged ment zs)))
+            (option_map (segment_of_tag ms) (find (λ v. at p (core v.1)) (tagged ment zs)))
             → (o : Option (X × Mention S)) → find (λ v. headed p (core v.1)) (tagged ment xs) ≡ o
-            → (s : Segment) × (option_map (λ m. m.segment) (kept_mention ms p) ≡ Some s) × (option_map (λ m. m.segment) (kept_mention new p) ≡ Some s)
+            → (s : Segment) × (option_map (λ m. m.segment) (kept_mention ms p) ≡ Some s)
+            × (option_map (λ m. m.segment) (kept_mention new p) ≡ Some s)
         by_header T p w a here new old_is new_is (Some v) e =
             let old : kept_mention ms p ≡ Some v.1 =
-            old_is ∙ ap (λ o. option_or (option_map (λ (w : X × Mention S). w.1) o) (option_map (λ w. w.1) (find (λ v. at p (core v.1)) (tagged ment xs)))) e in
+            old_is ∙ ap (λ o. option_or (option_map (λ (w : X × Mention S). w.1) o)
+            (option_map (λ w. w.1) (find (λ v. at p (core v.1)) (tagged ment xs)))) e in
             let found = by-header p v e old in (
               v.1.segment,
               ap (option_map (λ (m : Mention S). m.segment)) old,
-              new_is ∙ ap (λ o. option_or (option_map (segment_of_tag ms) o) (option_map (segment_of_tag ms) (find (λ v. at p (core v.1)) (tagged ment zs)))) found.1 ∙ ap Some found.2,
+              new_is ∙ ap (λ o. option_or (option_map (segment_of_tag ms) o)
+                  (option_map (segment_of_tag ms) (find (λ v. at p (core v.1)) (tagged ment zs)))) found.1 ∙ ap Some found.2,
             )
         by_header T p w a here new old_is new_is None e =
             let first = find-there (λ (v : X × Mention S). at p (core v.1)) (tagged ment xs) w (from-order w a) here in
             let v : X × Mention S = first.0 in
             let old : kept_mention ms p ≡ Some v.1 =
-            old_is ∙ ap (λ o. option_or (option_map (λ (w : X × Mention S). w.1) o) (option_map (λ w. w.1) (find (λ v. at p (core v.1)) (tagged ment xs)))) e
+            old_is ∙ ap (λ o. option_or (option_map (λ (w : X × Mention S). w.1) o)
+            (option_map (λ w. w.1) (find (λ v. at p (core v.1)) (tagged ment xs)))) e
             ∙ ap (option_map (λ (w : X × Mention S). w.1)) first.1 in
             let found = by-first p v first.1 old in
             let none = none-there p e (find (λ v. headed p (core v.1)) (tagged ment zs)) refl in (
               v.1.segment,
               ap (option_map (λ (m : Mention S). m.segment)) old,
-              new_is ∙ ap (λ o. option_or (option_map (segment_of_tag ms) o) (option_map (segment_of_tag ms) (find (λ v. at p (core v.1)) (tagged ment zs)))) none
+              new_is ∙ ap (λ o. option_or (option_map (segment_of_tag ms) o)
+                  (option_map (segment_of_tag ms) (find (λ v. at p (core v.1)) (tagged ment zs)))) none
                   ∙ ap (option_map (segment_of_tag ms)) found.1 ∙ ap Some found.2,
             )
 
-    segments-kept : {T : Type 0} (ns : List (List (Mention T))) → AreAnew ms ment zs ns → (z : X) (ks : List (Mention S)) (n : List (Mention T)) → Among z zs
-        → AllByRecursion (λ k. Among k (ment z)) ks → cores n ≡ cores ks → map (kept_segment (flat_map (λ m. m) ns)) n ≡ map (kept_segment ms) ks
+    segments-kept : {T : Type 0} (ns : List (List (Mention T))) → AreAnew ms ment zs ns
+        → (z : X) (ks : List (Mention S)) (n : List (Mention T)) → Among z zs
+        → AllByRecursion (λ k. Among k (ment z)) ks → cores n ≡ cores ks → map (kept_segment (flat_map (λ m. m) ns)) n
+        ≡ map (kept_segment ms) ks
     segments-kept ns anew z [] [] a h e = refl
     segments-kept ns anew z [] (i ∷ n) a h e = absurd cc
     segments-kept ns anew z (k ∷ ks) [] a h e = absurd cc
@@ -336,7 +370,8 @@ module _ {S X : Type 0} (line : X → Bool) (block : X → ℕ) (base : X → Pa
         → cores n ≡ cores (ment z) → own_path n ≡ kept_path ms (ment z) → own_path n ≡ kept_path (flat_map (λ m. m) ns) n
     anew-kept ns anew z n a e f = f ∙ sym (ap unspaced_ends (segments-kept ns anew z (ment z) n a (among-each (ment z)) e))
 
-    pub anew-all : {T : Type 0} (ns : List (List (Mention T))) → AreAnew ms ment zs ns → AllByRecursion (λ n. own_path n ≡ kept_path (flat_map (λ m. m) ns) n) ns
+    pub anew-all : {T : Type 0} (ns : List (List (Mention T))) → AreAnew ms ment zs ns
+        → AllByRecursion (λ n. own_path n ≡ kept_path (flat_map (λ m. m) ns) n) ns
     anew-all {T} ns anew = each zs ns (among-each zs) anew
       where
         each : (us : List X) (vs : List (List (Mention T))) → AllByRecursion (λ z. Among z zs) us → AreAnew ms ment us vs

@@ -4,7 +4,8 @@ use Rattle.std.specs.Prelude.{◌==◌, ◌&&◌, ◌||◌, not, map, flat_map, 
 use Rattle.std.specs.List.{AllByRecursion}
 use Rattle.toml_edit_model.specs.Text.{Text, carriage_return, hash, has_byte, is_empty, without_returns}
 use Rattle.toml_edit_model.specs.Mode.{Mode, plain, exact, shown_text}
-use Rattle.toml_edit_model.specs.Trivia.{Newline, lf, crlf, newline_text, comment, Piece, blank, break, remark, piece_text, IsPiece, IsWholeTrivia, IsLineEnd, IsFinalTrivia}
+use Rattle.toml_edit_model.specs.Trivia.{Newline, lf, crlf, newline_text, comment, Piece, blank, break, remark, piece_text, IsPiece}
+use Rattle.toml_edit_model.specs.Trivia.{IsWholeTrivia, IsLineEnd, IsFinalTrivia}
 use Rattle.toml_edit_model.specs.Syntax.{Segment, IsSpacedSegment, IsSpelledSegment, begins_unspaced, ends_unspaced, IsPath}
 use Rattle.toml_edit_model.specs.Paths.{Mention}
 use Rattle.toml_edit_laws.proofs.common.WhiteSpace.{white-returns}
@@ -103,14 +104,16 @@ AreRightSegments ss = AllByRecursion IsRightSegment ss
 abbrev pub AreRightMentions : {S : Type 0} → List (Mention S) → Type 0
 AreRightMentions ms = AllByRecursion (λ m. IsRightSegment m.segment) ms
 
-kept-right : {S : Type 0} (ms : List (Mention S)) (m : Mention S) → AreRightMentions ms → IsRightSegment m.segment → IsRightSegment (kept_segment ms m)
+kept-right : {S : Type 0} (ms : List (Mention S)) (m : Mention S) → AreRightMentions ms → IsRightSegment m.segment
+    → IsRightSegment (kept_segment ms m)
 kept-right {S = S} ms m h g = by_kept (kept_mention ms m.path) refl
   where
     by_kept : (o : Option (Mention S)) → kept_mention ms m.path ≡ o → IsRightSegment (unwrap_or (option_map (λ k. k.segment) o) m.segment)
     by_kept None e = g
     by_kept (Some k) e = (kept-holds (λ n. IsRightSegment n.segment) ms m.path k h e).0
 
-kept-rights : {S : Type 0} (ms own : List (Mention S)) → AreRightMentions ms → AreRightMentions own → AreRightSegments (map (kept_segment ms) own)
+kept-rights : {S : Type 0} (ms own : List (Mention S)) → AreRightMentions ms → AreRightMentions own
+    → AreRightSegments (map (kept_segment ms) own)
 kept-rights ms [] h g = tt
 kept-rights ms (m ∷ own) h g = (kept-right ms m h g.0, kept-rights ms own h g.1)
 

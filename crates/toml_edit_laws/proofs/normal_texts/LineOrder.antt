@@ -10,7 +10,8 @@ use Rattle.toml_edit_laws.proofs.common.PathLaws.{same_path-is, is_front, front-
 use Rattle.toml_edit_laws.proofs.common.OrderLaws.{passes_first, place-first, first-map, passes-back, first-of, goes-first}
 use Rattle.toml_edit_laws.proofs.common.Members.{Among, all-among, among-each}
 use Rattle.toml_edit_laws.proofs.normal_texts.Agreeing.{pairs-insert}
-use Rattle.toml_edit_laws.proofs.normal_texts.LinePaths.{line_paths, names, part_keys, strict, stands, strict-not-back, strict-through, strict-stands, stands-back, stands-kept, parts-there}
+use Rattle.toml_edit_laws.proofs.normal_texts.LinePaths.{line_paths, names, part_keys, strict, stands, strict-not-back, strict-through}
+use Rattle.toml_edit_laws.proofs.normal_texts.LinePaths.{strict-stands, stands-back, stands-kept, parts-there}
 use Rattle.toml_edit_laws.proofs.common.Each.{all-insert, all-both, all-map}
 use Rattle.toml_edit_laws.proofs.common.Pairs.{AllPairs, pairs-of}
 use Rattle.toml_edit_model.specs.Order.{insert_by, is_sorted_by}
@@ -50,7 +51,8 @@ module _ {X : Type 0} (line : X → Bool) (block : X → ℕ) (told : X → List
   abbrev Parted : (Path → ℕ) → X → X → Type 0
   Parted r x y =
       line x ≡ true → line y ≡ true → block x ≡ block y
-      → (stands r (told x) (told y) ≡ true → strict r (told x) (told y) ≡ true) × (stands r (told x) (told y) ≡ false → strict r (told y) (told x) ≡ true)
+      → (stands r (told x) (told y) ≡ true → strict r (told x) (told y) ≡ true)
+      × (stands r (told x) (told y) ≡ false → strict r (told y) (told x) ≡ true)
 
   -- the first is a line of this block, if a line
   abbrev pub BeginsIn : ℕ → List X → Type 0
@@ -64,7 +66,8 @@ module _ {X : Type 0} (line : X → Bool) (block : X → ℕ) (told : X → List
 
   -- ---- ranks
 
-  less-is : (xs : List X) (p q : Path) → nat_lt (ranked xs p) (ranked xs q) ≡ passes_first (λ x. names p (told x)) (λ x. names q (told x)) xs
+  less-is : (xs : List X) (p q : Path) → nat_lt (ranked xs p) (ranked xs q)
+      ≡ passes_first (λ x. names p (told x)) (λ x. names q (told x)) xs
   less-is xs p q = place-first (names p) (names q) (map told xs) ∙ first-map told (names p) (names q) xs
 
   along-named : (q p : Path) (ps : List Path) → AllByRecursion (λ r. is_front r p ≡ true) ps → names q ps ≡ true → is_front q p ≡ true
@@ -75,10 +78,12 @@ module _ {X : Type 0} (line : X → Bool) (block : X → ℕ) (told : X → List
         | inr e ↦ along-named q p ps h.1 (let f : names q ps ≡ true = rw e at g in f)
       ]
 
-  not-both : (q : Path) (k l : Text) → same_text k l ≡ false → (x : X) → IsAlong x → (names (to_key q k) (told x) && names (to_key q l) (told x)) ≡ false
+  not-both : (q : Path) (k l : Text) → same_text k l ≡ false → (x : X) → IsAlong x
+      → (names (to_key q k) (told x) && names (to_key q l) (told x)) ≡ false
   not-both q k l apart x h =
       by_tests (names (to_key q k) (told x)) (names (to_key q l) (told x))
-      (λ a b. true-false (same_text k l) (front-keys q h.0 k l (along-named (to_key q k) h.0 (told x) h.1 a) (along-named (to_key q l) h.0 (told x) h.1 b)) apart)
+      (λ a b. true-false (same_text k l) (front-keys q h.0 k l (along-named (to_key q k) h.0 (told x) h.1 a)
+      (along-named (to_key q l) h.0 (told x) h.1 b)) apart)
     where
       by_tests : (a b : Bool) → (a ≡ true → b ≡ true → ⊥) → (a && b) ≡ false
       by_tests true true f = absurd (f refl refl)
@@ -92,11 +97,13 @@ module _ {X : Type 0} (line : X → Bool) (block : X → ℕ) (told : X → List
       each x y a b s p q e =
           let both = s p q e in
           let tx : told x ≡ line_paths (base x) (keys_at x) = all-among IsLined x xs h a p in
-          let ty : told y ≡ line_paths (base x) (keys_at y) = all-among IsLined y xs h b q ∙ ap (λ c. line_paths c (keys_at y)) (sym both.0) in (
+          let ty : told y ≡ line_paths (base x) (keys_at y) = all-among IsLined y xs h b q
+          ∙ ap (λ c. line_paths c (keys_at y)) (sym both.0) in (
             λ is.
                 ap (λ t. strict (ranked xs) t (told y)) tx ∙ ap (strict (ranked xs) (line_paths (base x) (keys_at x))) ty
                 ∙ strict-stands (ranked xs) (base x) (keys_at x) (keys_at y) both.1
-                ∙ ap (stands (ranked xs) (line_paths (base x) (keys_at x))) (sym ty) ∙ ap (λ t. stands (ranked xs) t (told y)) (sym tx) ∙ is,
+                ∙ ap (stands (ranked xs) (line_paths (base x) (keys_at x))) (sym ty) ∙ ap (λ t. stands (ranked xs) t (told y)) (sym tx)
+                ∙ is,
             λ is.
                 ap (λ t. strict (ranked xs) t (told x)) ty ∙ ap (strict (ranked xs) (line_paths (base x) (keys_at y))) tx
                 ∙ stands-back (ranked xs) (base x) (keys_at x) (keys_at y)
@@ -105,7 +112,8 @@ module _ {X : Type 0} (line : X → Bool) (block : X → ℕ) (told : X → List
                 ∙ passes-back (λ z. names (to_key t i) (told z)) (λ z. names (to_key t j) (told z)) xs y
                 (all-map IsAlong (λ z. (names (to_key t i) (told z) && names (to_key t j) (told z)) ≡ false) xs (not-both t i j apart) g) b
                 (ap (names (to_key t j)) ty ∙ d) (sym (less-is xs (to_key t i) (to_key t j)) ∙ less))
-                (ap (stands (ranked xs) (line_paths (base x) (keys_at x))) (sym ty) ∙ ap (λ t. stands (ranked xs) t (told y)) (sym tx) ∙ is),
+                (ap (stands (ranked xs) (line_paths (base x) (keys_at x))) (sym ty) ∙ ap (λ t. stands (ranked xs) t (told y)) (sym tx)
+                ∙ is),
           )
 
   -- ---- in order
@@ -126,22 +134,29 @@ module _ {X : Type 0} (line : X → Bool) (block : X → ℕ) (told : X → List
   abbrev pub IsTest : (X → X → Bool) → (Path → ℕ) → Type 0
   IsTest test r = (x y : X) → test x y ≡ (not (line y) || stands r (told x) (told y))
 
-  begins-insert : (n : ℕ) (test : X → X → Bool) (x : X) (ys : List X) → (line x ≡ true → block x ≡ n) → BeginsIn n ys → BeginsIn n (insert_by test x ys)
+  begins-insert : (n : ℕ) (test : X → X → Bool) (x : X) (ys : List X) → (line x ≡ true → block x ≡ n) → BeginsIn n ys
+      → BeginsIn n (insert_by test x ys)
   begins-insert n test x [] h g = h
   begins-insert n test x (y ∷ ys) h g = elim (cases_Bool (test x y)) [ inl e ↦ rw e h | inr e ↦ rw e g ]
 
-  line-by-test : (test : X → X → Bool) (r : Path → ℕ) → IsTest test r → (x y : X) → test x y ≡ false → (line y ≡ true) × (stands r (told x) (told y) ≡ false)
+  line-by-test : (test : X → X → Bool) (r : Path → ℕ) → IsTest test r → (x y : X) → test x y ≡ false → (line y ≡ true)
+      × (stands r (told x) (told y) ≡ false)
   line-by-test test r t x y h = by_tests (line y) (stands r (told x) (told y)) refl refl (sym (t x y) ∙ h)
     where
-      by_tests : (a b : Bool) → line y ≡ a → stands r (told x) (told y) ≡ b → (not a || b) ≡ false → (line y ≡ true) × (stands r (told x) (told y) ≡ false)
+      by_tests : (a b : Bool) → line y ≡ a → stands r (told x) (told y) ≡ b → (not a || b) ≡ false → (line y ≡ true)
+          × (stands r (told x) (told y) ≡ false)
       by_tests true true p q e = absurd cc
       by_tests true false p q e = (p, q)
       by_tests false b p q e = absurd cc
 
-  test-stands : (test : X → X → Bool) (r : Path → ℕ) → IsTest test r → (x y : X) → test x y ≡ true → line y ≡ true → stands r (told x) (told y) ≡ true
-  test-stands test r t x y h e = (let g : (not true || stands r (told x) (told y)) ≡ true = ap (λ b. not b || stands r (told x) (told y)) (sym e) ∙ sym (t x y) ∙ h in g)
+  test-stands : (test : X → X → Bool) (r : Path → ℕ) → IsTest test r → (x y : X) → test x y ≡ true → line y ≡ true
+      → stands r (told x) (told y) ≡ true
+  test-stands test r t x y h e =
+      (let g : (not true || stands r (told x) (told y)) ≡ true = ap (λ b. not b || stands r (told x) (told y)) (sym e) ∙ sym (t x y) ∙ h in
+      g)
 
-  insert-stepped : (test : X → X → Bool) (r : Path → ℕ) → IsTest test r → (x : X) (ys : List X) → line x ≡ true → BeginsIn (block x) ys → AreStepped ys → AreStepped (insert_by test x ys)
+  insert-stepped : (test : X → X → Bool) (r : Path → ℕ) → IsTest test r → (x : X) (ys : List X) → line x ≡ true → BeginsIn (block x) ys
+      → AreStepped ys → AreStepped (insert_by test x ys)
   insert-stepped test r t x [] l b h = (tt, tt)
   insert-stepped test r t x (y ∷ ys) l b h =
       elim (cases_Bool (test x y)) [
@@ -155,7 +170,8 @@ module _ {X : Type 0} (line : X → Bool) (block : X → ℕ) (told : X → List
             )
       ]
 
-  insert-before : (test : X → X → Bool) (r : Path → ℕ) → IsTest test r → (x : X) (ys : List X) → line x ≡ true → BeginsIn (block x) ys → AreStepped ys
+  insert-before : (test : X → X → Bool) (r : Path → ℕ) → IsTest test r → (x : X) (ys : List X) → line x ≡ true → BeginsIn (block x) ys
+      → AreStepped ys
       → AllByRecursion (Follows x) ys → AllByRecursion (Parted r x) ys → AllPairs (Before r) ys → AllPairs (Before r) (insert_by test x ys)
   insert-before test r t x [] l b s f p h = (tt, tt)
   insert-before test r t x (y ∷ ys) l b s f p h =
@@ -188,19 +204,23 @@ module _ {X : Type 0} (line : X → Bool) (block : X → ℕ) (told : X → List
   begins-lines n test [] b s = tt
   begins-lines n test (x ∷ xs) b s =
       elim (cases_Bool (line x)) [
-        | inl e ↦ rw e (begins-insert n test x (lines_ordered line test xs) b (begins-lines n test xs (subst (λ m. BeginsIn m xs) (b e) s.0) s.1))
+        | inl e ↦ rw e (begins-insert n test x (lines_ordered line test xs) b
+            (begins-lines n test xs (subst (λ m. BeginsIn m xs) (b e) s.0) s.1))
         | inr e ↦ rw e b
       ]
 
-  pub lines-stepped : (test : X → X → Bool) (r : Path → ℕ) → IsTest test r → (xs : List X) → AreStepped xs → AreStepped (lines_ordered line test xs)
+  pub lines-stepped : (test : X → X → Bool) (r : Path → ℕ) → IsTest test r → (xs : List X) → AreStepped xs
+      → AreStepped (lines_ordered line test xs)
   lines-stepped test r t [] s = tt
   lines-stepped test r t (x ∷ xs) s =
       elim (cases_Bool (line x)) [
-        | inl e ↦ rw e (insert-stepped test r t x (lines_ordered line test xs) e (begins-lines (block x) test xs s.0 s.1) (lines-stepped test r t xs s.1))
+        | inl e ↦ rw e (insert-stepped test r t x (lines_ordered line test xs) e (begins-lines (block x) test xs s.0 s.1)
+            (lines-stepped test r t xs s.1))
         | inr e ↦ rw e (begins-lines (block x) test xs s.0 s.1, lines-stepped test r t xs s.1)
       ]
 
-  lines-before : (test : X → X → Bool) (r : Path → ℕ) → IsTest test r → (xs : List X) → AreStepped xs → AllPairs Follows xs → AllPairs (Parted r) xs
+  lines-before : (test : X → X → Bool) (r : Path → ℕ) → IsTest test r → (xs : List X) → AreStepped xs → AllPairs Follows xs
+      → AllPairs (Parted r) xs
       → AllPairs (Before r) (lines_ordered line test xs)
   lines-before test r t [] s f p = tt
   lines-before test r t (x ∷ xs) s f p =
@@ -236,7 +256,11 @@ module _ {X : Type 0} (line : X → Bool) (block : X → ℕ) (told : X → List
   among-lines test u [] m = m
   among-lines test u (x ∷ xs) m =
       elim (cases_Bool (line x)) [
-        | inl e ↦ rw e (among-insert test x u (lines_ordered line test xs) (elim m [ inl a ↦ inl a | inr a ↦ inr (among-lines test u xs a) ]))
+        | inl e ↦ rw e (among-insert test x u (lines_ordered line test xs) (elim m [
+          | inl a ↦ inl a
+          | inr a ↦
+              inr (among-lines test u xs a)
+        ]))
         | inr e ↦ rw e (elim m [ inl a ↦ inl a | inr a ↦ inr (among-lines test u xs a) ])
       ]
 
@@ -249,11 +273,13 @@ module _ {X : Type 0} (line : X → Bool) (block : X → ℕ) (told : X → List
     pub along : AllByRecursion IsAlong xs
     pub shares : AllPairs Shares xs
 
-  pub in-order : (test : X → X → Bool) (xs : List X) → IsTest test (ranked xs) → IsText xs → AllPairs (Before (ranked xs)) (lines_ordered line test xs)
+  pub in-order : (test : X → X → Bool) (xs : List X) → IsTest test (ranked xs) → IsText xs
+      → AllPairs (Before (ranked xs)) (lines_ordered line test xs)
   in-order test xs t h = lines-before test (ranked xs) t xs h.stepped h.follow (parted xs h.lined h.along h.shares)
 
   -- Of two keys below one path, that with the lesser rank has the lesser one among the elements in order.
-  pub rank-kept : (test : X → X → Bool) (xs : List X) → IsTest test (ranked xs) → IsText xs → (q : Path) (k l : Text) → same_text k l ≡ false
+  pub rank-kept : (test : X → X → Bool) (xs : List X) → IsTest test (ranked xs) → IsText xs → (q : Path) (k l : Text) → same_text k l
+      ≡ false
       → nat_lt (ranked xs (to_key q k)) (ranked xs (to_key q l)) ≡ true
       → nat_lt (ranked (lines_ordered line test xs) (to_key q k)) (ranked (lines_ordered line test xs) (to_key q l)) ≡ true
   rank-kept test xs t h q k l apart less =
@@ -261,7 +287,8 @@ module _ {X : Type 0} (line : X → Bool) (block : X → ℕ) (told : X → List
       let zs : List X = lines_ordered line test xs in
       let one : X → Bool = λ x. names (to_key q k) (told x) in
       let other : X → Bool = λ x. names (to_key q l) (told x) in
-      let first = first-of one other (λ x y. Follows x y × Shares x y) xs (sym (less-is xs (to_key q k) (to_key q l)) ∙ less) (pairs-both xs h.follow h.shares) in
+      let first = first-of one other (λ x y. Follows x y × Shares x y) xs (sym (less-is xs (to_key q k) (to_key q l))
+      ∙ less) (pairs-both xs h.follow h.shares) in
       let u : X = first.0 in
       let each : (w : X) → IsLined w × (other w ≡ true → Follows u w × Shares u w) → other w ≡ true → Before r u w =
       λ w g e.
@@ -277,7 +304,8 @@ module _ {X : Type 0} (line : X → Bool) (block : X → ℕ) (told : X → List
                   let tu : told u ≡ line_paths (base u) (keys_at u) = all-among IsLined u xs h.lined first.1 l_u in
                   let tw : told w ≡ line_paths (base u) (keys_at w) = g.0 a.1 ∙ ap (λ c. line_paths c (keys_at w)) (sym shared.0) in
                   ap (λ p. strict r p (told w)) tu ∙ ap (strict r (line_paths (base u) (keys_at u))) tw
-                  ∙ parts-there r (base u) q k l (keys_at u) (keys_at w) apart (ap (names (to_key q k)) (sym tu) ∙ first.2) (ap (names (to_key q l)) (sym tw) ∙ e)
+                  ∙ parts-there r (base u) q k l (keys_at u) (keys_at w) apart (ap (names (to_key q k)) (sym tu)
+                  ∙ first.2) (ap (names (to_key q l)) (sym tw) ∙ e)
                   ∙ less,
             )
       ] in
@@ -309,14 +337,16 @@ module _ {X : Type 0} (line : X → Bool) (block : X → ℕ) (told : X → List
       back (y ∷ ys) = (λ f g p q e. sym (g q p (sym e)), back ys)
 
   pub base-shared : (test : X → X → Bool) (xs : List X) → IsText xs → AllPairs SharesBase (lines_ordered line test xs)
-  base-shared test xs h = shares-base test xs (pairs-of (λ x. Unit {0}) Shares SharesBase xs (λ x y a b g p q e. (g p q e).0) (each xs) h.shares)
+  base-shared test xs h =
+      shares-base test xs (pairs-of (λ x. Unit {0}) Shares SharesBase xs (λ x y a b g p q e. (g p q e).0) (each xs) h.shares)
     where
       each : (ys : List X) → AllByRecursion (λ x. Unit {0}) ys
       each [] = tt
       each (y ∷ ys) = (tt, each ys)
 
   sorted-from : (r u : Path → ℕ) (test next : X → X → Bool) → IsTest next u
-      → ((q : Path) (k l : Text) → same_text k l ≡ false → nat_lt (r (to_key q k)) (r (to_key q l)) ≡ true → nat_lt (u (to_key q k)) (u (to_key q l)) ≡ true)
+      → ((q : Path) (k l : Text) → same_text k l ≡ false → nat_lt (r (to_key q k)) (r (to_key q l)) ≡ true
+      → nat_lt (u (to_key q k)) (u (to_key q l)) ≡ true)
       → (zs : List X) → AreStepped zs → AllByRecursion IsLined zs → AllPairs SharesBase zs → AllPairs (Before r) zs
       → is_sorted_by (λ x y. not (line x) || next x y) zs ≡ true
   sorted-from r u test next t f [] s h g k = refl
@@ -327,7 +357,8 @@ module _ {X : Type 0} (line : X → Bool) (block : X → ℕ) (told : X → List
     where
       by_tests : (a : Bool) → line x ≡ a → (b : Bool) → line y ≡ b → (not (line x) || next x y) ≡ true
       by_tests false p b q = rw p refl
-      by_tests true p false q = ap (λ c. not (line x) || c) (t x y ∙ ap (λ c. not c || stands u (told x) (told y)) q) ∙ or-true (not (line x))
+      by_tests true p false q = ap (λ c. not (line x) || c) (t x y ∙ ap (λ c. not c || stands u (told x) (told y)) q)
+          ∙ or-true (not (line x))
         where
           or-true : (c : Bool) → (c || true) ≡ true
           or-true true = refl
@@ -346,7 +377,8 @@ module _ {X : Type 0} (line : X → Bool) (block : X → ℕ) (told : X → List
           ap (λ c. not c || next x y) p ∙ t x y ∙ ap (λ c. not c || stands u (told x) (told y)) q ∙ stand
 
   -- The elements in order are in order by their own ranks.
-  pub sorted-anew : (test next : X → X → Bool) (xs : List X) → IsTest test (ranked xs) → IsTest next (ranked (lines_ordered line test xs)) → IsText xs
+  pub sorted-anew : (test next : X → X → Bool) (xs : List X) → IsTest test (ranked xs) → IsTest next (ranked (lines_ordered line test xs))
+      → IsText xs
       → is_sorted_by (λ x y. not (line x) || next x y) (lines_ordered line test xs) ≡ true
   sorted-anew test next xs t u h =
       sorted-from (ranked xs) (ranked (lines_ordered line test xs)) test next u (rank-kept test xs t h) (lines_ordered line test xs)

@@ -1,5 +1,6 @@
 -- Lines by the paths that they mention: how they part, and a strict order of them by ranks.
-use Rattle.std.proofs.Common.{◌≡◌, refl, sym, ◌∙◌, ap, subst, ℕ, suc, ◌+◌, ◌<◌, ◌≤◌, arith, Bool, true, false, List, [], ◌∷◌, ◌++◌, length, inl, inr}
+use Rattle.std.proofs.Common.{◌≡◌, refl, sym, ◌∙◌, ap, subst, ℕ, suc, ◌+◌, ◌<◌, ◌≤◌, arith, Bool, true, false, List, [], ◌∷◌, ◌++◌, length}
+use Rattle.std.proofs.Common.{inl, inr}
 use Rattle.std.specs.Prelude.{◌||◌, nat_lt, if◌then◌else◌}
 use Rattle.std.specs.List.{list_any}
 use Rattle.std.proofs.lemmas.Bool.{cases_Bool, or_cases, ltb-true, lt-ltb}
@@ -7,7 +8,8 @@ use Rattle.std.proofs.lemmas.List.{length-append}
 use Rattle.toml_edit_model.specs.Text.{Text, same_text, one}
 use Rattle.toml_edit_model.specs.Paths.{Step, at_key, Path, same_step, same_path, to_key}
 use Rattle.toml_edit_laws.proofs.common.Tests.{and_left, and_right, false-by, same_text-is}
-use Rattle.toml_edit_laws.proofs.common.PathLaws.{same_path-is, same_path-refl, same_path-swap, same_path-key, is_front, front-more, front-through, front-keys}
+use Rattle.toml_edit_laws.proofs.common.PathLaws.{same_path-is, same_path-refl, same_path-swap, same_path-key, is_front, front-more}
+use Rattle.toml_edit_laws.proofs.common.PathLaws.{front-through, front-keys}
 
 -- ---- paths
 
@@ -47,8 +49,10 @@ named-below b q (k ∷ ks) h =
     elim (or_cases (same_path q (to_key b k)) (names q (line_paths (to_key b k) ks)) h) [
       | inl e ↦
           let is : q ≡ to_key b k = same_path-is q (to_key b k) e in
-          let long : length (to_key b k) ≡ length b + 1 = key-length b k in
-          (subst (λ r. is_front b r ≡ true) (sym is) (front-more b (one (at_key k))), subst (λ r. length b < length r) (sym is) (omega arith))
+          let long : length (to_key b k) ≡ length b + 1 = key-length b k in (
+            subst (λ r. is_front b r ≡ true) (sym is) (front-more b (one (at_key k))),
+            subst (λ r. length b < length r) (sym is) (omega arith),
+          )
       | inr e ↦
           let rest = named-below (to_key b k) q ks e in
           let deep : length (to_key b k) < length q = rest.1 in
@@ -62,7 +66,8 @@ front-drop [] q s h g = refl
 front-drop (t ∷ p) [] s h g = absurd (let bad : suc (length p) ≤ 0 = g in omega arith)
 front-drop (t ∷ p) (u ∷ q) s h g =
     rw (and_left (same_step t u) (is_front p (q ++ (s ∷ []))) h)
-    (front-drop p q s (and_right (same_step t u) (is_front p (q ++ (s ∷ []))) h) (let less : suc (length p) ≤ suc (length q) = g in omega arith))
+    (front-drop p q s (and_right (same_step t u) (is_front p (q ++ (s ∷ []))) h) (let less : suc (length p) ≤ suc (length q) = g in
+    omega arith))
 
 front-below : (b q : Path) (k : Text) (ks : List Text) → names (to_key q k) (line_paths b ks) ≡ true → is_front b q ≡ true
 front-below b q k ks h =
@@ -134,7 +139,8 @@ strict-through r (p ∷ ps) (q ∷ qs) (o ∷ os) h g =
 
 -- ---- lines that part
 
-pub strict-stands : (r : Path → ℕ) (b : Path) (ks ls : List Text) → part_keys ks ls ≡ true → strict r (line_paths b ks) (line_paths b ls) ≡ stands r (line_paths b ks) (line_paths b ls)
+pub strict-stands : (r : Path → ℕ) (b : Path) (ks ls : List Text) → part_keys ks ls ≡ true → strict r (line_paths b ks) (line_paths b ls)
+    ≡ stands r (line_paths b ks) (line_paths b ls)
 strict-stands r b [] ls h = absurd cc
 strict-stands r b (k ∷ ks) [] h = absurd cc
 strict-stands r b (k ∷ ks) (l ∷ ls) h =
@@ -142,14 +148,16 @@ strict-stands r b (k ∷ ks) (l ∷ ls) h =
       | inl e ↦
           let rest : part_keys ks ls ≡ true = rw e at h in
           rw (same_path-key b k l ∙ e)
-          (subst (λ m. strict r (line_paths (to_key b k) ks) (line_paths (to_key b m) ls) ≡ stands r (line_paths (to_key b k) ks) (line_paths (to_key b m) ls)) (same_text-is k l e)
+          (subst (λ m. strict r (line_paths (to_key b k) ks) (line_paths (to_key b m) ls)
+          ≡ stands r (line_paths (to_key b k) ks) (line_paths (to_key b m) ls)) (same_text-is k l e)
           (strict-stands r (to_key b k) ks ls rest))
       | inr e ↦ rw (same_path-key b k l ∙ e) refl
     ]
 
 -- Where the first of two lines doesn't stand before the second, the second does: by what holds where they part.
 pub stands-back : (r : Path → ℕ) (b : Path) (ks ls : List Text)
-    → ((q : Path) (k l : Text) → same_text k l ≡ false → names (to_key q k) (line_paths b ks) ≡ true → names (to_key q l) (line_paths b ls) ≡ true
+    → ((q : Path) (k l : Text) → same_text k l ≡ false → names (to_key q k) (line_paths b ks) ≡ true → names (to_key q l) (line_paths b ls)
+    ≡ true
     → nat_lt (r (to_key q k)) (r (to_key q l)) ≡ false → nat_lt (r (to_key q l)) (r (to_key q k)) ≡ true)
     → stands r (line_paths b ks) (line_paths b ls) ≡ false → strict r (line_paths b ls) (line_paths b ks) ≡ true
 stands-back r b [] ls f h = absurd cc
@@ -182,7 +190,8 @@ stands-back r b (k ∷ ks) (l ∷ ls) f h =
 
 -- The order of lines in one ranking is that in another which keeps the order of keys below one path.
 pub stands-kept : (r u : Path → ℕ) (b : Path) (ks ls : List Text)
-    → ((q : Path) (k l : Text) → same_text k l ≡ false → nat_lt (r (to_key q k)) (r (to_key q l)) ≡ true → nat_lt (u (to_key q k)) (u (to_key q l)) ≡ true)
+    → ((q : Path) (k l : Text) → same_text k l ≡ false → nat_lt (r (to_key q k)) (r (to_key q l)) ≡ true
+    → nat_lt (u (to_key q k)) (u (to_key q l)) ≡ true)
     → strict r (line_paths b ks) (line_paths b ls) ≡ true → stands u (line_paths b ks) (line_paths b ls) ≡ true
 stands-kept r u b [] ls f h = absurd cc
 stands-kept r u b (k ∷ ks) [] f h = absurd cc
@@ -194,7 +203,8 @@ stands-kept r u b (k ∷ ks) (l ∷ ls) f h =
           let rest : strict r (line_paths (to_key b k) ks) (line_paths (to_key b l) ls) ≡ true = rw here at h in
           rw here
           (subst (λ m. stands u (line_paths (to_key b k) ks) (line_paths (to_key b m) ls) ≡ true) is
-          (stands-kept r u (to_key b k) ks ls f (subst (λ m. strict r (line_paths (to_key b k) ks) (line_paths (to_key b m) ls) ≡ true) (sym is) rest)))
+          (stands-kept r u (to_key b k) ks ls f (subst (λ m. strict r (line_paths (to_key b k) ks) (line_paths (to_key b m) ls)
+          ≡ true) (sym is) rest)))
       | inr e ↦
           let here : same_path (to_key b k) (to_key b l) ≡ false = same_path-key b k l ∙ e in
           let less : nat_lt (r (to_key b k)) (r (to_key b l)) ≡ true = rw here at h in
@@ -242,7 +252,9 @@ parts-there r b q k l (i ∷ ks) (j ∷ ls) apart h g =
                 let keys_same : same_text i j ≡ true = front-keys b q i j front (front-below (to_key b j) q l ls c) in
                 let is : i ≡ j = same_text-is i j keys_same in
                 rw (same_path-key b i j ∙ keys_same)
-                (subst (λ m. strict r (line_paths (to_key b i) ks) (line_paths (to_key b m) ls) ≡ nat_lt (r (to_key q k)) (r (to_key q l))) is
-                (parts-there r (to_key b i) q k l ks ls apart a (subst (λ m. names (to_key q l) (line_paths (to_key b m) ls) ≡ true) (sym is) c)))
+                (subst (λ m. strict r (line_paths (to_key b i) ks) (line_paths (to_key b m) ls)
+                ≡ nat_lt (r (to_key q k)) (r (to_key q l))) is
+                (parts-there r (to_key b i) q k l ks ls apart a (subst (λ m. names (to_key q l) (line_paths (to_key b m) ls)
+                ≡ true) (sym is) c)))
           ]
     ]

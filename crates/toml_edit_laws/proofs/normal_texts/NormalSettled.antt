@@ -4,10 +4,12 @@ use Rattle.std.specs.Prelude.{◌&&◌, ◌||◌, not, map, flat_map, option_map
 use Rattle.std.specs.List.{AllByRecursion, list_all}
 use Rattle.toml_edit_model.specs.Mode.{Mode, shown_text}
 use Rattle.toml_edit_model.specs.Text.{Text, same_text}
-use Rattle.toml_edit_model.specs.Syntax.{Statement, key_line, header, Document, IsDocument, keeps_limits, is_short, depth, nesting_limit, has_short_keys, keeps_ranges}
+use Rattle.toml_edit_model.specs.Syntax.{Statement, key_line, header, Document, IsDocument, keeps_limits, is_short, depth, nesting_limit}
+use Rattle.toml_edit_model.specs.Syntax.{has_short_keys, keeps_ranges}
 use Rattle.toml_edit_model.specs.Paths.{Path, Mention, Source, Placed, placed, start_context}
 use Rattle.toml_edit_model.specs.Accepted.{is_sound, is_accepted, has_agreeing_pairs}
-use Rattle.toml_edit_model.specs.Normal.{is_line, line_before, ordered, opening_of, closing_of, kept_statement, shown_frame, normal_value, normal_statement, normal_in}
+use Rattle.toml_edit_model.specs.Normal.{is_line, line_before, ordered, opening_of, closing_of, kept_statement, shown_frame, normal_value}
+use Rattle.toml_edit_model.specs.Normal.{normal_statement, normal_in}
 use Rattle.toml_edit_laws.proofs.common.Tests.{and_left, and_right, and_both, same_text-refl}
 use Rattle.toml_edit_laws.proofs.common.Members.{Among, all-among, among-each}
 use Rattle.toml_edit_laws.proofs.normal_texts.SettledStays.{IsAny, any-statements, settled-stays}
@@ -19,7 +21,8 @@ use Rattle.toml_edit_laws.proofs.normal_texts.LinePaths.{stands}
 use Rattle.toml_edit_laws.proofs.normal_texts.LineOrder.{lines_ordered, ranked, sorted-anew, in-order}
 use Rattle.toml_edit_laws.proofs.normal_texts.KeptAnew.{AreAnew, Precedes, IsSpaced, anew-all}
 use Rattle.toml_edit_laws.proofs.normal_texts.SettledValues.{paths, place_of, sorted-map, same-segments, value-settled, lean-is}
-use Rattle.toml_edit_laws.proofs.normal_texts.PlacedLines.{lined_at, block_at, base_at, mentions_at, told_at, keys_told, ordered-lines, line-test, text-at, spaced-at, stay-all}
+use Rattle.toml_edit_laws.proofs.normal_texts.PlacedLines.{lined_at, block_at, base_at, mentions_at, told_at, keys_told, ordered-lines}
+use Rattle.toml_edit_laws.proofs.normal_texts.PlacedLines.{line-test, text-at, spaced-at, stay-all}
 use Rattle.toml_edit_laws.proofs.normal_texts.KeptHeaders.{kept-header}
 use Rattle.toml_edit_laws.proofs.common.Cores.{Core, cores}
 use Rattle.toml_edit_laws.proofs.common.Pairs.{AllPairs}
@@ -29,7 +32,8 @@ use Rattle.toml_edit_laws.proofs.common.Each.{all-both, all-map}
 use Rattle.toml_edit_laws.proofs.one_by_one.Together.{accepted-right}
 use Rattle.toml_edit_model.specs.Order.{is_sorted_by}
 use Rattle.toml_edit_model.specs.Kept.{kept_mention, kept_path}
-use Rattle.toml_edit_model.specs.Settled.{own_path, same_segments, is_kept, is_shown_text, is_settled_end, is_shown_frame, is_settled_value, is_settled_statement, has_ordered_lines, is_settled_in}
+use Rattle.toml_edit_model.specs.Settled.{own_path, same_segments, is_kept, is_shown_text, is_settled_end, is_shown_frame, is_settled_value}
+use Rattle.toml_edit_model.specs.Settled.{is_settled_statement, has_ordered_lines, is_settled_in}
 
 -- ---- lines in order, by their kinds and paths
 
@@ -65,7 +69,8 @@ Inner = Text × Text
 abbrev inner : Statement → Inner
 inner s = (opening_of s, closing_of s)
 
-kept-is : (ms : List (Mention Source)) (p : Path) (k : Mention Source) (s : Statement) → kept_mention ms p ≡ Some k → kept_statement ms p s ≡ k.source.statement
+kept-is : (ms : List (Mention Source)) (p : Path) (k : Mention Source) (s : Statement) → kept_mention ms p ≡ Some k → kept_statement ms p s
+    ≡ k.source.statement
 kept-is ms p k s e = ap (λ o. unwrap_or (option_map (λ (m : Mention Source). m.source.statement) o) s) e
 
 inner-ended : (end : Text) (s : Statement) → inner (with_end end s) ≡ inner s
@@ -94,7 +99,8 @@ module _ (mode : Mode) where
 
   normal-form : (ms : List (Mention Source)) (x y : Placed) → IsNormal mode ms x y → form y ≡ form x
   normal-form ms x y h =
-      ap (λ b. (b, told_at y)) (ap is_line h.statement ∙ line-ended h.end (normal_statement mode ms x x.source.statement) ∙ normal-line ms x x.source.statement)
+      ap (λ b. (b, told_at y)) (ap is_line h.statement ∙ line-ended h.end (normal_statement mode ms x x.source.statement)
+      ∙ normal-line ms x x.source.statement)
       ∙ ap (λ ps. (lined_at x, ps)) (core-paths y.mentions ∙ ap (map (λ (c : Core). c.0)) h.cores ∙ sym (core-paths x.mentions))
 
   normal-forms : (ms : List (Mention Source)) (xs ys : List Placed) → AreNormal mode ms xs ys → map form ys ≡ map form xs
@@ -106,7 +112,8 @@ module _ (mode : Mode) where
 
   -- ---- spelled anew
 
-  normal-anew : (ms : List (Mention Source)) (xs ys : List Placed) → AreNormal mode ms xs ys → AreAnew ms mentions_at xs (map mentions_at ys)
+  normal-anew : (ms : List (Mention Source)) (xs ys : List Placed) → AreNormal mode ms xs ys
+      → AreAnew ms mentions_at xs (map mentions_at ys)
   normal-anew ms [] [] h = tt
   normal-anew ms [] (y ∷ ys) h = absurd h
   normal-anew ms (x ∷ xs) [] h = absurd h
@@ -114,14 +121,16 @@ module _ (mode : Mode) where
 
   -- ---- headers
 
-  normal-from : (ms : List (Mention Source)) (xs ys : List Placed) (y : Placed) → AreNormal mode ms xs ys → Among y ys → (x : Placed) × Among x xs × IsNormal mode ms x y
+  normal-from : (ms : List (Mention Source)) (xs ys : List Placed) (y : Placed) → AreNormal mode ms xs ys → Among y ys → (x : Placed)
+      × Among x xs × IsNormal mode ms x y
   normal-from ms [] [] y h a = elim a [ ]
   normal-from ms [] (z ∷ ys) y h a = absurd h
   normal-from ms (x ∷ xs) [] y h a = elim a [ ]
   normal-from ms (x ∷ xs) (z ∷ ys) y h (inl e) = (x, inl refl, subst (IsNormal mode ms x) (sym e) h.0)
   normal-from ms (x ∷ xs) (z ∷ ys) y h (inr a) = (let rest = normal-from ms xs ys y h.1 a in (rest.0, inr rest.1, rest.2))
 
-  normal-inner : (ms : List (Mention Source)) (x : Placed) (k : Mention Source) → IsRightPlace x → lined_at x ≡ false → kept_mention ms x.source.path ≡ Some k
+  normal-inner : (ms : List (Mention Source)) (x : Placed) (k : Mention Source) → IsRightPlace x → lined_at x ≡ false
+      → kept_mention ms x.source.path ≡ Some k
       → inner (normal_statement mode ms x x.source.statement) ≡ inner k.source.statement
   normal-inner ms x k (c, s, is, a, g) l e =
       ap (λ t. inner (normal_statement mode ms x t)) st ∙ by_kind s (sym (ap is_line st) ∙ l)
@@ -135,8 +144,10 @@ module _ (mode : Mode) where
 
   -- ---- statements
 
-  settled-one : (ms new : List (Mention Source)) (x y : Placed) → IsRightPlace x → IsNormal mode ms x y → own_path y.mentions ≡ kept_path new y.mentions
-      → (lined_at x ≡ false → (t : Statement) → inner (kept_statement new y.source.path t) ≡ inner (kept_statement ms x.source.path x.source.statement))
+  settled-one : (ms new : List (Mention Source)) (x y : Placed) → IsRightPlace x → IsNormal mode ms x y → own_path y.mentions
+      ≡ kept_path new y.mentions
+      → (lined_at x ≡ false → (t : Statement) → inner (kept_statement new y.source.path t)
+      ≡ inner (kept_statement ms x.source.path x.source.statement))
       → is_settled_statement mode new y y.source.statement ≡ true
   settled-one ms new x y (c, s, is, a, g) h kept same =
       ap (is_settled_statement mode new y) (h.statement ∙ ap (λ t. with_end h.end (normal_statement mode ms x t)) st)
@@ -157,7 +168,8 @@ module _ (mode : Mode) where
           let limits = and_left (is_short f.path && (nat_le (depth v) nesting_limit && has_short_keys v)) (keeps_ranges v) parts in
           let ranges = and_right (is_short f.path && (nat_le (depth v) nesting_limit && has_short_keys v)) (keeps_ranges v) parts in
           let deep = and_right (is_short f.path) (nat_le (depth v) nesting_limit && has_short_keys v) limits in
-          and_both (is_shown_frame mode (shown_frame mode f) && is_settled_value mode (normal_value mode v)) (is_kept new y.mentions && is_settled_end mode h.end)
+          and_both (is_shown_frame mode (shown_frame mode f) && is_settled_value mode (normal_value mode v)) (is_kept new y.mentions
+          && is_settled_end mode h.end)
           (and_both (is_shown_frame mode (shown_frame mode f)) (is_settled_value mode (normal_value mode v)) (lean-is mode f)
           (value-settled mode v i.1 (and_right (nat_le (depth v) nesting_limit) (has_short_keys v) deep) ranges agrees))
           (and_both (is_kept new y.mentions) (is_settled_end mode h.end) is_kept_here h.settled)
@@ -168,11 +180,14 @@ module _ (mode : Mode) where
           let inside : inner own ≡ inner from = f_inner refl to in
           let one : opening_of own ≡ opening_of from = ap (λ (t : Inner). t.0) inside in
           let other : closing_of own ≡ closing_of from = ap (λ (t : Inner). t.1) inside in
-          and_both (is_shown_text mode (shown_text mode i.leading) && (same_text (opening_of from) (opening_of own) && same_text (closing_of from) (closing_of own)))
+          and_both (is_shown_text mode (shown_text mode i.leading)
+          && (same_text (opening_of from) (opening_of own) && same_text (closing_of from) (closing_of own)))
           (is_kept new y.mentions && is_settled_end mode h.end)
-          (and_both (is_shown_text mode (shown_text mode i.leading)) (same_text (opening_of from) (opening_of own) && same_text (closing_of from) (closing_of own)) (no-return mode i.leading)
+          (and_both (is_shown_text mode (shown_text mode i.leading)) (same_text (opening_of from) (opening_of own)
+          && same_text (closing_of from) (closing_of own)) (no-return mode i.leading)
           (and_both (same_text (opening_of from) (opening_of own)) (same_text (closing_of from) (closing_of own))
-          (ap (same_text (opening_of from)) one ∙ same_text-refl (opening_of from)) (ap (same_text (closing_of from)) other ∙ same_text-refl (closing_of from))))
+          (ap (same_text (opening_of from)) one ∙ same_text-refl (opening_of from)) (ap (same_text (closing_of from)) other
+          ∙ same_text-refl (closing_of from))))
           (and_both (is_kept new y.mentions) (is_settled_end mode h.end) is_kept_here h.settled)
 
   -- the kept statements of two headers' paths have the same white space
@@ -181,7 +196,8 @@ module _ (mode : Mode) where
       (x : Placed) → IsNormal mode ms x y → IsRightPlace x → Among x places → lined_at x ≡ false
       → (t : Statement) → inner (kept_statement new y.source.path t) ≡ inner (kept_statement ms x.source.path x.source.statement)
 
-  settled-all : (ms new : List (Mention Source)) (places xs ys : List Placed) → AllByRecursion (λ x. IsRightPlace x × Among x places) xs → AreNormal mode ms xs ys
+  settled-all : (ms new : List (Mention Source)) (places xs ys : List Placed) → AllByRecursion (λ x. IsRightPlace x × Among x places) xs
+      → AreNormal mode ms xs ys
       → AllByRecursion (λ n. own_path n ≡ kept_path new n) (map mentions_at ys) → AllByRecursion (HasSameInner ms new places) ys
       → list_all (λ s. is_settled_statement mode new s s.source.statement) ys ≡ true
   settled-all ms new places [] [] r h k f = refl
@@ -193,8 +209,10 @@ module _ (mode : Mode) where
 
   -- ---- documents
 
-  same-inner : (ms new : List (Mention Source)) (places zs ys : List Placed) → ms ≡ flat_map (λ m. m) (map (λ s. s.mentions) places) → new ≡ flat_map (λ m. m) (map (λ s. s.mentions) ys)
-      → ArePlaced places → ArePlaced ys → AllByRecursion IsRightPlace zs → AreNormal mode ms zs ys → (y : Placed) → Among y ys → HasSameInner ms new places y
+  same-inner : (ms new : List (Mention Source)) (places zs ys : List Placed) → ms ≡ flat_map (λ m. m) (map (λ s. s.mentions) places) → new
+      ≡ flat_map (λ m. m) (map (λ s. s.mentions) ys)
+      → ArePlaced places → ArePlaced ys → AllByRecursion IsRightPlace zs → AreNormal mode ms zs ys → (y : Placed) → Among y ys
+      → HasSameInner ms new places y
   same-inner ms new places zs ys e f old are right normals y a x n r b l t =
       let header_y : lined_at y ≡ false = ap (λ (o : Form). o.0) (normal-form ms x y n) ∙ l in
       let kept_y = kept-header ys are.run are.right are.agree y a header_y in
@@ -213,7 +231,8 @@ module _ (mode : Mode) where
       ∙ normal-inner ms u k (all-among IsRightPlace u zs right from.1) header_u (ap (kept_mention ms) path_is ∙ old_kept)
       ∙ sym (ap inner (kept-is ms x.source.path k x.source.statement old_kept))
 
-  places-settled : (mss : List (List (Mention Source))) (places zs ys : List Placed) → mss ≡ map (λ s. s.mentions) places → zs ≡ ordered mss places → ArePlaced places → ArePlaced ys
+  places-settled : (mss : List (List (Mention Source))) (places zs ys : List Placed) → mss ≡ map (λ s. s.mentions) places → zs
+      ≡ ordered mss places → ArePlaced places → ArePlaced ys
       → AllByRecursion IsRightPlace zs → AreNormal mode (flat_map (λ m. m) mss) zs ys
       → (has_ordered_lines (map (λ s. s.mentions) ys) ys ≡ true)
       × (list_all (λ s. is_settled_statement mode (flat_map (λ m. m) (map (λ s. s.mentions) ys)) s s.source.statement) ys ≡ true)
@@ -228,16 +247,22 @@ module _ (mode : Mode) where
       sorted-anew lined_at block_at told_at base_at keys_told test (line_before (map (λ s. s.mentions) xs)) places (line-test mss places e)
       (line-test (map (λ s. s.mentions) xs) xs refl) text in
       let first : has_ordered_lines (map (λ s. s.mentions) ys) ys ≡ true =
-      lines-by-form ys ∙ ap (λ fs. is_sorted_by (form_test fs) fs) (normal-forms ms zs ys normals ∙ ap (map form) is) ∙ sym (lines-by-form xs) ∙ sorted in
-      let precede : AllPairs (Precedes lined_at block_at base_at mentions_at (ranked lined_at block_at told_at base_at keys_told places)) xs =
+      lines-by-form ys ∙ ap (λ fs. is_sorted_by (form_test fs) fs) (normal-forms ms zs ys normals ∙ ap (map form) is)
+      ∙ sym (lines-by-form xs) ∙ sorted in
+      let precede : AllPairs (Precedes lined_at block_at base_at mentions_at (ranked lined_at block_at told_at base_at keys_told places))
+      xs =
       in-order lined_at block_at told_at base_at keys_told test places (line-test mss places e) text in
       let kept = anew-all lined_at block_at base_at mentions_at (ranked lined_at block_at told_at base_at keys_told places) test places
-      (stay-all places old.right text old.agree) (all-map IsRightPlace (IsSpaced lined_at block_at base_at mentions_at) places spaced-at old.right) precede (map mentions_at ys)
-      (subst (λ us. AreAnew (flat_map (λ m. m) us) mentions_at xs (map mentions_at ys)) e (subst (λ us. AreAnew ms mentions_at us (map mentions_at ys)) is (normal-anew ms zs ys normals))) in
-      let among : AllByRecursion (λ x. Among x places) zs = subst (AllByRecursion (λ x. Among x places)) (sym z) (all-ordered (λ x. Among x places) mss places (among-each places)) in (
+      (stay-all places old.right text old.agree) (all-map IsRightPlace (IsSpaced lined_at block_at base_at mentions_at) places spaced-at
+      old.right) precede (map mentions_at ys)
+      (subst (λ us. AreAnew (flat_map (λ m. m) us) mentions_at xs (map mentions_at ys)) e
+      (subst (λ us. AreAnew ms mentions_at us (map mentions_at ys)) is (normal-anew ms zs ys normals))) in
+      let among : AllByRecursion (λ x. Among x places) zs =
+      subst (AllByRecursion (λ x. Among x places)) (sym z) (all-ordered (λ x. Among x places) mss places (among-each places)) in (
         first,
         settled-all ms new places zs ys (all-both IsRightPlace (λ x. Among x places) zs right among) normals kept
-            (all-map (λ y. Among y ys) (HasSameInner ms new places) ys (same-inner ms new places zs ys (ap (flat_map (λ m. m)) e) refl old are right normals) (among-each ys)),
+            (all-map (λ y. Among y ys) (HasSameInner ms new places) ys
+            (same-inner ms new places zs ys (ap (flat_map (λ m. m)) e) refl old are right normals) (among-each ys)),
       )
 
   normal-ends : (d : Document) → (not (normal_in mode d).has_mark && is_shown_text mode (normal_in mode d).final) ≡ true
@@ -249,7 +274,8 @@ module _ (mode : Mode) where
       let n : Document = normal_in mode d in
       let k = known mode d h g in
       let accepted = normal-accepted mode d h g in
-      let both = places-settled (mention_lists (placed d)) (placed d) (in_order d) (placed n) refl refl (are-placed d h g) (are-placed n accepted.0 accepted.1) k.right k.normal_places in
+      let both = places-settled (mention_lists (placed d)) (placed d) (in_order d) (placed n) refl refl (are-placed d h g)
+      (are-placed n accepted.0 accepted.1) k.right k.normal_places in
       let lines : Bool = has_ordered_lines (mention_lists (placed n)) (placed n) in
       let each : Bool = list_all (λ s. is_settled_statement mode (all_in n) s s.source.statement) (placed n) in
       and_both (not n.has_mark && is_shown_text mode n.final) (lines && each) (normal-ends d) (and_both lines each both.0 both.1)

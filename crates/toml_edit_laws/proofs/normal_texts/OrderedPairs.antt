@@ -31,9 +31,11 @@ source_at n f v = record { frame = f; value = v }
 -- these are the mentions of a pair, of which this holds
 abbrev pub IsMentionOf : (Frame → Value → Type 0) → List (Mention PairSource) → Type 0
 IsMentionOf Q ms =
-    (f : Frame) × (v : Value) × (n : ℕ) × (start : ℕ) × (ms ≡ line_mentions (source_at n f v) start [] f.path) × (begins_unspaced f.path ≡ true) × Q f v
+    (f : Frame) × (v : Value) × (n : ℕ) × (start : ℕ) × (ms ≡ line_mentions (source_at n f v) start [] f.path)
+    × (begins_unspaced f.path ≡ true) × Q f v
 
-pub mentions-of : (Q : Frame → Value → Type 0) (start number : ℕ) (ps : Pairs) → ArePairs ps → EachPair Q ps → AllByRecursion (IsMentionOf Q) (pair_mentions start ps)
+pub mentions-of : (Q : Frame → Value → Type 0) (start number : ℕ) (ps : Pairs) → ArePairs ps → EachPair Q ps
+    → AllByRecursion (IsMentionOf Q) (pair_mentions start ps)
 mentions-of Q start number no_pairs h g = tt
 mentions-of Q start number (pair f v ps) h g = (
   (f, v, number, start + length f.leading, refl, h.0.1.begins, g.0),
@@ -46,7 +48,8 @@ spelled all n start f v = record f { path = kept_path all (line_mentions (source
 
 pub kept-each : (Q R : Frame → Value → Type 0) (all : List (Mention PairSource))
     → ((f : Frame) (v : Value) (n start : ℕ) → begins_unspaced f.path ≡ true → Q f v → R (spelled all n start f v) v)
-    → (mss : List (List (Mention PairSource))) → AllByRecursion (IsMentionOf Q) mss → EachPair R (pairs_of (some_of (map (kept_pair all) mss)))
+    → (mss : List (List (Mention PairSource))) → AllByRecursion (IsMentionOf Q) mss
+    → EachPair R (pairs_of (some_of (map (kept_pair all) mss)))
 kept-each Q R all h [] g = tt
 kept-each Q R all h (ms ∷ mss) g =
     let f : Frame = g.0.0 in
@@ -58,7 +61,8 @@ kept-each Q R all h (ms ∷ mss) g =
 
 -- What holds of each pair, spelled anew, holds of each ordered pair.
 pub ordered-each : (Q R : Frame → Value → Type 0) (ps : Pairs) → ArePairs ps
-    → ((f : Frame) (v : Value) (n start : ℕ) → begins_unspaced f.path ≡ true → Q f v → R (spelled (flat_map (λ ms. ms) (pair_mentions 0 ps)) n start f v) v)
+    → ((f : Frame) (v : Value) (n start : ℕ) → begins_unspaced f.path ≡ true → Q f v
+    → R (spelled (flat_map (λ ms. ms) (pair_mentions 0 ps)) n start f v) v)
     → EachPair Q ps → EachPair R (ordered_pairs ps)
 ordered-each Q R ps h f g =
     let mss : List (List (Mention PairSource)) = pair_mentions 0 ps in
@@ -82,7 +86,8 @@ AreSpelled all [] (n ∷ ns) = ⊥
 AreSpelled all (m ∷ ms) [] = ⊥
 AreSpelled all (m ∷ ms) (n ∷ ns) = ((cores n ≡ cores m) × (map (λ x. x.segment) n ≡ kept_path all m)) × AreSpelled all ms ns
 
-spelled-from : (Q : Frame → Value → Type 0) (all : List (Mention PairSource)) (start number : ℕ) (mss : List (List (Mention PairSource))) → AreKeyed all
+spelled-from : (Q : Frame → Value → Type 0) (all : List (Mention PairSource)) (start number : ℕ) (mss : List (List (Mention PairSource)))
+    → AreKeyed all
     → AllByRecursion (IsMentionOf Q) mss → AreSpelled all mss (pair_mentions start (pairs_of (some_of (map (kept_pair all) mss))))
 spelled-from Q all start number [] k g = tt
 spelled-from Q all start number (ms ∷ mss) k g =
@@ -92,7 +97,8 @@ spelled-from Q all start number (ms ∷ mss) k g =
     let to : Frame = spelled all g.0.2 g.0.3 f v in
     let is : kept_pair all ms ≡ Some (to, v) = ap (kept_pair all) g.0.4 ∙ kept-pair all (source_at g.0.2 f v) g.0.3 [] f.path g.0.5 in
     let same : keys_of_segments to.path ≡ keys_of_segments f.path =
-    kept-path-keys all own k (line-keyed (source_at g.0.2 f v) g.0.3 [] f.path) ∙ ap keys_of_segments (own-line (source_at g.0.2 f v) g.0.3 [] f.path) in
+    kept-path-keys all own k (line-keyed (source_at g.0.2 f v) g.0.3 [] f.path)
+    ∙ ap keys_of_segments (own-line (source_at g.0.2 f v) g.0.3 [] f.path) in
     let said : cores (line_mentions (source_at number to v) (start + length to.leading) [] to.path) ≡ cores ms =
     line-cores (source_at number to v) (start + length to.leading) [] to.path ∙ ap (line_cores []) same
     ∙ sym (line-cores (source_at g.0.2 f v) g.0.3 [] f.path) ∙ ap cores (sym g.0.4) in
@@ -103,7 +109,8 @@ spelled-from Q all start number (ms ∷ mss) k g =
 
 -- The mentions of the ordered pairs say what those of the pairs in order do, spelled as their kept keys.
 pub ordered-spelled : (ps : Pairs) → ArePairs ps
-    → AreSpelled (flat_map (λ ms. ms) (pair_mentions 0 ps)) (sorted_by (pair_before (pair_mentions 0 ps)) (pair_mentions 0 ps)) (pair_mentions 0 (ordered_pairs ps))
+    → AreSpelled (flat_map (λ ms. ms) (pair_mentions 0 ps)) (sorted_by (pair_before (pair_mentions 0 ps)) (pair_mentions 0 ps))
+    (pair_mentions 0 (ordered_pairs ps))
 ordered-spelled ps h =
     let mss : List (List (Mention PairSource)) = pair_mentions 0 ps in
     spelled-from (λ f v. Unit {0}) (flat_map (λ ms. ms) mss) 0 0 (sorted_by (pair_before mss) mss) (mentions-keyed 0 0 ps)
@@ -123,12 +130,14 @@ pub has-ordered : (ps : Pairs) → ArePairs ps → has_pairs (ordered_pairs ps) 
 has-ordered no_pairs h = refl
 has-ordered (pair f v ps) h =
     let mss : List (List (Mention PairSource)) = pair_mentions 0 (pair f v ps) in
-    some-left (flat_map (λ ms. ms) mss) (sorted_by (pair_before mss) mss) (pair_mentions 0 (ordered_pairs (pair f v ps))) (ordered_pairs (pair f v ps))
+    some-left (flat_map (λ ms. ms) mss) (sorted_by (pair_before mss) mss) (pair_mentions 0 (ordered_pairs (pair f v ps)))
+    (ordered_pairs (pair f v ps))
     (is_empty-insert (pair_before mss) (line_mentions (source_at 0 f v) (0 + length f.leading) [] f.path)
     (sorted_by (pair_before mss) (pair_mentions (0 + length (frame_text f (value_text v)) + 1) ps)))
     refl (ordered-spelled (pair f v ps) h)
   where
-    some-left : (all : List (Mention PairSource)) (ms ns : List (List (Mention PairSource))) (qs : Pairs) → is_empty ms ≡ false → ns ≡ pair_mentions 0 qs → AreSpelled all ms ns → has_pairs qs ≡ true
+    some-left : (all : List (Mention PairSource)) (ms ns : List (List (Mention PairSource))) (qs : Pairs) → is_empty ms ≡ false → ns
+        ≡ pair_mentions 0 qs → AreSpelled all ms ns → has_pairs qs ≡ true
     some-left all [] ns qs e is g = absurd cc
     some-left all (m ∷ ms) [] qs e is g = absurd g
     some-left all (m ∷ ms) (n ∷ ns) no_pairs e is g = absurd cc
@@ -136,14 +145,16 @@ has-ordered (pair f v ps) h =
 
 -- ---- agreement
 
-pub spelled-agree : (may : Role → Role → Bool) (all : List (Mention PairSource)) (ms ns : List (List (Mention PairSource))) → AreSpelled all ms ns
+pub spelled-agree : (may : Role → Role → Bool) (all : List (Mention PairSource)) (ms ns : List (List (Mention PairSource)))
+    → AreSpelled all ms ns
     → AllPairs (λ a b. agree may a b ≡ true) ms → AllPairs (λ a b. agree may a b ≡ true) ns
 spelled-agree may all [] [] h g = tt
 spelled-agree may all [] (n ∷ ns) h g = absurd h
 spelled-agree may all (m ∷ ms) [] h g = absurd h
 spelled-agree may all (m ∷ ms) (n ∷ ns) h g = (each ms ns h.1 g.0, spelled-agree may all ms ns h.1 g.1)
   where
-    each : (xs ys : List (List (Mention PairSource))) → AreSpelled all xs ys → AllByRecursion (λ x. agree may m x ≡ true) xs → AllByRecursion (λ y. agree may n y ≡ true) ys
+    each : (xs ys : List (List (Mention PairSource))) → AreSpelled all xs ys → AllByRecursion (λ x. agree may m x ≡ true) xs
+        → AllByRecursion (λ y. agree may n y ≡ true) ys
     each [] [] a b = tt
     each [] (y ∷ ys) a b = absurd a
     each (x ∷ xs) [] a b = absurd a

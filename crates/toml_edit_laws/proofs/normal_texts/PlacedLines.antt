@@ -1,11 +1,13 @@
 -- The statements of a document as elements in blocks, whose lines have an order.
-use Rattle.std.proofs.Common.{◌≡◌, ◌⊎◌, refl, sym, ◌∙◌, ap, subst, ℕ, ◌+◌, ◌<◌, ◌≤◌, arith, Bool, true, false, List, [], ◌∷◌, ◌++◌, inl, inr}
+use Rattle.std.proofs.Common.{◌≡◌, ◌⊎◌, refl, sym, ◌∙◌, ap, subst, ℕ, ◌+◌, ◌<◌, ◌≤◌, arith, Bool, true, false, List, [], ◌∷◌, ◌++◌, inl}
+use Rattle.std.proofs.Common.{inr}
 use Rattle.std.specs.Prelude.{◌||◌, not, map, if◌then◌else◌}
 use Rattle.std.specs.List.{AllByRecursion, list_all}
 use Rattle.std.proofs.lemmas.Bool.{cases_lt}
 use Rattle.toml_edit_model.specs.Text.{Text, is_empty}
 use Rattle.toml_edit_model.specs.Syntax.{Segment, Statement, key_line, header, begins_unspaced, ends_unspaced}
-use Rattle.toml_edit_model.specs.Paths.{Path, same_path, to_key, Mention, Source, Placed, Context, line_mentions, header_mentions, header_path, header_role_of, keys_of, path_start, source_of, mentions_of, context_after}
+use Rattle.toml_edit_model.specs.Paths.{Path, same_path, to_key, Mention, Source, Placed, Context, line_mentions, header_mentions}
+use Rattle.toml_edit_model.specs.Paths.{header_path, header_role_of, keys_of, path_start, source_of, mentions_of, context_after}
 use Rattle.toml_edit_model.specs.Accepted.{agree}
 use Rattle.toml_edit_model.specs.Meaning.{parent}
 use Rattle.toml_edit_model.specs.Normal.{is_line, line_before, ordered}
@@ -18,10 +20,12 @@ use Rattle.toml_edit_laws.proofs.normal_texts.Runs.{Run}
 use Rattle.toml_edit_laws.proofs.normal_texts.Agreeing.{AreOfLine, AgreesWith}
 use Rattle.toml_edit_laws.proofs.normal_texts.NormalAccepted.{IsRightPlace, place-roles, right-roles}
 use Rattle.toml_edit_laws.proofs.normal_texts.LinePaths.{line_paths, part_keys}
-use Rattle.toml_edit_laws.proofs.normal_texts.LineOrder.{lines_ordered, ranked, Follows, IsLined, IsAlong, Shares, IsText, IsTest, AreStepped, BeginsIn}
+use Rattle.toml_edit_laws.proofs.normal_texts.LineOrder.{lines_ordered, ranked, Follows, IsLined, IsAlong, Shares, IsText, IsTest}
+use Rattle.toml_edit_laws.proofs.normal_texts.LineOrder.{AreStepped, BeginsIn}
 use Rattle.toml_edit_laws.proofs.normal_texts.Trims.{IsWhole, line-whole, header-whole, own-trimmed}
 use Rattle.toml_edit_laws.proofs.normal_texts.KeptAnew.{Stays, IsSpaced}
-use Rattle.toml_edit_laws.proofs.normal_texts.SettledValues.{paths, place_of, rank-is, stands-is, paths-of-line, part-keys, agree-at, inline-ends}
+use Rattle.toml_edit_laws.proofs.normal_texts.SettledValues.{paths, place_of, rank-is, stands-is, paths-of-line, part-keys, agree-at}
+use Rattle.toml_edit_laws.proofs.normal_texts.SettledValues.{inline-ends}
 use Rattle.toml_edit_laws.proofs.mentions.Placed.{filled-path, placed_at, source-statement}
 use Rattle.toml_edit_laws.proofs.common.Cores.{keys_of_segments}
 use Rattle.toml_edit_laws.proofs.mentions.RoleTests.{by_line_roles, is_line_role, array-last}
@@ -59,7 +63,8 @@ keys_told x = keys_of_segments (own_path x.mentions)
 
 pub ordered-lines : (mss : List (List (Mention Source))) (xs : List Placed) → ordered mss xs ≡ lines_ordered lined_at (line_before mss) xs
 ordered-lines mss [] = refl
-ordered-lines mss (x ∷ xs) = ap (λ ys. if is_line x.source.statement then insert_by (line_before mss) x ys else x ∷ ys) (ordered-lines mss xs)
+ordered-lines mss (x ∷ xs) =
+    ap (λ ys. if is_line x.source.statement then insert_by (line_before mss) x ys else x ∷ ys) (ordered-lines mss xs)
 
 pub paths-mentions : (xs : List Placed) → map paths (map (λ s. s.mentions) xs) ≡ map told_at xs
 paths-mentions [] = refl
@@ -69,7 +74,8 @@ pub line-test : (mss : List (List (Mention Source))) (xs : List Placed) → mss 
     → IsTest lined_at block_at told_at base_at keys_told (line_before mss) (ranked lined_at block_at told_at base_at keys_told xs)
 line-test mss xs e x y =
     ap (λ b. not (is_line y.source.statement) || b)
-    (stands-is (rank mss) (place_of (map told_at xs)) (λ q. rank-is mss q ∙ ap (λ ps. place_of ps q) (ap (map paths) e ∙ paths-mentions xs)) x.mentions y.mentions)
+    (stands-is (rank mss) (place_of (map told_at xs)) (λ q. rank-is mss q
+    ∙ ap (λ ps. place_of ps q) (ap (map paths) e ∙ paths-mentions xs)) x.mentions y.mentions)
 
 -- ---- blocks
 
@@ -113,7 +119,8 @@ run-follows n arrays block (x ∷ xs) (c, s, e, h, a, b, rest) =
 block-of-place : (x : Placed) (c : Context) (s : Statement) → x ≡ placed_at c s → block_at x ≡ (context_after c s).headers
 block-of-place x c s e = ap (λ (y : Placed). y.source.headers) e ∙ place-block c s
 
-pub run-follow : (n : ℕ) (arrays : List Path) (block : Path) (xs : List Placed) → Run n arrays block xs → AllPairs (Follows lined_at block_at told_at base_at keys_told) xs
+pub run-follow : (n : ℕ) (arrays : List Path) (block : Path) (xs : List Placed) → Run n arrays block xs
+    → AllPairs (Follows lined_at block_at told_at base_at keys_told) xs
 run-follow n arrays block [] r = tt
 run-follow n arrays block (x ∷ xs) (c, s, e, h, a, b, rest) = (
   subst (λ m. AllByRecursion (FollowsAt m) xs) (sym (block-of-place x c s e))
@@ -122,18 +129,22 @@ run-follow n arrays block (x ∷ xs) (c, s, e, h, a, b, rest) = (
 )
 
 -- a line is in the block that the run is in
-line-block : (n : ℕ) (arrays : List Path) (block : Path) (x : Placed) (xs : List Placed) → Run n arrays block (x ∷ xs) → lined_at x ≡ true → block_at x ≡ n
-line-block n arrays block x xs (c, s, e, h, a, b, rest) l = ap (λ (y : Placed). y.source.headers) e ∙ by_kind s (sym (ap is_line (ap (λ (y : Placed). y.source.statement) e ∙ source-statement c s)) ∙ l) ∙ h
+line-block : (n : ℕ) (arrays : List Path) (block : Path) (x : Placed) (xs : List Placed) → Run n arrays block (x ∷ xs) → lined_at x ≡ true
+    → block_at x ≡ n
+line-block n arrays block x xs (c, s, e, h, a, b, rest) l = ap (λ (y : Placed). y.source.headers) e
+    ∙ by_kind s (sym (ap is_line (ap (λ (y : Placed). y.source.statement) e ∙ source-statement c s)) ∙ l) ∙ h
   where
     by_kind : (t : Statement) → is_line t ≡ true → block_at (placed_at c t) ≡ c.headers
     by_kind (key_line f v end) g = refl
     by_kind (header i end) g = absurd cc
 
-run-begins : (n : ℕ) (arrays : List Path) (block : Path) (xs : List Placed) → Run n arrays block xs → BeginsIn lined_at block_at told_at base_at keys_told n xs
+run-begins : (n : ℕ) (arrays : List Path) (block : Path) (xs : List Placed) → Run n arrays block xs
+    → BeginsIn lined_at block_at told_at base_at keys_told n xs
 run-begins n arrays block [] r = tt
 run-begins n arrays block (x ∷ xs) r = λ l. line-block n arrays block x xs r l
 
-pub run-stepped : (n : ℕ) (arrays : List Path) (block : Path) (xs : List Placed) → Run n arrays block xs → AreStepped lined_at block_at told_at base_at keys_told xs
+pub run-stepped : (n : ℕ) (arrays : List Path) (block : Path) (xs : List Placed) → Run n arrays block xs
+    → AreStepped lined_at block_at told_at base_at keys_told xs
 run-stepped n arrays block [] r = tt
 run-stepped n arrays block (x ∷ xs) (c, s, e, h, a, b, rest) = (
   subst (λ m. BeginsIn lined_at block_at told_at base_at keys_told m xs) (sym (block-of-place x c s e))
@@ -145,10 +156,12 @@ run-stepped n arrays block (x ∷ xs) (c, s, e, h, a, b, rest) = (
 
 -- a line of the block at this path
 abbrev pub IsLineAt : Path → Placed → Type 0
-IsLineAt b x = (source : Source) × (start : ℕ) × (ss : List Segment) × (x.mentions ≡ line_mentions source start b ss) × (is_empty ss ≡ false)
+IsLineAt b x = (source : Source) × (start : ℕ) × (ss : List Segment) × (x.mentions ≡ line_mentions source start b ss)
+    × (is_empty ss ≡ false)
 
 place-line : (c : Context) (s : Statement) → IsAny s → is_line s ≡ true → IsLineAt c.block (placed_at c s)
-place-line c (key_line f v end) h l = (source_of c (key_line f v end), c.start + path_start (key_line f v end), f.path, refl, filled-path f.path h.0.1.begins)
+place-line c (key_line f v end) h l =
+    (source_of c (key_line f v end), c.start + path_start (key_line f v end), f.path, refl, filled-path f.path h.0.1.begins)
 place-line c (header e end) h l = absurd cc
 
 pub any-of-place : (c : Context) (s : Statement) (x : Placed) → x ≡ placed_at c s → IsRightPlace x → IsAny s
@@ -160,7 +173,8 @@ pub run-lines : (n : ℕ) (arrays : List Path) (block : Path) (xs : List Placed)
 run-lines n arrays block [] r h = tt
 run-lines n arrays block (x ∷ xs) (c, s, e, k, a, b, rest) h = (
   λ l m. subst (IsLineAt block) (sym e) (subst (λ p. IsLineAt p (placed_at c s)) b
-      (place-line c s (any-of-place c s x e h.0) (sym (ap is_line (ap (λ (y : Placed). y.source.statement) e ∙ source-statement c s)) ∙ l))),
+      (place-line c s (any-of-place c s x e h.0) (sym (ap is_line (ap (λ (y : Placed). y.source.statement) e ∙ source-statement c s))
+      ∙ l))),
   by_kind (is_line s) refl (run-lines (context_after c s).headers (context_after c s).arrays (context_after c s).block xs rest h.1),
 )
   where
@@ -176,11 +190,13 @@ run-lines n arrays block (x ∷ xs) (c, s, e, k, a, b, rest) h = (
     late y more (inl f) m = omega arith
     late y more (inr f) m = (let is : (context_after c s).headers ≡ block_at y = f.0 in omega arith)
 
-    by_kind : (l : Bool) → is_line s ≡ l → AllByRecursion (λ y. lined_at y ≡ true → block_at y ≡ (context_after c s).headers → IsLineAt (context_after c s).block y) xs
+    by_kind : (l : Bool) → is_line s ≡ l → AllByRecursion (λ y. lined_at y ≡ true → block_at y ≡ (context_after c s).headers
+        → IsLineAt (context_after c s).block y) xs
         → AllByRecursion (λ y. lined_at y ≡ true → block_at y ≡ n → IsLineAt block y) xs
     by_kind true g ih =
         let same = after-line s g in
-        all-map (λ y. lined_at y ≡ true → block_at y ≡ (context_after c s).headers → IsLineAt (context_after c s).block y) (λ y. lined_at y ≡ true → block_at y ≡ n → IsLineAt block y) xs
+        all-map (λ y. lined_at y ≡ true → block_at y ≡ (context_after c s).headers → IsLineAt (context_after c s).block y) (λ y. lined_at y
+        ≡ true → block_at y ≡ n → IsLineAt block y) xs
         (λ y f l m. subst (λ p. IsLineAt p y) (same.1 ∙ b) (f l (m ∙ sym k ∙ sym same.0))) ih
     by_kind false g ih =
         let more : c.headers < (context_after c s).headers = after-header s g in
@@ -192,7 +208,8 @@ run-lines n arrays block (x ∷ xs) (c, s, e, k, a, b, rest) h = (
 abbrev pub IsNear : Placed → Placed → Type 0
 IsNear x y = lined_at x ≡ true → lined_at y ≡ true → block_at x ≡ block_at y → (b : Path) × IsLineAt b x × IsLineAt b y
 
-pub run-near : (n : ℕ) (arrays : List Path) (block : Path) (xs : List Placed) → Run n arrays block xs → AllByRecursion IsRightPlace xs → AllPairs IsNear xs
+pub run-near : (n : ℕ) (arrays : List Path) (block : Path) (xs : List Placed) → Run n arrays block xs → AllByRecursion IsRightPlace xs
+    → AllPairs IsNear xs
 run-near n arrays block [] r h = tt
 run-near n arrays block (x ∷ xs) r h =
     let lines = run-lines n arrays block (x ∷ xs) r h in (
@@ -211,27 +228,33 @@ base-line b x (source, start, ss, is, e) = ap (λ ms. base_of (paths ms)) is ∙
 
 told-line : (b : Path) (x : Placed) → IsLineAt b x → told_at x ≡ line_paths b (keys_told x)
 told-line b x (source, start, ss, is, e) =
-    ap paths is ∙ paths-of-line source start b ss ∙ ap (λ rs. line_paths b (keys_of_segments rs)) (sym (own-line source start b ss) ∙ ap own_path (sym is))
+    ap paths is ∙ paths-of-line source start b ss ∙ ap (λ rs. line_paths b (keys_of_segments rs)) (sym (own-line source start b ss)
+    ∙ ap own_path (sym is))
 
 -- ---- agreement of lines
 
 line-meets : (r q : Role) → is_line_role r ≡ true → is_line_role q ≡ true → may_meet r q ≡ true → may_meet_inline r q ≡ true
 line-meets r q h g e = by_line_roles may_meet may_meet_inline refl r q h g e
 
-agree-inline : (ms ns : List (Mention Source)) → AreOfLine ms → AreOfLine ns → agree may_meet ms ns ≡ true → agree may_meet_inline ms ns ≡ true
+agree-inline : (ms ns : List (Mention Source)) → AreOfLine ms → AreOfLine ns → agree may_meet ms ns ≡ true → agree may_meet_inline ms ns
+    ≡ true
 agree-inline [] ns h g e = refl
 agree-inline (m ∷ ms) ns h g e =
     and_both (list_all (λ n. not (same_path m.path n.path) || may_meet_inline m.role n.role) ns) (agree may_meet_inline ms ns)
     (each ns g (and_left (list_all (λ n. not (same_path m.path n.path) || may_meet m.role n.role) ns) (agree may_meet ms ns) e))
-    (agree-inline ms ns h.1 g (and_right (list_all (λ n. not (same_path m.path n.path) || may_meet m.role n.role) ns) (agree may_meet ms ns) e))
+    (agree-inline ms ns h.1 g (and_right (list_all (λ n. not (same_path m.path n.path) || may_meet m.role n.role) ns) (agree may_meet ms ns)
+    e))
   where
     each : (us : List (Mention Source)) → AreOfLine us → list_all (λ n. not (same_path m.path n.path) || may_meet m.role n.role) us ≡ true
         → list_all (λ n. not (same_path m.path n.path) || may_meet_inline m.role n.role) us ≡ true
     each [] a f = refl
     each (u ∷ us) a f =
-        and_both (not (same_path m.path u.path) || may_meet_inline m.role u.role) (list_all (λ n. not (same_path m.path n.path) || may_meet_inline m.role n.role) us)
-        (by_test (same_path m.path u.path) (and_left (not (same_path m.path u.path) || may_meet m.role u.role) (list_all (λ n. not (same_path m.path n.path) || may_meet m.role n.role) us) f))
-        (each us a.1 (and_right (not (same_path m.path u.path) || may_meet m.role u.role) (list_all (λ n. not (same_path m.path n.path) || may_meet m.role n.role) us) f))
+        and_both (not (same_path m.path u.path) || may_meet_inline m.role u.role) (list_all (λ n. not (same_path m.path n.path)
+        || may_meet_inline m.role n.role) us)
+        (by_test (same_path m.path u.path) (and_left (not (same_path m.path u.path)
+        || may_meet m.role u.role) (list_all (λ n. not (same_path m.path n.path) || may_meet m.role n.role) us) f))
+        (each us a.1 (and_right (not (same_path m.path u.path)
+        || may_meet m.role u.role) (list_all (λ n. not (same_path m.path n.path) || may_meet m.role n.role) us) f))
       where
         by_test : (c : Bool) → (not c || may_meet m.role u.role) ≡ true → (not c || may_meet_inline m.role u.role) ≡ true
         by_test true f = line-meets m.role u.role h.0 a.0 f
@@ -239,7 +262,8 @@ agree-inline (m ∷ ms) ns h g e =
 
 -- ---- elements in blocks
 
-shares-at : (x y : Placed) → IsRightPlace x → IsRightPlace y → IsNear x y × AgreesWith x y → Shares lined_at block_at told_at base_at keys_told x y
+shares-at : (x y : Placed) → IsRightPlace x → IsRightPlace y → IsNear x y × AgreesWith x y
+    → Shares lined_at block_at told_at base_at keys_told x y
 shares-at x y h g both a b e =
     let near = both.0 a b e in
     let p : Path = near.0 in
@@ -275,7 +299,8 @@ along-place c (header e end) =
           (header-along (source_of c (header e end)) c.arrays (header_role_of e) (c.start + path_start (header e end)) [] e.path),
     )
 
-pub text-at : (xs : List Placed) → Run 0 [] [] xs → AllByRecursion IsRightPlace xs → AllPairs AgreesWith xs → IsText lined_at block_at told_at base_at keys_told xs
+pub text-at : (xs : List Placed) → Run 0 [] [] xs → AllByRecursion IsRightPlace xs → AllPairs AgreesWith xs
+    → IsText lined_at block_at told_at base_at keys_told xs
 text-at xs r h g =
     record {
       stepped = run-stepped 0 [] [] xs r;
@@ -297,7 +322,8 @@ text-at xs r h g =
 
 -- ---- spaces
 
-header-base : (source : Source) (arrays : List Path) (role : Role) (start : ℕ) (ss : List Segment) → base_of (paths (header_mentions source arrays role start [] ss)) ≡ []
+header-base : (source : Source) (arrays : List Path) (role : Role) (start : ℕ) (ss : List Segment)
+    → base_of (paths (header_mentions source arrays role start [] ss)) ≡ []
 header-base source arrays role start [] = refl
 header-base source arrays role start (s ∷ []) = refl
 header-base source arrays role start (s ∷ r ∷ rest) = refl
@@ -305,25 +331,33 @@ header-base source arrays role start (s ∷ r ∷ rest) = refl
 spaced-place : (c : Context) (s : Statement) → IsAny s → IsSpaced lined_at block_at base_at mentions_at (placed_at c s)
 spaced-place c (key_line f v end) h =
     let own : List (Mention Source) = mentions_of c (key_line f v end) in
-    let path_is : own_path own ≡ f.path = own-line (source_of c (key_line f v end)) (c.start + path_start (key_line f v end)) c.block f.path in
-    let base : base_at (placed_at c (key_line f v end)) ≡ c.block = base-line c.block (placed_at c (key_line f v end)) (place-line c (key_line f v end) h refl) in
+    let path_is : own_path own ≡ f.path =
+    own-line (source_of c (key_line f v end)) (c.start + path_start (key_line f v end)) c.block f.path in
+    let base : base_at (placed_at c (key_line f v end)) ≡ c.block =
+    base-line c.block (placed_at c (key_line f v end)) (place-line c (key_line f v end) h refl) in
     let whole : IsWhole (base_at (placed_at c (key_line f v end))) own =
-    subst (λ b. IsWhole b own) (sym base) (line-whole (source_of c (key_line f v end)) (c.start + path_start (key_line f v end)) c.block f.path) in
+    subst (λ b. IsWhole b own) (sym base) (line-whole (source_of c (key_line f v end)) (c.start
+    + path_start (key_line f v end)) c.block f.path) in
     record {
       whole = whole;
-      own = own-trimmed (base_at (placed_at c (key_line f v end))) own whole (ap begins_unspaced path_is ∙ h.0.1.begins) (ap ends_unspaced path_is ∙ h.0.1.ends);
+      own = own-trimmed (base_at (placed_at c (key_line f v end))) own whole (ap begins_unspaced path_is
+          ∙ h.0.1.begins) (ap ends_unspaced path_is ∙ h.0.1.ends);
       header_base = λ e. absurd cc;
       roles = λ e. place-roles c (key_line f v end) refl;
     }
 spaced-place c (header e end) h =
     let own : List (Mention Source) = mentions_of c (header e end) in
-    let path_is : own_path own ≡ e.path = own-header (source_of c (header e end)) c.arrays (header_role_of e) (c.start + path_start (header e end)) [] e.path in
-    let base : base_at (placed_at c (header e end)) ≡ [] = header-base (source_of c (header e end)) c.arrays (header_role_of e) (c.start + path_start (header e end)) e.path in
+    let path_is : own_path own ≡ e.path =
+    own-header (source_of c (header e end)) c.arrays (header_role_of e) (c.start + path_start (header e end)) [] e.path in
+    let base : base_at (placed_at c (header e end)) ≡ [] =
+    header-base (source_of c (header e end)) c.arrays (header_role_of e) (c.start + path_start (header e end)) e.path in
     let whole : IsWhole (base_at (placed_at c (header e end))) own =
-    subst (λ b. IsWhole b own) (sym base) (header-whole (source_of c (header e end)) c.arrays (header_role_of e) (c.start + path_start (header e end)) [] e.path (array-last e.is_array)) in
+    subst (λ b. IsWhole b own) (sym base) (header-whole (source_of c (header e end)) c.arrays (header_role_of e) (c.start
+    + path_start (header e end)) [] e.path (array-last e.is_array)) in
     record {
       whole = whole;
-      own = own-trimmed (base_at (placed_at c (header e end))) own whole (ap begins_unspaced path_is ∙ h.0.1.begins) (ap ends_unspaced path_is ∙ h.0.1.ends);
+      own = own-trimmed (base_at (placed_at c (header e end))) own whole (ap begins_unspaced path_is
+          ∙ h.0.1.begins) (ap ends_unspaced path_is ∙ h.0.1.ends);
       header_base = λ l. base;
       roles = λ l. absurd cc;
     }
@@ -331,7 +365,8 @@ spaced-place c (header e end) h =
 pub spaced-at : (x : Placed) → IsRightPlace x → IsSpaced lined_at block_at base_at mentions_at x
 spaced-at x (c, s, is, h, g) = subst (IsSpaced lined_at block_at base_at mentions_at) (sym is) (spaced-place c s h)
 
-stays-at : (x y : Placed) → IsRightPlace x → IsRightPlace y → Follows lined_at block_at told_at base_at keys_told x y × Shares lined_at block_at told_at base_at keys_told x y × AgreesWith x y
+stays-at : (x y : Placed) → IsRightPlace x → IsRightPlace y → Follows lined_at block_at told_at base_at keys_told x y
+    × Shares lined_at block_at told_at base_at keys_told x y × AgreesWith x y
     → Stays lined_at block_at base_at mentions_at x y
 stays-at x y h g k = (
   k.0,
@@ -344,18 +379,25 @@ stays-at x y h g k = (
       (agree-at may_meet x.mentions y.mentions m n k.2 i j e)),
 )
 
-pub stay-all : (xs : List Placed) → AllByRecursion IsRightPlace xs → IsText lined_at block_at told_at base_at keys_told xs → AllPairs AgreesWith xs
+pub stay-all : (xs : List Placed) → AllByRecursion IsRightPlace xs → IsText lined_at block_at told_at base_at keys_told xs
+    → AllPairs AgreesWith xs
     → AllPairs (Stays lined_at block_at base_at mentions_at) xs
 stay-all xs h t g =
-    pairs-of IsRightPlace (λ x y. Follows lined_at block_at told_at base_at keys_told x y × Shares lined_at block_at told_at base_at keys_told x y × AgreesWith x y) (Stays lined_at block_at base_at mentions_at) xs stays-at h (three xs t.follow t.shares g)
+    pairs-of IsRightPlace (λ x y. Follows lined_at block_at told_at base_at keys_told x y
+    × Shares lined_at block_at told_at base_at keys_told x y
+    × AgreesWith x y) (Stays lined_at block_at base_at mentions_at) xs stays-at h (three xs t.follow t.shares g)
   where
-    each : (x : Placed) (ys : List Placed) → AllByRecursion (Follows lined_at block_at told_at base_at keys_told x) ys → AllByRecursion (Shares lined_at block_at told_at base_at keys_told x) ys
+    each : (x : Placed) (ys : List Placed) → AllByRecursion (Follows lined_at block_at told_at base_at keys_told x) ys
+        → AllByRecursion (Shares lined_at block_at told_at base_at keys_told x) ys
         → AllByRecursion (AgreesWith x) ys
-        → AllByRecursion (λ y. Follows lined_at block_at told_at base_at keys_told x y × Shares lined_at block_at told_at base_at keys_told x y × AgreesWith x y) ys
+        → AllByRecursion (λ y. Follows lined_at block_at told_at base_at keys_told x y
+        × Shares lined_at block_at told_at base_at keys_told x y × AgreesWith x y) ys
     each x [] a b c = tt
     each x (y ∷ ys) a b c = ((a.0, b.0, c.0), each x ys a.1 b.1 c.1)
 
-    three : (ys : List Placed) → AllPairs (Follows lined_at block_at told_at base_at keys_told) ys → AllPairs (Shares lined_at block_at told_at base_at keys_told) ys → AllPairs AgreesWith ys
-        → AllPairs (λ x y. Follows lined_at block_at told_at base_at keys_told x y × Shares lined_at block_at told_at base_at keys_told x y × AgreesWith x y) ys
+    three : (ys : List Placed) → AllPairs (Follows lined_at block_at told_at base_at keys_told) ys
+        → AllPairs (Shares lined_at block_at told_at base_at keys_told) ys → AllPairs AgreesWith ys
+        → AllPairs (λ x y. Follows lined_at block_at told_at base_at keys_told x y × Shares lined_at block_at told_at base_at keys_told x y
+        × AgreesWith x y) ys
     three [] a b c = tt
     three (y ∷ ys) a b c = (each y ys a.0 b.0 c.0, three ys a.1 b.1 c.1)

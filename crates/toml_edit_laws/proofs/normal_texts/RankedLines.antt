@@ -25,8 +25,10 @@ use Rattle.toml_edit_laws.proofs.normal_texts.LineOrder.{lines_ordered, ranked, 
 use Rattle.toml_edit_laws.proofs.normal_texts.LinePaths.{strict}
 use Rattle.toml_edit_laws.proofs.normal_texts.NormalSettled.{are-placed}
 use Rattle.toml_edit_laws.proofs.normal_texts.OrderedPairs.{mentions-of}
-use Rattle.toml_edit_laws.proofs.normal_texts.PlacedLines.{lined_at, block_at, told_at, base_at, keys_told, ordered-lines, line-test, paths-mentions, text-at}
-use Rattle.toml_edit_laws.proofs.normal_texts.SettledValues.{paths, place_of, rank-is, Told, a_line, one_block, no_base, keys_in, Framed, each-framed, sorted-lines, text-of, pair-test}
+use Rattle.toml_edit_laws.proofs.normal_texts.PlacedLines.{lined_at, block_at, told_at, base_at, keys_told, ordered-lines, line-test}
+use Rattle.toml_edit_laws.proofs.normal_texts.PlacedLines.{paths-mentions, text-at}
+use Rattle.toml_edit_laws.proofs.normal_texts.SettledValues.{paths, place_of, rank-is, Told, a_line, one_block, no_base, keys_in, Framed}
+use Rattle.toml_edit_laws.proofs.normal_texts.SettledValues.{each-framed, sorted-lines, text-of, pair-test}
 
 -- ---- each two
 
@@ -49,14 +51,16 @@ to-recursion R (x ∷ xs) h = (
 
 module _ {A : Type 0} (R : A → A → Type 0) (one_way : (x y : A) → R x y → R y x → ⊥) where
   -- the others of a list, in the others of one with the same elements
-  rest-among : (x : A) (xs ys : List A) → AllByRecursion (R x) xs → ((a : A) → Among a (x ∷ xs) → Among a (x ∷ ys)) → (a : A) → Among a xs → Among a ys
+  rest-among : (x : A) (xs ys : List A) → AllByRecursion (R x) xs → ((a : A) → Among a (x ∷ xs) → Among a (x ∷ ys)) → (a : A) → Among a xs
+      → Among a ys
   rest-among x xs ys h into a m =
       elim (into a (inr m)) [
         | inl e ↦ (let itself : R x x = subst (R x) e (all-among (R x) a xs h m) in absurd (one_way x x itself itself))
         | inr n ↦ n
       ]
 
-  same-order : (xs ys : List A) → PairsByRecursion R xs → PairsByRecursion R ys → ((a : A) → Among a xs → Among a ys) → ((a : A) → Among a ys → Among a xs)
+  same-order : (xs ys : List A) → PairsByRecursion R xs → PairsByRecursion R ys → ((a : A) → Among a xs → Among a ys)
+      → ((a : A) → Among a ys → Among a xs)
       → xs ≡ ys
   same-order [] [] h g into back = refl
   same-order [] (y ∷ ys) h g into back = absurd (back y (inl refl))
@@ -74,7 +78,8 @@ module _ {A : Type 0} (R : A → A → Type 0) (one_way : (x y : A) → R x y �
       let come : (a : A) → Among a (x ∷ ys) → Among a (x ∷ xs) = λ a m. back a (subst (λ z. Among a (z ∷ ys)) first m) in
       ap (λ z. z ∷ xs) first
       ∙ ap (λ zs. y ∷ zs)
-      (same-order xs ys h.1 g.1 (rest-among x xs ys h.0 go) (rest-among x ys xs (subst (λ z. AllByRecursion (R z) ys) (sym first) g.0) come))
+      (same-order xs ys h.1 g.1 (rest-among x xs ys h.0 go)
+      (rest-among x ys xs (subst (λ z. AllByRecursion (R z) ys) (sym first) g.0) come))
 
   moved : (xs ys : List A) → IsPermutation xs ys → (a : A) → Among a xs → Among a ys
   moved xs ys p a m = from-contained a ys (Contains-permutation xs ys a p (to-contained a xs m))
@@ -127,7 +132,8 @@ ranked-before r u same (m ∷ ms) (n ∷ ns) h =
     ]
 
 -- neither goes before the other where each does
-parts-clash : (u : Path → ℕ) (s t : List Path) (p o i j : Path) (ps os is js : List Path) → s ++ (p ∷ ps) ≡ t ++ (j ∷ js) → s ++ (o ∷ os) ≡ t ++ (i ∷ is)
+parts-clash : (u : Path → ℕ) (s t : List Path) (p o i j : Path) (ps os is js : List Path) → s ++ (p ∷ ps) ≡ t ++ (j ∷ js) → s ++ (o ∷ os)
+    ≡ t ++ (i ∷ is)
     → u p < u o → u i < u j → ⊥
 parts-clash u [] [] p o i j ps os is js e f h g =
     let a : u p ≡ u j = (let same : p ≡ j = cc in ap u same) in
@@ -159,7 +165,8 @@ goes-one-way u x y (inl a) (inr b) = (let e : y.source.headers ≡ x.source.head
 goes-one-way u x y (inr a) (inl b) = (let e : x.source.headers ≡ y.source.headers = a.0 in omega arith)
 goes-one-way u x y (inr a) (inr b) = ranked-one-way u x.mentions y.mentions (a.2 b.1) (b.2 a.1)
 
-rank-of-places : (places : List Placed) (q : Path) → rank (mention_lists places) q ≡ ranked lined_at block_at told_at base_at keys_told places q
+rank-of-places : (places : List Placed) (q : Path) → rank (mention_lists places) q
+    ≡ ranked lined_at block_at told_at base_at keys_told places q
 rank-of-places places q = rank-is (mention_lists places) q ∙ ap (λ ps. place_of ps q) (paths-mentions places)
 
 goes-before : (places : List Placed) (x y : Placed)
@@ -194,7 +201,8 @@ lines-in-order =
       sorted =
           λ d h g.
           let mss = mention_lists (placed d) in
-          only-order (GoesBefore (rank mss)) (goes-one-way (rank mss)) (placed d) (ordered mss (placed d)) (kept-lines mss (placed d)) (lines-ranked d h g);
+          only-order (GoesBefore (rank mss)) (goes-one-way (rank mss)) (placed d) (ordered mss (placed d)) (kept-lines mss (placed d))
+          (lines-ranked d h g);
     }
 
 -- ---- pairs
@@ -215,6 +223,8 @@ pairs-in-order =
           let text = text-of mss (mentions-of Framed 0 0 ps h (each-framed ps h)) (all_agree-pairs may_meet_inline mss g) in
           only-order (IsRankedBefore (rank mss)) (ranked-one-way (rank mss)) mss (sorted_by test mss) (kept-sorted test mss)
           (subst (PairsByRecursion (IsRankedBefore (rank mss))) (sym (sorted-lines test mss))
-          (pairs-map (Before a_line one_block paths no_base keys_in (ranked a_line one_block paths no_base keys_in mss)) (IsRankedBefore (rank mss))
-          (lines_ordered a_line test mss) (pair-ranked mss) (in-order a_line one_block paths no_base keys_in test mss (pair-test mss mss refl) text)));
+          (pairs-map (Before a_line one_block paths no_base keys_in (ranked a_line one_block paths no_base keys_in mss))
+          (IsRankedBefore (rank mss))
+          (lines_ordered a_line test mss) (pair-ranked mss) (in-order a_line one_block paths no_base keys_in test mss
+          (pair-test mss mss refl) text)));
     }

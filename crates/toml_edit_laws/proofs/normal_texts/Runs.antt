@@ -5,10 +5,12 @@ use Rattle.std.proofs.lemmas.Bool.{cases_Bool}
 use Rattle.toml_edit_model.specs.Mode.{Mode, plain, exact}
 use Rattle.toml_edit_model.specs.Text.{Text}
 use Rattle.toml_edit_model.specs.Syntax.{Segment, Statement, key_line, header, Document, open_statements}
-use Rattle.toml_edit_model.specs.Paths.{at_key, Path, to_element, Mention, Source, Placed, Context, elements_at, header_path, header_role_of, keys_of, path_start, source_of, mentions_of, context_after, placed_from}
+use Rattle.toml_edit_model.specs.Paths.{at_key, Path, to_element, Mention, Source, Placed, Context, elements_at, header_path}
+use Rattle.toml_edit_model.specs.Paths.{header_role_of, keys_of, path_start, source_of, mentions_of, context_after, placed_from}
 use Rattle.toml_edit_model.specs.Normal.{is_line, line_before, ordered, normal_end, has_open_end, normal_last, normal_statement}
 use Rattle.toml_edit_laws.proofs.normal_texts.SettledStays.{own-line, own-header}
-use Rattle.toml_edit_laws.proofs.normal_texts.Cores.{header_cores, header_place, line-cores, header-cores, header-place, AreKeyed, statement-keyed, kept-path-keys}
+use Rattle.toml_edit_laws.proofs.normal_texts.Cores.{header_cores, header_place, line-cores, header-cores, header-place, AreKeyed}
+use Rattle.toml_edit_laws.proofs.normal_texts.Cores.{statement-keyed, kept-path-keys}
 use Rattle.toml_edit_laws.proofs.common.Cores.{cores, keys_of_segments, line_cores}
 use Rattle.toml_edit_laws.proofs.mentions.Placed.{placed_at, source-statement}
 use Rattle.toml_edit_model.specs.Order.{insert_by}
@@ -42,12 +44,14 @@ pub is-placed-line : (x : Placed) (c : Context) (s : Statement) → x ≡ placed
 is-placed-line x c s e h = sym (ap is_line (ap (λ y. y.source.statement) e ∙ source-statement c s)) ∙ h
 
 -- after a line the run goes on as before it
-line-rest : (n : ℕ) (arrays : List Path) (block : Path) (x : Placed) (xs : List Placed) → is_line x.source.statement ≡ true → Run n arrays block (x ∷ xs) → Run n arrays block xs
+line-rest : (n : ℕ) (arrays : List Path) (block : Path) (x : Placed) (xs : List Placed) → is_line x.source.statement ≡ true
+    → Run n arrays block (x ∷ xs) → Run n arrays block xs
 line-rest n arrays block x xs h (c, s, e, f, g, k, rest) =
     let same = line-same c s (is-placed-line x c s e h) in
     run-at xs (same.0 ∙ f) (same.1 ∙ g) (same.2 ∙ k) rest
 
-line-front : (n : ℕ) (arrays : List Path) (block : Path) (x : Placed) (xs ys : List Placed) → is_line x.source.statement ≡ true → Run n arrays block (x ∷ xs) → Run n arrays block ys
+line-front : (n : ℕ) (arrays : List Path) (block : Path) (x : Placed) (xs ys : List Placed) → is_line x.source.statement ≡ true
+    → Run n arrays block (x ∷ xs) → Run n arrays block ys
     → Run n arrays block (x ∷ ys)
 line-front n arrays block x xs ys h (c, s, e, f, g, k, rest) r =
     let same = line-same c s (is-placed-line x c s e h) in
@@ -61,7 +65,8 @@ not-before mss x y h = by_kind (is_line y.source.statement) (stands_before (rank
     by_kind true r h = refl
     by_kind false r h = absurd cc
 
-insert-run : (mss : List (List (Mention Source))) (n : ℕ) (arrays : List Path) (block : Path) (x : Placed) (ys xs : List Placed) → is_line x.source.statement ≡ true
+insert-run : (mss : List (List (Mention Source))) (n : ℕ) (arrays : List Path) (block : Path) (x : Placed) (ys xs : List Placed)
+    → is_line x.source.statement ≡ true
     → Run n arrays block (x ∷ xs) → Run n arrays block ys → Run n arrays block (insert_by (line_before mss) x ys)
 insert-run mss n arrays block x [] xs h r u = line-front n arrays block x xs [] h r tt
 insert-run mss n arrays block x (y ∷ ys) xs h r u =
@@ -74,13 +79,24 @@ insert-run mss n arrays block x (y ∷ ys) xs h r u =
           (insert-run mss n arrays block x ys xs h r (line-rest n arrays block y ys is u)))
     ]
 
-pub ordered-run : (mss : List (List (Mention Source))) (n : ℕ) (arrays : List Path) (block : Path) (xs : List Placed) → Run n arrays block xs → Run n arrays block (ordered mss xs)
+pub ordered-run : (mss : List (List (Mention Source))) (n : ℕ) (arrays : List Path) (block : Path) (xs : List Placed)
+    → Run n arrays block xs → Run n arrays block (ordered mss xs)
 ordered-run mss n arrays block [] r = tt
 ordered-run mss n arrays block (x ∷ xs) r =
     elim (cases_Bool (is_line x.source.statement)) [
       | inl e ↦
-          rw e (insert-run mss n arrays block x (ordered mss xs) xs e r (ordered-run mss n arrays block xs (line-rest n arrays block x xs e r)))
-      | inr e ↦ rw e (r.0, r.1, r.2, r.3, r.4, r.5, ordered-run mss (context_after r.0 r.1).headers (context_after r.0 r.1).arrays (context_after r.0 r.1).block xs r.6)
+          rw e (insert-run mss n arrays block x (ordered mss xs) xs e r
+          (ordered-run mss n arrays block xs (line-rest n arrays block x xs e r)))
+      | inr e ↦ rw e (
+        r.0,
+        r.1,
+        r.2,
+        r.3,
+        r.4,
+        r.5,
+        ordered-run mss (context_after r.0 r.1).headers (context_after r.0 r.1).arrays
+            (context_after r.0 r.1).block xs r.6,
+      )
     ]
 
 -- two contexts are alike but for places
@@ -124,7 +140,8 @@ module _ (mode : Mode) where
   AreNormal ms (x ∷ xs) [] = ⊥
   AreNormal ms (x ∷ xs) (y ∷ ys) = IsNormal ms x y × AreNormal ms xs ys
 
-  pub ended-place : (ms : List (Mention Source)) (c d : Context) (s : Statement) (e : Text) → is_settled_end mode e ≡ true → AreAlike c d → AreKeyed ms
+  pub ended-place : (ms : List (Mention Source)) (c d : Context) (s : Statement) (e : Text) → is_settled_end mode e ≡ true → AreAlike c d
+      → AreKeyed ms
       → IsNormal ms (placed_at c s) (placed_at d (with_end e (normal_statement mode ms (placed_at c s) s)))
       × AreAlike (context_after c s) (context_after d (with_end e (normal_statement mode ms (placed_at c s) s)))
   ended-place ms c d (key_line f v end) x settled h g =
@@ -153,7 +170,8 @@ module _ (mode : Mode) where
       let to : Statement = with_end x (normal_statement mode ms (placed_at c (header e end)) (header e end)) in
       let same : keys_of_segments (kept_path ms own) ≡ keys_of_segments e.path =
       kept-path-keys ms own g (statement-keyed c (header e end))
-      ∙ ap keys_of_segments (own-header (source_of c (header e end)) c.arrays (header_role_of e) (c.start + path_start (header e end)) [] e.path) in
+      ∙ ap keys_of_segments (own-header (source_of c (header e end)) c.arrays (header_role_of e) (c.start
+      + path_start (header e end)) [] e.path) in
       let path_is : header_path d.arrays [] (kept_path ms own) ≡ header_path c.arrays [] e.path =
       header-place d.arrays [] (kept_path ms own)
       ∙ ap (λ a. header_place a [] (keys_of_segments (kept_path ms own))) h.0 ∙ ap (header_place c.arrays []) same
@@ -165,19 +183,23 @@ module _ (mode : Mode) where
           path = path_is;
           cores =
               header-cores (source_of d to) d.arrays (header_role_of e) (d.start + path_start to) [] (kept_path ms own)
-              ∙ ap (λ a. header_cores a (header_role_of e) [] (keys_of_segments (kept_path ms own))) h.0 ∙ ap (header_cores c.arrays (header_role_of e) []) same
+              ∙ ap (λ a. header_cores a (header_role_of e) [] (keys_of_segments (kept_path ms own))) h.0
+              ∙ ap (header_cores c.arrays (header_role_of e) []) same
               ∙ sym (header-cores (source_of c (header e end)) c.arrays (header_role_of e) (c.start + path_start (header e end)) [] e.path);
           segments = own-header (source_of d to) d.arrays (header_role_of e) (d.start + path_start to) [] (kept_path ms own);
         },
         (
-          ap (λ p. if e.is_array then p ∷ d.arrays else d.arrays) path_is ∙ ap (λ a. if e.is_array then header_path c.arrays [] e.path ∷ a else a) h.0,
+          ap (λ p. if e.is_array then p ∷ d.arrays else d.arrays) path_is
+              ∙ ap (λ a. if e.is_array then header_path c.arrays [] e.path ∷ a else a) h.0,
           ap (λ p. if e.is_array then to_element p (elements_at d.arrays p) else p) path_is
-              ∙ ap (λ a. if e.is_array then to_element (header_path c.arrays [] e.path) (elements_at a (header_path c.arrays [] e.path)) else header_path c.arrays [] e.path) h.0,
+              ∙ ap (λ a. if e.is_array then to_element (header_path c.arrays [] e.path) (elements_at a (header_path c.arrays [] e.path))
+              else header_path c.arrays [] e.path) h.0,
         ),
       )
 
   pub normal-place : (ms : List (Mention Source)) (c d : Context) (s : Statement) → AreAlike c d → AreKeyed ms
-      → IsNormal ms (placed_at c s) (placed_at d (normal_statement mode ms (placed_at c s) s)) × AreAlike (context_after c s) (context_after d (normal_statement mode ms (placed_at c s) s))
+      → IsNormal ms (placed_at c s) (placed_at d (normal_statement mode ms (placed_at c s) s))
+      × AreAlike (context_after c s) (context_after d (normal_statement mode ms (placed_at c s) s))
   normal-place ms c d (key_line f v end) h g = ended-place ms c d (key_line f v end) (normal_end mode end) (settled-end mode end) h g
   normal-place ms c d (header k end) h g = ended-place ms c d (header k end) (normal_end mode end) (settled-end mode end) h g
 
@@ -195,12 +217,14 @@ module _ (mode : Mode) where
   normal-ended ms [] = tt
   normal-ended ms (x ∷ xs) = (by_kind x.source.statement, normal-ended ms xs)
     where
-      by_kind : (s : Statement) → (end : Text) × (is_settled_end mode end ≡ true) × (normal_statement mode ms x s ≡ with_end end (normal_statement mode ms x s))
+      by_kind : (s : Statement) → (end : Text) × (is_settled_end mode end ≡ true)
+          × (normal_statement mode ms x s ≡ with_end end (normal_statement mode ms x s))
       by_kind (key_line f v end) = (normal_end mode end, settled-end mode end, refl)
       by_kind (header h end) = (normal_end mode end, settled-end mode end, refl)
 
   -- The normal forms of a run, however they end, stand in their places as the run does.
-  pub ended-run : (ms : List (Mention Source)) (n : ℕ) (arrays : List Path) (block : Path) (d : Context) (xs : List Placed) (ts : List Statement) → AreKeyed ms → Run n arrays block xs
+  pub ended-run : (ms : List (Mention Source)) (n : ℕ) (arrays : List Path) (block : Path) (d : Context) (xs : List Placed)
+      (ts : List Statement) → AreKeyed ms → Run n arrays block xs
       → d.arrays ≡ arrays → d.block ≡ block → AreEnded (map (λ s. normal_statement mode ms s s.source.statement) xs) ts
       → AreNormal ms xs (placed_from d ts)
   ended-run ms n arrays block d [] [] g r e f h = tt
@@ -217,7 +241,8 @@ module _ (mode : Mode) where
       let here : IsNormal ms (placed_at c s) (placed_at d new) = first.0 in
       subst (λ u. AreNormal ms (x ∷ xs) (placed_at d u ∷ placed_from (context_after d u) ts)) (sym to) (
         subst (λ y. IsNormal ms y (placed_at d new)) (sym is) here,
-        ended-run ms (context_after c s).headers (context_after c s).arrays (context_after c s).block (context_after d new) xs ts g rest first.1.0 first.1.1 h.1,
+        ended-run ms (context_after c s).headers (context_after c s).arrays (context_after c s).block (context_after d new) xs ts g rest
+            first.1.0 first.1.1 h.1,
       )
 
 -- ---- the last statement left open

@@ -5,15 +5,24 @@ use Rattle.std.specs.List.{AllByRecursion, list_all}
 use Rattle.toml_edit_model.specs.Mode.{Mode, plain, exact, shown_text}
 use Rattle.toml_edit_model.specs.Text.{Text, newline, same_text, is_empty, has_byte, carriage_return, without_returns}
 use Rattle.toml_edit_model.specs.Trivia.{IsNewline, lf, crlf}
-use Rattle.toml_edit_model.specs.Syntax.{Segment, Around, Frame, Value, scalar, array, inline_table, Elements, no_elements, element, Pairs, no_pairs, pair, Statement, key_line, header, Document, value_text, frame_text, document_text, newline_after, without_newline, open_statements, begins_unspaced, IsValue, AreElements, ArePairs, IsDocument, IsStatement, AreStatements}
-use Rattle.toml_edit_model.specs.Paths.{Path, to_key, Mention, Source, PairSource, Placed, Context, line_mentions, header_mentions, next_start, elements_at, in_last, header_role_of, path_start, source_of, mentions_of, context_after, placed_from, placed, start_context, pair_mentions}
-use Rattle.toml_edit_model.specs.Normal.{line_before, is_line, ordered, has_open_end, normal_end, normal_last, kept_pair, some_of, pairs_of, pair_before, ordered_pairs, shown_frame, shown_around, normal_value, normal_elements, normal_pairs, kept_statement, opening_of, closing_of, normal_statement, normal_in, normal_text_in}
+use Rattle.toml_edit_model.specs.Syntax.{Segment, Around, Frame, Value, scalar, array, inline_table, Elements, no_elements, element, Pairs}
+use Rattle.toml_edit_model.specs.Syntax.{no_pairs, pair, Statement, key_line, header, Document, value_text, frame_text, document_text}
+use Rattle.toml_edit_model.specs.Syntax.{newline_after, without_newline, open_statements, begins_unspaced, IsValue, AreElements, ArePairs}
+use Rattle.toml_edit_model.specs.Syntax.{IsDocument, IsStatement, AreStatements}
+use Rattle.toml_edit_model.specs.Paths.{Path, to_key, Mention, Source, PairSource, Placed, Context, line_mentions, header_mentions}
+use Rattle.toml_edit_model.specs.Paths.{next_start, elements_at, in_last, header_role_of, path_start, source_of, mentions_of, context_after}
+use Rattle.toml_edit_model.specs.Paths.{placed_from, placed, start_context, pair_mentions}
+use Rattle.toml_edit_model.specs.Normal.{line_before, is_line, ordered, has_open_end, normal_end, normal_last, kept_pair, some_of, pairs_of}
+use Rattle.toml_edit_model.specs.Normal.{pair_before, ordered_pairs, shown_frame, shown_around, normal_value, normal_elements, normal_pairs}
+use Rattle.toml_edit_model.specs.Normal.{kept_statement, opening_of, closing_of, normal_statement, normal_in, normal_text_in}
 use Rattle.toml_edit_laws.proofs.common.Tests.{and_left, and_right, and_both, if-true, not-true, same_text-is}
 use Rattle.toml_edit_laws.proofs.common.LineEnds.{IsEnd}
 use Rattle.toml_edit_laws.proofs.mentions.Placed.{placed_at, source-statement}
 use Rattle.toml_edit_model.specs.Order.{insert_by, sorted_by, is_sorted_by}
 use Rattle.toml_edit_model.specs.Roles.{Role}
-use Rattle.toml_edit_model.specs.Settled.{has_no_return, is_shown_text, is_settled_end, same_segment, same_segments, own_path, is_kept, are_settled_pairs, is_shown_frame, is_settled_value, are_settled_elements, have_settled_values, has_ordered_lines, is_settled_statement, is_settled_in}
+use Rattle.toml_edit_model.specs.Settled.{has_no_return, is_shown_text, is_settled_end, same_segment, same_segments, own_path, is_kept}
+use Rattle.toml_edit_model.specs.Settled.{are_settled_pairs, is_shown_frame, is_settled_value, are_settled_elements, have_settled_values}
+use Rattle.toml_edit_model.specs.Settled.{has_ordered_lines, is_settled_statement, is_settled_in}
 use Rattle.toml_edit_model.specs.Kept.{kept_path}
 
 -- ---- lines in order stay where they are
@@ -31,7 +40,8 @@ ordered-sorted mss (a ∷ b ∷ xs) h =
     (ordered-sorted mss (b ∷ xs) (and_right test (has_ordered_lines mss (b ∷ xs)) h))
     ∙ by_kind (is_line a.source.statement) (and_left test (has_ordered_lines mss (b ∷ xs)) h)
   where
-    by_kind : (c : Bool) → (not c || line_before mss a b) ≡ true → (if c then insert_by (line_before mss) a (b ∷ xs) else a ∷ b ∷ xs) ≡ a ∷ b ∷ xs
+    by_kind : (c : Bool) → (not c || line_before mss a b) ≡ true → (if c then insert_by (line_before mss) a (b ∷ xs) else a ∷ b ∷ xs) ≡ a
+        ∷ b ∷ xs
     by_kind true h = if-true (line_before mss a b) (a ∷ b ∷ xs) (b ∷ insert_by (line_before mss) a xs) h
     by_kind false h = refl
 
@@ -44,12 +54,16 @@ sorted_by-sorted before (a ∷ b ∷ xs) h =
 
 same_segment-is : (s r : Segment) → same_segment s r ≡ true → s ≡ r
 same_segment-is s r h =
-    let first = and_left (same_text s.before r.before && same_text s.after r.after) (same_text s.key r.key && same_text s.spelled r.spelled) h in
-    let second = and_right (same_text s.before r.before && same_text s.after r.after) (same_text s.key r.key && same_text s.spelled r.spelled) h in
-    let a : s.before ≡ r.before = same_text-is s.before r.before (and_left (same_text s.before r.before) (same_text s.after r.after) first) in
+    let first = and_left (same_text s.before r.before && same_text s.after r.after) (same_text s.key r.key
+    && same_text s.spelled r.spelled) h in
+    let second = and_right (same_text s.before r.before && same_text s.after r.after) (same_text s.key r.key
+    && same_text s.spelled r.spelled) h in
+    let a : s.before ≡ r.before =
+    same_text-is s.before r.before (and_left (same_text s.before r.before) (same_text s.after r.after) first) in
     let b : s.after ≡ r.after = same_text-is s.after r.after (and_right (same_text s.before r.before) (same_text s.after r.after) first) in
     let c : s.key ≡ r.key = same_text-is s.key r.key (and_left (same_text s.key r.key) (same_text s.spelled r.spelled) second) in
-    let d : s.spelled ≡ r.spelled = same_text-is s.spelled r.spelled (and_right (same_text s.key r.key) (same_text s.spelled r.spelled) second) in
+    let d : s.spelled ≡ r.spelled =
+    same_text-is s.spelled r.spelled (and_right (same_text s.key r.key) (same_text s.spelled r.spelled) second) in
     ap (λ t. record s { before = t }) a ∙ ap (λ t. record r { key = s.key; spelled = s.spelled; after = t }) b
     ∙ ap (λ t. record r { spelled = s.spelled; key = t }) c ∙ ap (λ t. record r { spelled = t }) d
 
@@ -75,14 +89,22 @@ own-header source arrays role start p (s ∷ r ∷ rest) =
     let here : Path = to_key p s.key in
     ap (λ ss. s ∷ ss) (own-header source arrays role (next_start start s) (in_last (elements_at arrays here) here) (r ∷ rest))
 
-pub kept-pair : (all : List (Mention PairSource)) (source : PairSource) (start : ℕ) (p : Path) (ss : List Segment) → begins_unspaced ss ≡ true
-    → kept_pair all (line_mentions source start p ss) ≡ Some (record source.frame { path = kept_path all (line_mentions source start p ss) }, source.value)
+pub kept-pair : (all : List (Mention PairSource)) (source : PairSource) (start : ℕ) (p : Path) (ss : List Segment) → begins_unspaced ss
+    ≡ true
+    → kept_pair all (line_mentions source start p ss) ≡ Some (
+      record source.frame {
+        path =
+            kept_path all (line_mentions source start p ss);
+      },
+      source.value,
+    )
 kept-pair all source start p [] h = absurd cc
 kept-pair all source start p (s ∷ []) h = refl
 kept-pair all source start p (s ∷ r ∷ rest) h = refl
 
 -- pairs that are spelled as their kept keys
-kept-pairs : (all : List (Mention PairSource)) (start number : ℕ) (ps : Pairs) → ArePairs ps → list_all (is_kept all) (pair_mentions start ps) ≡ true
+kept-pairs : (all : List (Mention PairSource)) (start number : ℕ) (ps : Pairs) → ArePairs ps
+    → list_all (is_kept all) (pair_mentions start ps) ≡ true
     → pairs_of (some_of (map (kept_pair all) (pair_mentions start ps))) ≡ ps
 kept-pairs all start number no_pairs h g = refl
 kept-pairs all start number (pair f v ps) h g =
@@ -115,7 +137,8 @@ any-statement MayEnd ends (header h end) is = (is.0, ends end is.1)
 
 pub any-statements : (final : Text) (ss : List Statement) → AreStatements final ss → AllByRecursion IsAny ss
 any-statements final [] h = tt
-any-statements final (s ∷ []) h = (any-statement (λ end. IsNewline end ⊎ ((end ≡ []) × (final ≡ []))) (λ end e. elim e [ inl n ↦ inl n | inr n ↦ inr n.0 ]) s h, tt)
+any-statements final (s ∷ []) h =
+    (any-statement (λ end. IsNewline end ⊎ ((end ≡ []) × (final ≡ []))) (λ end e. elim e [ inl n ↦ inl n | inr n ↦ inr n.0 ]) s h, tt)
 any-statements final (s ∷ r ∷ rest) h = (any-statement IsNewline (λ end e. inl e) s h.0, any-statements final (r ∷ rest) h.1)
 
 -- ---- texts without CRs
@@ -174,7 +197,8 @@ all-exact final [] h = refl
 all-exact final (s ∷ []) h = closed-last final s h
 all-exact final (s ∷ r ∷ rest) h =
     by_test (has_open_end (r ∷ rest))
-    ∙ ap (λ x. x ∷ (if has_open_end (r ∷ rest) then open_statements (map (closed exact) (r ∷ rest)) else map (closed exact) (r ∷ rest))) (closed-newline s h.0)
+    ∙ ap (λ x. x ∷ (if has_open_end (r ∷ rest) then open_statements (map (closed exact) (r ∷ rest)) else map (closed exact) (r ∷ rest)))
+    (closed-newline s h.0)
     ∙ ap (λ xs. s ∷ xs) (all-exact final (r ∷ rest) h.1)
   where
     by_test : (b : Bool)
@@ -194,42 +218,53 @@ module _ (mode : Mode) where
 
   lean-frame : (f : Frame) → is_shown_frame mode f ≡ true → shown_frame mode f ≡ f
   lean-frame f h =
-      ap (λ t. record f { leading = t; trailing = shown_text mode f.trailing }) (without_returns-none mode f.leading (and_left (is_shown_text mode f.leading) (is_shown_text mode f.trailing) h))
-      ∙ ap (λ t. record f { trailing = t }) (without_returns-none mode f.trailing (and_right (is_shown_text mode f.leading) (is_shown_text mode f.trailing) h))
+      ap (λ t. record f { leading = t; trailing = shown_text mode f.trailing })
+      (without_returns-none mode f.leading (and_left (is_shown_text mode f.leading) (is_shown_text mode f.trailing) h))
+      ∙ ap (λ t. record f { trailing = t }) (without_returns-none mode f.trailing
+      (and_right (is_shown_text mode f.leading) (is_shown_text mode f.trailing) h))
 
   lean-around : (a : Around) → (is_shown_text mode a.before && is_shown_text mode a.after) ≡ true → shown_around mode a ≡ a
   lean-around a h =
-      ap (λ t. record a { before = t; after = shown_text mode a.after }) (without_returns-none mode a.before (and_left (is_shown_text mode a.before) (is_shown_text mode a.after) h))
-      ∙ ap (λ t. record a { after = t }) (without_returns-none mode a.after (and_right (is_shown_text mode a.before) (is_shown_text mode a.after) h))
+      ap (λ t. record a { before = t; after = shown_text mode a.after })
+      (without_returns-none mode a.before (and_left (is_shown_text mode a.before) (is_shown_text mode a.after) h))
+      ∙ ap (λ t. record a { after = t }) (without_returns-none mode a.after
+      (and_right (is_shown_text mode a.before) (is_shown_text mode a.after) h))
 
   mutual
     pub value-stays : (v : Value) → IsValue v → is_settled_value mode v ≡ true → normal_value mode v ≡ v
     value-stays (scalar s t) h g = refl
     value-stays (array es comma t) h g =
-        ap (λ u. array (normal_elements mode es) comma u) (without_returns-none mode t (and_left (is_shown_text mode t) (are_settled_elements mode es) g))
+        ap (λ u. array (normal_elements mode es) comma u) (without_returns-none mode t
+        (and_left (is_shown_text mode t) (are_settled_elements mode es) g))
         ∙ ap (λ xs. array xs comma t) (elements-stay es h.1 (and_right (is_shown_text mode t) (are_settled_elements mode es) g))
     value-stays (inline_table ps comma t) h g =
         let first : Bool = is_shown_text mode t && are_settled_pairs (pair_mentions 0 ps) in
         let both = and_left first (have_settled_values mode ps) g in
-        ap (λ u. inline_table (ordered_pairs (normal_pairs mode ps)) comma u) (without_returns-none mode t (and_left (is_shown_text mode t) (are_settled_pairs (pair_mentions 0 ps)) both))
+        ap (λ u. inline_table (ordered_pairs (normal_pairs mode ps)) comma u)
+        (without_returns-none mode t (and_left (is_shown_text mode t) (are_settled_pairs (pair_mentions 0 ps)) both))
         ∙ ap (λ xs. inline_table (ordered_pairs xs) comma t) (pairs-stay ps h.1 (and_right first (have_settled_values mode ps) g))
-        ∙ ap (λ xs. inline_table xs comma t) (ordered-pairs ps h.1 (and_right (is_shown_text mode t) (are_settled_pairs (pair_mentions 0 ps)) both))
+        ∙ ap (λ xs. inline_table xs comma t) (ordered-pairs ps h.1
+        (and_right (is_shown_text mode t) (are_settled_pairs (pair_mentions 0 ps)) both))
 
     pub elements-stay : (es : Elements) → AreElements es → are_settled_elements mode es ≡ true → normal_elements mode es ≡ es
     elements-stay no_elements h g = refl
     elements-stay (element a v es) h g =
         let around : Bool = is_shown_text mode a.before && is_shown_text mode a.after in
         let rest = and_right around (is_settled_value mode v && are_settled_elements mode es) g in
-        ap (λ b. element b (normal_value mode v) (normal_elements mode es)) (lean-around a (and_left around (is_settled_value mode v && are_settled_elements mode es) g))
-        ∙ ap (λ w. element a w (normal_elements mode es)) (value-stays v h.2 (and_left (is_settled_value mode v) (are_settled_elements mode es) rest))
+        ap (λ b. element b (normal_value mode v) (normal_elements mode es))
+        (lean-around a (and_left around (is_settled_value mode v && are_settled_elements mode es) g))
+        ∙ ap (λ w. element a w (normal_elements mode es)) (value-stays v h.2
+        (and_left (is_settled_value mode v) (are_settled_elements mode es) rest))
         ∙ ap (element a v) (elements-stay es h.3 (and_right (is_settled_value mode v) (are_settled_elements mode es) rest))
 
     pub pairs-stay : (ps : Pairs) → ArePairs ps → have_settled_values mode ps ≡ true → normal_pairs mode ps ≡ ps
     pairs-stay no_pairs h g = refl
     pairs-stay (pair f v ps) h g =
         let rest = and_right (is_shown_frame mode f) (is_settled_value mode v && have_settled_values mode ps) g in
-        ap (λ e. pair e (normal_value mode v) (normal_pairs mode ps)) (lean-frame f (and_left (is_shown_frame mode f) (is_settled_value mode v && have_settled_values mode ps) g))
-        ∙ ap (λ w. pair f w (normal_pairs mode ps)) (value-stays v h.1 (and_left (is_settled_value mode v) (have_settled_values mode ps) rest))
+        ap (λ e. pair e (normal_value mode v) (normal_pairs mode ps))
+        (lean-frame f (and_left (is_shown_frame mode f) (is_settled_value mode v && have_settled_values mode ps) g))
+        ∙ ap (λ w. pair f w (normal_pairs mode ps)) (value-stays v h.1
+        (and_left (is_settled_value mode v) (have_settled_values mode ps) rest))
         ∙ ap (pair f v) (pairs-stay ps h.2 (and_right (is_settled_value mode v) (have_settled_values mode ps) rest))
 
   -- ---- statements
@@ -244,7 +279,8 @@ module _ (mode : Mode) where
       let path_is : kept_path ms own ≡ f.path =
       sym (same_segments-is (own_path own) (kept_path ms own) (and_left (is_kept ms own) (is_settled_end mode end) second))
       ∙ own-line (source_of c (key_line f v end)) (c.start + path_start (key_line f v end)) c.block f.path in
-      ap (λ e. key_line (record e { path = kept_path ms own }) (normal_value mode v) (normal_end mode end)) (lean-frame f (and_left (is_shown_frame mode f) (is_settled_value mode v) first))
+      ap (λ e. key_line (record e { path = kept_path ms own }) (normal_value mode v) (normal_end mode end))
+      (lean-frame f (and_left (is_shown_frame mode f) (is_settled_value mode v) first))
       ∙ ap (λ p. key_line (record f { path = p }) (normal_value mode v) (normal_end mode end)) path_is
       ∙ ap (λ w. key_line f w (normal_end mode end)) (value-stays v h.1 (and_right (is_shown_frame mode f) (is_settled_value mode v) first))
   statement-stays ms c (header h end) is g =
@@ -257,24 +293,29 @@ module _ (mode : Mode) where
       let path_is : kept_path ms own ≡ h.path =
       sym (same_segments-is (own_path own) (kept_path ms own) (and_left (is_kept ms own) (is_settled_end mode end) second))
       ∙ own-header (source_of c (header h end)) c.arrays (header_role_of h) (c.start + path_start (header h end)) [] h.path in
-      ap (λ t. header (record h { leading = t; opening = opening_of from; path = kept_path ms own; closing = closing_of from }) (normal_end mode end))
+      ap (λ t. header (record h { leading = t; opening = opening_of from; path = kept_path ms own; closing = closing_of from })
+      (normal_end mode end))
       (without_returns-none mode h.leading (and_left (is_shown_text mode h.leading) spaces first))
       ∙ ap (λ t. header (record h { opening = t; path = kept_path ms own; closing = closing_of from }) (normal_end mode end))
-      (sym (same_text-is h.opening (opening_of from) (and_left (same_text h.opening (opening_of from)) (same_text h.closing (closing_of from)) inner)))
+      (sym (same_text-is h.opening (opening_of from) (and_left (same_text h.opening (opening_of from))
+      (same_text h.closing (closing_of from)) inner)))
       ∙ ap (λ p. header (record h { path = p; closing = closing_of from }) (normal_end mode end)) path_is
       ∙ ap (λ t. header (record h { closing = t }) (normal_end mode end))
-      (sym (same_text-is h.closing (closing_of from) (and_right (same_text h.opening (opening_of from)) (same_text h.closing (closing_of from)) inner)))
+      (sym (same_text-is h.closing (closing_of from) (and_right (same_text h.opening (opening_of from))
+      (same_text h.closing (closing_of from)) inner)))
 
   end-settled : (ms : List (Mention Source)) (c : Context) (s : Statement) → is_settled_statement mode ms (placed_at c s) s ≡ true
       → is_settled_end mode (newline_after s) ≡ true
   end-settled ms c (key_line f v end) g =
       let own : List (Mention Source) = mentions_of c (key_line f v end) in
-      and_right (is_kept ms own) (is_settled_end mode end) (and_right (is_shown_frame mode f && is_settled_value mode v) (is_kept ms own && is_settled_end mode end) g)
+      and_right (is_kept ms own) (is_settled_end mode end) (and_right (is_shown_frame mode f && is_settled_value mode v) (is_kept ms own
+      && is_settled_end mode end) g)
   end-settled ms c (header h end) g =
       let own : List (Mention Source) = mentions_of c (header h end) in
       let from : Statement = kept_statement ms (source_of c (header h end)).path (header h end) in
       let spaces : Bool = same_text h.opening (opening_of from) && same_text h.closing (closing_of from) in
-      and_right (is_kept ms own) (is_settled_end mode end) (and_right (is_shown_text mode h.leading && spaces) (is_kept ms own && is_settled_end mode end) g)
+      and_right (is_kept ms own) (is_settled_end mode end) (and_right (is_shown_text mode h.leading && spaces) (is_kept ms own
+      && is_settled_end mode end) g)
 
   statements-stay : (ms : List (Mention Source)) (c : Context) (ss : List Statement) → AllByRecursion IsAny ss
       → list_all (λ s. is_settled_statement mode ms s s.source.statement) (placed_from c ss) ≡ true
@@ -285,12 +326,16 @@ module _ (mode : Mode) where
       let rest : List Placed = placed_from (context_after c s) ss in
       let more : Bool = list_all (λ t. is_settled_statement mode ms t t.source.statement) rest in
       let here : is_settled_statement mode ms (placed_at c s) s ≡ true =
-      ap (is_settled_statement mode ms (placed_at c s)) (sym (source-statement c s)) ∙ and_left (is_settled_statement mode ms (placed_at c s) (source_of c s).statement) more g in
-      let others = statements-stay ms (context_after c s) ss h.1 (and_right (is_settled_statement mode ms (placed_at c s) (source_of c s).statement) more g) in (
-        ap (λ t. normal_statement mode ms (placed_at c s) t ∷ map (λ t. normal_statement mode ms t t.source.statement) rest) (source-statement c s)
+      ap (is_settled_statement mode ms (placed_at c s)) (sym (source-statement c s))
+      ∙ and_left (is_settled_statement mode ms (placed_at c s) (source_of c s).statement) more g in
+      let others = statements-stay ms (context_after c s) ss h.1
+      (and_right (is_settled_statement mode ms (placed_at c s) (source_of c s).statement) more g) in (
+        ap (λ t. normal_statement mode ms (placed_at c s) t
+            ∷ map (λ t. normal_statement mode ms t t.source.statement) rest) (source-statement c s)
             ∙ ap (λ t. t ∷ map (λ u. normal_statement mode ms u u.source.statement) rest) (statement-stays ms c s h.0 here)
             ∙ ap (λ ts. closed mode s ∷ ts) others.0,
-        and_both (is_settled_end mode (newline_after s)) (list_all (λ t. is_settled_end mode (newline_after t)) ss) (end-settled ms c s here) others.1,
+        and_both (is_settled_end mode (newline_after s)) (list_all (λ t. is_settled_end mode (newline_after t)) ss)
+            (end-settled ms c s here) others.1,
       )
 
   -- The normal form of a settled cut is the cut.
@@ -303,12 +348,19 @@ module _ (mode : Mode) where
       let each : Bool = list_all (λ s. is_settled_statement mode ms s s.source.statement) places in
       let first = and_left (not d.has_mark && is_shown_text mode d.final) (lines && each) g in
       let second = and_right (not d.has_mark && is_shown_text mode d.final) (lines && each) g in
-      let stay = statements-stay ms (start_context d) d.statements (any-statements d.final d.statements h.0) (and_right lines each second) in
-      ap (λ xs. record d { has_mark = false; statements = normal_last mode d (map (λ s. normal_statement mode ms s s.source.statement) xs); final = shown_text mode d.final })
+      let stay = statements-stay ms (start_context d) d.statements (any-statements d.final d.statements h.0)
+      (and_right lines each second) in
+      ap (λ xs. record d {
+        has_mark = false;
+        statements =
+            normal_last mode d (map (λ s. normal_statement mode ms s s.source.statement) xs);
+        final = shown_text mode d.final;
+      })
       (ordered-sorted mss places (and_left lines each second))
       ∙ ap (λ xs. record d { has_mark = false; statements = normal_last mode d xs; final = shown_text mode d.final }) stay.0
       ∙ ap (λ xs. record d { has_mark = false; statements = xs; final = shown_text mode d.final }) (ends-stay mode d h stay.1)
-      ∙ ap (λ t. record d { has_mark = false; final = t }) (without_returns-none mode d.final (and_right (not d.has_mark) (is_shown_text mode d.final) first))
+      ∙ ap (λ t. record d { has_mark = false; final = t })
+      (without_returns-none mode d.final (and_right (not d.has_mark) (is_shown_text mode d.final) first))
       ∙ ap (λ b. record d { has_mark = b }) (sym (not-true d.has_mark (and_left (not d.has_mark) (is_shown_text mode d.final) first)))
 
   -- The normal text of a settled cut is its text.

@@ -5,7 +5,10 @@ use Rattle.std.specs.List.{AllByRecursion, list_any, list_all, position_or_len}
 use Rattle.toml_edit_model.specs.Mode.{Mode, shown_text}
 use Rattle.toml_edit_model.specs.Text.{Text, same_text}
 use Rattle.toml_edit_model.specs.Trivia.{IsWholeTrivia}
-use Rattle.toml_edit_model.specs.Syntax.{ends_unspaced, Segment, Frame, Value, scalar, array, inline_table, Elements, no_elements, element, Pairs, no_pairs, pair, begins_unspaced, IsFrame, IsValue, AreElements, ArePairs, is_short, has_short_keys, elements_have_short_keys, pairs_have_short_keys, keeps_ranges, elements_keep_ranges, pairs_keep_ranges}
+use Rattle.toml_edit_model.specs.Syntax.{ends_unspaced, Segment, Frame, Value, scalar, array, inline_table, Elements, no_elements, element}
+use Rattle.toml_edit_model.specs.Syntax.{Pairs, no_pairs, pair, begins_unspaced, IsFrame, IsValue, AreElements, ArePairs, is_short}
+use Rattle.toml_edit_model.specs.Syntax.{has_short_keys, elements_have_short_keys, pairs_have_short_keys, keeps_ranges}
+use Rattle.toml_edit_model.specs.Syntax.{elements_keep_ranges, pairs_keep_ranges}
 use Rattle.toml_edit_model.specs.Paths.{at_key, Path, same_path, to_key, Mention, PairSource, line_mentions, pair_mentions}
 use Rattle.toml_edit_model.specs.Accepted.{agree, all_agree, has_agreeing_pairs, elements_have_agreeing_pairs, pairs_have_agreeing_pairs}
 use Rattle.toml_edit_model.specs.Normal.{pair_before, ordered_pairs, shown_frame, normal_value, normal_elements, normal_pairs}
@@ -18,10 +21,12 @@ use Rattle.toml_edit_laws.proofs.common.Members.{Among, passes-among}
 use Rattle.toml_edit_laws.proofs.normal_texts.SettledStays.{own-line}
 use Rattle.toml_edit_laws.proofs.normal_texts.Lean.{no-return}
 use Rattle.toml_edit_laws.proofs.normal_texts.Agreeing.{of-line, all_agree-pairs}
-use Rattle.toml_edit_laws.proofs.normal_texts.OrderedPairs.{EachPair, IsMentionOf, source_at, mentions-of, ordered-each, AreSpelled, ordered-spelled}
+use Rattle.toml_edit_laws.proofs.normal_texts.OrderedPairs.{EachPair, IsMentionOf, source_at, mentions-of, ordered-each, AreSpelled}
+use Rattle.toml_edit_laws.proofs.normal_texts.OrderedPairs.{ordered-spelled}
 use Rattle.toml_edit_laws.proofs.normal_texts.RightValues.{normal-agree, normal-pairs-right}
 use Rattle.toml_edit_laws.proofs.normal_texts.LinePaths.{line_paths, names, part_keys, stands}
-use Rattle.toml_edit_laws.proofs.normal_texts.LineOrder.{lines_ordered, ranked, Follows, IsLined, IsAlong, Shares, IsText, IsTest, AreStepped, in-order, sorted-anew}
+use Rattle.toml_edit_laws.proofs.normal_texts.LineOrder.{lines_ordered, ranked, Follows, IsLined, IsAlong, Shares, IsText, IsTest}
+use Rattle.toml_edit_laws.proofs.normal_texts.LineOrder.{AreStepped, in-order, sorted-anew}
 use Rattle.toml_edit_laws.proofs.normal_texts.Trims.{is_last_role, line-whole, own-trimmed}
 use Rattle.toml_edit_laws.proofs.normal_texts.KeptAnew.{AreAnew, Stays, Precedes, IsSpaced, anew-all}
 use Rattle.toml_edit_laws.proofs.mentions.Placed.{filled-path}
@@ -29,9 +34,11 @@ use Rattle.toml_edit_laws.proofs.common.Cores.{Core, cores, keys_of_segments}
 use Rattle.toml_edit_laws.proofs.common.Pairs.{AllPairs, pairs-of}
 use Rattle.toml_edit_laws.proofs.common.Each.{all-map, all-image}
 use Rattle.toml_edit_model.specs.Order.{insert_by, sorted_by, is_sorted_by}
-use Rattle.toml_edit_model.specs.Roles.{Role, dotted_role, value_role, implied_role, header_role, array_role, continued_role, may_meet_inline}
+use Rattle.toml_edit_model.specs.Roles.{Role, dotted_role, value_role, implied_role, header_role, array_role, continued_role}
+use Rattle.toml_edit_model.specs.Roles.{may_meet_inline}
 use Rattle.toml_edit_model.specs.Kept.{rank, stands_before, kept_path}
-use Rattle.toml_edit_model.specs.Settled.{own_path, same_segment, same_segments, is_kept, are_settled_pairs, is_shown_text, is_shown_frame, is_settled_value, are_settled_elements, have_settled_values}
+use Rattle.toml_edit_model.specs.Settled.{own_path, same_segment, same_segments, is_kept, are_settled_pairs, is_shown_text, is_shown_frame}
+use Rattle.toml_edit_model.specs.Settled.{is_settled_value, are_settled_elements, have_settled_values}
 
 -- ---- ranks by paths
 
@@ -51,7 +58,8 @@ rank-is (ms ∷ mss) q =
     ap (λ n. if not (list_any (λ m. same_path q m.path) ms) then 1 + n else 0) (rank-is mss q)
     ∙ ap (λ b. if not b then 1 + place_of (map paths mss) q else 0) (names-is q ms)
 
-pub stands-is : {S : Type 0} (r u : Path → ℕ) → ((q : Path) → r q ≡ u q) → (ms ns : List (Mention S)) → stands_before r ms ns ≡ stands u (paths ms) (paths ns)
+pub stands-is : {S : Type 0} (r u : Path → ℕ) → ((q : Path) → r q ≡ u q) → (ms ns : List (Mention S)) → stands_before r ms ns
+    ≡ stands u (paths ms) (paths ns)
 stands-is r u h [] ns = refl
 stands-is r u h (m ∷ ms) [] = refl
 stands-is r u h (m ∷ ms) (n ∷ ns) =
@@ -59,7 +67,8 @@ stands-is r u h (m ∷ ms) (n ∷ ns) =
     ∙ ap (λ a. if same_path m.path n.path then stands u (paths ms) (paths ns) else nat_lt a (r n.path)) (h m.path)
     ∙ ap (λ a. if same_path m.path n.path then stands u (paths ms) (paths ns) else nat_lt (u m.path) a) (h n.path)
 
-pub sorted-map : {A B : Type 0} (f : A → B) (before : A → A → Bool) (test : B → B → Bool) → ((x y : A) → before x y ≡ test (f x) (f y)) → (xs : List A)
+pub sorted-map : {A B : Type 0} (f : A → B) (before : A → A → Bool) (test : B → B → Bool) → ((x y : A) → before x y ≡ test (f x) (f y))
+    → (xs : List A)
     → is_sorted_by before xs ≡ is_sorted_by test (map f xs)
 sorted-map f before test h [] = refl
 sorted-map f before test h (x ∷ []) = refl
@@ -70,11 +79,13 @@ pub map-self : {A : Type 0} (xs : List A) → map (λ x. x) xs ≡ xs
 map-self [] = refl
 map-self (x ∷ xs) = ap (λ ys. x ∷ ys) (map-self xs)
 
-pub paths-of-line : {S : Type 0} (source : S) (start : ℕ) (p : Path) (ss : List Segment) → paths (line_mentions source start p ss) ≡ line_paths p (keys_of_segments ss)
+pub paths-of-line : {S : Type 0} (source : S) (start : ℕ) (p : Path) (ss : List Segment) → paths (line_mentions source start p ss)
+    ≡ line_paths p (keys_of_segments ss)
 paths-of-line source start p [] = refl
 paths-of-line source start p (s ∷ []) = refl
 paths-of-line source start p (s ∷ r ∷ rest) =
-    ap (λ ps. to_key p s.key ∷ ps) (paths-of-line source (start + length (s.before ++ (s.spelled ++ s.after)) + 1) (to_key p s.key) (r ∷ rest))
+    ap (λ ps. to_key p s.key ∷ ps) (paths-of-line source (start + length (s.before ++ (s.spelled ++ s.after)) + 1) (to_key p s.key) (r
+    ∷ rest))
 
 pub part-keys : (ss rs : List Segment) → part_ways ss rs ≡ part_keys (keys_of_segments ss) (keys_of_segments rs)
 part-keys [] rs = refl
@@ -92,7 +103,8 @@ same-segments (s ∷ ss) =
 
 -- ---- mentions that agree
 
-pub agree-at : {S : Type 0} (may : Role → Role → Bool) (ms ns : List (Mention S)) (m n : Mention S) → agree may ms ns ≡ true → Among m ms → Among n ns → same_path m.path n.path ≡ true
+pub agree-at : {S : Type 0} (may : Role → Role → Bool) (ms ns : List (Mention S)) (m n : Mention S) → agree may ms ns ≡ true → Among m ms
+    → Among n ns → same_path m.path n.path ≡ true
     → may m.role n.role ≡ true
 agree-at {S = S} may ms ns m n h a b e =
     by_test (same_path m.path n.path) e
@@ -157,17 +169,20 @@ along m (f, v, n, start, is, b, q) =
     let p = [] ++ map (λ (s : Segment). at_key s.key) f.path in (
       p,
       subst (λ ms. AllByRecursion (λ q. is_front q p ≡ true) (paths ms)) (sym is)
-          (all-image (λ (k : Mention PairSource). k.path) (λ q. is_front q p ≡ true) (line_mentions (source_at n f v) start [] f.path) (line-along (source_at n f v) start [] f.path)),
+          (all-image (λ (k : Mention PairSource). k.path) (λ q. is_front q p
+          ≡ true) (line_mentions (source_at n f v) start [] f.path) (line-along (source_at n f v) start [] f.path)),
     )
 
-shares : (m n : Told) → IsMentionOf Framed m → IsMentionOf Framed n → agree may_meet_inline m n ≡ true → Shares a_line one_block paths no_base keys_in m n
+shares : (m n : Told) → IsMentionOf Framed m → IsMentionOf Framed n → agree may_meet_inline m n ≡ true
+    → Shares a_line one_block paths no_base keys_in m n
 shares m n (f, v, i, start, is, b, q) (g, w, j, next, are, c, o) h x y z = (
   refl,
   ap (λ ss. part_keys (keys_of_segments ss) (keys_in n)) (ap own_path is ∙ own-line (source_at i f v) start [] f.path)
       ∙ ap (λ ss. part_keys (keys_of_segments f.path) (keys_of_segments ss)) (ap own_path are ∙ own-line (source_at j g w) next [] g.path)
       ∙ sym (part-keys f.path g.path)
       ∙ agree-parts (source_at i f v) (source_at j g w) start next [] f.path g.path (filled-path f.path b) (filled-path g.path c)
-      (ap (λ k. agree may_meet_inline k (line_mentions (source_at j g w) next [] g.path)) (sym is) ∙ ap (agree may_meet_inline m) (sym are) ∙ h),
+      (ap (λ k. agree may_meet_inline k (line_mentions (source_at j g w) next [] g.path)) (sym is) ∙ ap (agree may_meet_inline m) (sym are)
+      ∙ h),
 )
 
 spaced : (m : Told) → IsMentionOf Framed m → IsSpaced a_line one_block no_base itself m
@@ -199,7 +214,8 @@ text-of mss h g =
       follow = follows mss;
       lined = all-map (IsMentionOf Framed) (IsLined a_line one_block paths no_base keys_in) mss lined h;
       along = all-map (IsMentionOf Framed) (IsAlong a_line one_block paths no_base keys_in) mss along h;
-      shares = pairs-of (IsMentionOf Framed) (λ m n. agree may_meet_inline m n ≡ true) (Shares a_line one_block paths no_base keys_in) mss shares h g;
+      shares = pairs-of (IsMentionOf Framed) (λ m n. agree may_meet_inline m n
+          ≡ true) (Shares a_line one_block paths no_base keys_in) mss shares h g;
     }
   where
     steps : (ms : List Told) → AreStepped a_line one_block paths no_base keys_in ms
@@ -216,7 +232,8 @@ text-of mss h g =
     follows (m ∷ ms) = (each m ms, follows ms)
 
 -- the test of pairs in order, by these
-pub pair-test : (mss xs : List Told) → mss ≡ xs → IsTest a_line one_block paths no_base keys_in (pair_before mss) (ranked a_line one_block paths no_base keys_in xs)
+pub pair-test : (mss xs : List Told) → mss ≡ xs → IsTest a_line one_block paths no_base keys_in (pair_before mss)
+    (ranked a_line one_block paths no_base keys_in xs)
 pair-test mss xs e m n = stands-is (rank mss) (place_of (map paths xs)) (λ q. rank-is mss q ∙ ap (λ ys. place_of (map paths ys) q) e) m n
 
 spelled-paths : (all : Told) (ms ns : List Told) → AreSpelled all ms ns → map paths ns ≡ map paths ms
@@ -238,7 +255,8 @@ abbrev in_order_of : List (List Path) → Bool
 in_order_of pss = is_sorted_by (stands (place_of pss)) pss
 
 in-order-of : (mss : List Told) → is_sorted_by (pair_before mss) mss ≡ in_order_of (map paths mss)
-in-order-of mss = sorted-map paths (pair_before mss) (stands (place_of (map paths mss))) (λ m n. stands-is (rank mss) (place_of (map paths mss)) (rank-is mss) m n) mss
+in-order-of mss = sorted-map paths (pair_before mss) (stands (place_of (map paths mss)))
+    (λ m n. stands-is (rank mss) (place_of (map paths mss)) (rank-is mss) m n) mss
 
 spelled-anew : (all : Told) (ms ns : List Told) → AreSpelled all ms ns → AreAnew all itself ms ns
 spelled-anew all [] [] h = tt
@@ -249,10 +267,12 @@ spelled-anew all (m ∷ ms) (n ∷ ns) h = (h.0, spelled-anew all ms ns h.1)
 all-kept : (all : Told) (ns : List Told) → AllByRecursion (λ n. own_path n ≡ kept_path all n) ns → list_all (is_kept all) ns ≡ true
 all-kept all [] h = refl
 all-kept all (n ∷ ns) h =
-    and_both (is_kept all n) (list_all (is_kept all) ns) (ap (same_segments (own_path n)) (sym h.0) ∙ same-segments (own_path n)) (all-kept all ns h.1)
+    and_both (is_kept all n) (list_all (is_kept all) ns) (ap (same_segments (own_path n)) (sym h.0)
+    ∙ same-segments (own_path n)) (all-kept all ns h.1)
 
 -- The ordered pairs of an inline table are settled.
-pub ordered-settled : (ps : Pairs) → ArePairs ps → all_agree may_meet_inline (pair_mentions 0 ps) ≡ true → are_settled_pairs (pair_mentions 0 (ordered_pairs ps)) ≡ true
+pub ordered-settled : (ps : Pairs) → ArePairs ps → all_agree may_meet_inline (pair_mentions 0 ps) ≡ true
+    → are_settled_pairs (pair_mentions 0 (ordered_pairs ps)) ≡ true
 ordered-settled ps h g =
     let mss : List Told = pair_mentions 0 ps in
     let all : Told = flat_map (λ ms. ms) mss in
@@ -269,62 +289,82 @@ ordered-settled ps h g =
     let first : is_sorted_by (pair_before new) new ≡ true = in-order-of new ∙ ap in_order_of same ∙ sym (in-order-of zs) ∙ sorted in
     let precede : AllPairs (Precedes a_line one_block no_base itself (ranked a_line one_block paths no_base keys_in mss)) zs =
     in-order a_line one_block paths no_base keys_in test mss (pair-test mss mss refl) text in
-    let spaces : AllByRecursion (IsSpaced a_line one_block no_base itself) mss = all-map (IsMentionOf Framed) (IsSpaced a_line one_block no_base itself) mss spaced are in
+    let spaces : AllByRecursion (IsSpaced a_line one_block no_base itself) mss =
+    all-map (IsMentionOf Framed) (IsSpaced a_line one_block no_base itself) mss spaced are in
     let stay : AllPairs (Stays a_line one_block no_base itself) mss =
-    pairs-of (IsMentionOf Framed) (λ m n. agree may_meet_inline m n ≡ true) (Stays a_line one_block no_base itself) mss (λ m n a b e. stays m n e) are agrees in
+    pairs-of (IsMentionOf Framed) (λ m n. agree may_meet_inline m n
+    ≡ true) (Stays a_line one_block no_base itself) mss (λ m n a b e. stays m n e) are agrees in
     let kept = anew-all a_line one_block no_base itself (ranked a_line one_block paths no_base keys_in mss) test mss stay spaces precede new
     (subst (λ xs. AreAnew xs itself zs new) (ap (flat_map (λ ms. ms)) (sym (map-self mss))) (spelled-anew all zs new spells)) in
-    and_both (is_sorted_by (pair_before new) new) (list_all (is_kept (flat_map (λ ms. ms) new)) new) first (all-kept (flat_map (λ ms. ms) new) new kept)
+    and_both (is_sorted_by (pair_before new) new) (list_all (is_kept (flat_map (λ ms. ms) new)) new) first
+    (all-kept (flat_map (λ ms. ms) new) new kept)
 
 module _ (mode : Mode) where
   -- ---- values
 
-  settled-from : (ps : Pairs) → EachPair (λ f v. (is_shown_frame mode f ≡ true) × (is_settled_value mode v ≡ true)) ps → have_settled_values mode ps ≡ true
+  settled-from : (ps : Pairs) → EachPair (λ f v. (is_shown_frame mode f ≡ true) × (is_settled_value mode v ≡ true)) ps
+      → have_settled_values mode ps ≡ true
   settled-from no_pairs h = refl
   settled-from (pair f v ps) h =
-      and_both (is_shown_frame mode f) (is_settled_value mode v && have_settled_values mode ps) h.0.0 (and_both (is_settled_value mode v) (have_settled_values mode ps) h.0.1 (settled-from ps h.1))
+      and_both (is_shown_frame mode f) (is_settled_value mode v
+      && have_settled_values mode ps) h.0.0 (and_both (is_settled_value mode v) (have_settled_values mode ps) h.0.1
+      (settled-from ps h.1))
 
   pub lean-is : (f : Frame) → is_shown_frame mode (shown_frame mode f) ≡ true
-  lean-is f = and_both (is_shown_text mode (shown_text mode f.leading)) (is_shown_text mode (shown_text mode f.trailing)) (no-return mode f.leading) (no-return mode f.trailing)
+  lean-is f = and_both (is_shown_text mode (shown_text mode f.leading)) (is_shown_text mode (shown_text mode f.trailing))
+      (no-return mode f.leading) (no-return mode f.trailing)
 
   mutual
-    pub value-settled : (v : Value) → IsValue v → has_short_keys v ≡ true → keeps_ranges v ≡ true → has_agreeing_pairs v ≡ true → is_settled_value mode (normal_value mode v) ≡ true
+    pub value-settled : (v : Value) → IsValue v → has_short_keys v ≡ true → keeps_ranges v ≡ true → has_agreeing_pairs v ≡ true
+        → is_settled_value mode (normal_value mode v) ≡ true
     value-settled (scalar s t) h a b c = refl
     value-settled (array es comma t) h a b c =
-        and_both (is_shown_text mode (shown_text mode t)) (are_settled_elements mode (normal_elements mode es)) (no-return mode t) (elements-settled es h.1 a b c)
+        and_both (is_shown_text mode (shown_text mode t)) (are_settled_elements mode (normal_elements mode es)) (no-return mode t)
+        (elements-settled es h.1 a b c)
     value-settled (inline_table ps comma t) h a b c =
         let first = and_left (all_agree may_meet_inline (pair_mentions 0 ps)) (pairs_have_agreeing_pairs ps) c in
         let rest = and_right (all_agree may_meet_inline (pair_mentions 0 ps)) (pairs_have_agreeing_pairs ps) c in
         let are = normal-pairs-right mode ps h.1 a b rest in
         let new : Pairs = ordered_pairs (normal_pairs mode ps) in
         and_both (is_shown_text mode (shown_text mode t) && are_settled_pairs (pair_mentions 0 new)) (have_settled_values mode new)
-        (and_both (is_shown_text mode (shown_text mode t)) (are_settled_pairs (pair_mentions 0 new)) (no-return mode t) (ordered-settled (normal_pairs mode ps) are (normal-agree mode 0 0 0 ps first)))
+        (and_both (is_shown_text mode (shown_text mode t)) (are_settled_pairs (pair_mentions 0 new)) (no-return mode t)
+        (ordered-settled (normal_pairs mode ps) are (normal-agree mode 0 0 0 ps first)))
         (settled-from new
-        (ordered-each (λ f v. (is_shown_frame mode f ≡ true) × (is_settled_value mode v ≡ true)) (λ f v. (is_shown_frame mode f ≡ true) × (is_settled_value mode v ≡ true)) (normal_pairs mode ps) are
+        (ordered-each (λ f v. (is_shown_frame mode f ≡ true) × (is_settled_value mode v ≡ true)) (λ f v. (is_shown_frame mode f ≡ true)
+        × (is_settled_value mode v ≡ true)) (normal_pairs mode ps) are
         (λ f v n start e g. g) (pairs-settled ps h.1 a b rest)))
 
-    elements-settled : (es : Elements) → AreElements es → elements_have_short_keys es ≡ true → elements_keep_ranges es ≡ true → elements_have_agreeing_pairs es ≡ true
+    elements-settled : (es : Elements) → AreElements es → elements_have_short_keys es ≡ true → elements_keep_ranges es ≡ true
+        → elements_have_agreeing_pairs es ≡ true
         → are_settled_elements mode (normal_elements mode es) ≡ true
     elements-settled no_elements h a b c = refl
     elements-settled (element e v es) h a b c =
-        and_both (is_shown_text mode (shown_text mode e.before) && is_shown_text mode (shown_text mode e.after)) (is_settled_value mode (normal_value mode v) && are_settled_elements mode (normal_elements mode es))
-        (and_both (is_shown_text mode (shown_text mode e.before)) (is_shown_text mode (shown_text mode e.after)) (no-return mode e.before) (no-return mode e.after))
+        and_both (is_shown_text mode (shown_text mode e.before)
+        && is_shown_text mode (shown_text mode e.after)) (is_settled_value mode (normal_value mode v)
+        && are_settled_elements mode (normal_elements mode es))
+        (and_both (is_shown_text mode (shown_text mode e.before)) (is_shown_text mode (shown_text mode e.after)) (no-return mode e.before)
+        (no-return mode e.after))
         (and_both (is_settled_value mode (normal_value mode v)) (are_settled_elements mode (normal_elements mode es))
-        (value-settled v h.2 (and_left (has_short_keys v) (elements_have_short_keys es) a) (and_left (keeps_ranges v) (elements_keep_ranges es) b)
+        (value-settled v h.2 (and_left (has_short_keys v) (elements_have_short_keys es) a)
+        (and_left (keeps_ranges v) (elements_keep_ranges es) b)
         (and_left (has_agreeing_pairs v) (elements_have_agreeing_pairs es) c))
-        (elements-settled es h.3 (and_right (has_short_keys v) (elements_have_short_keys es) a) (and_right (keeps_ranges v) (elements_keep_ranges es) b)
+        (elements-settled es h.3 (and_right (has_short_keys v) (elements_have_short_keys es) a)
+        (and_right (keeps_ranges v) (elements_keep_ranges es) b)
         (and_right (has_agreeing_pairs v) (elements_have_agreeing_pairs es) c)))
 
-    pairs-settled : (ps : Pairs) → ArePairs ps → pairs_have_short_keys ps ≡ true → pairs_keep_ranges ps ≡ true → pairs_have_agreeing_pairs ps ≡ true
+    pairs-settled : (ps : Pairs) → ArePairs ps → pairs_have_short_keys ps ≡ true → pairs_keep_ranges ps ≡ true
+        → pairs_have_agreeing_pairs ps ≡ true
         → EachPair (λ f v. (is_shown_frame mode f ≡ true) × (is_settled_value mode v ≡ true)) (normal_pairs mode ps)
     pairs-settled no_pairs h a b c = tt
     pairs-settled (pair f v ps) h a b c =
         let short = and_right (is_short f.path) (has_short_keys v && pairs_have_short_keys ps) a in (
           (
             lean-is f,
-            value-settled v h.1 (and_left (has_short_keys v) (pairs_have_short_keys ps) short) (and_left (keeps_ranges v) (pairs_keep_ranges ps) b)
+            value-settled v h.1 (and_left (has_short_keys v) (pairs_have_short_keys ps) short)
+                (and_left (keeps_ranges v) (pairs_keep_ranges ps) b)
                 (and_left (has_agreeing_pairs v) (pairs_have_agreeing_pairs ps) c),
           ),
-          pairs-settled ps h.2 (and_right (has_short_keys v) (pairs_have_short_keys ps) short) (and_right (keeps_ranges v) (pairs_keep_ranges ps) b)
+          pairs-settled ps h.2 (and_right (has_short_keys v) (pairs_have_short_keys ps) short)
+              (and_right (keeps_ranges v) (pairs_keep_ranges ps) b)
               (and_right (has_agreeing_pairs v) (pairs_have_agreeing_pairs ps) c),
         )

@@ -6,9 +6,12 @@ use Rattle.std.proofs.lemmas.List.{map-append}
 use Rattle.toml_edit_model.specs.Mode.{Mode}
 use Rattle.toml_edit_model.specs.Text.{Text, one, is_empty}
 use Rattle.toml_edit_model.specs.Paths.{Path, to_key, to_element}
-use Rattle.toml_edit_model.specs.Tree.{Key, Node, nothing, leaf, list, inline, table, tables, Items, no_items, item, Slots, no_slots, slot, Tree}
-use Rattle.toml_edit_model.specs.HeaderOrder.{Visit, visit_of, node_walk, items_walk, slots_walk, walk, PlacedVisit, place_of, places_from, is_root, comes_before, in_header_order}
-use Rattle.toml_edit_model.specs.Print.{Line, is_line_node, table_lines, dotted_lines, inside_lines, lines_inside, lines_of, line_of, value_of, has_header}
+use Rattle.toml_edit_model.specs.Tree.{Key, Node, nothing, leaf, list, inline, table, tables, Items, no_items, item, Slots, no_slots, slot}
+use Rattle.toml_edit_model.specs.Tree.{Tree}
+use Rattle.toml_edit_model.specs.HeaderOrder.{Visit, visit_of, node_walk, items_walk, slots_walk, walk, PlacedVisit, place_of, places_from}
+use Rattle.toml_edit_model.specs.HeaderOrder.{is_root, comes_before, in_header_order}
+use Rattle.toml_edit_model.specs.Print.{Line, is_line_node, table_lines, dotted_lines, inside_lines, lines_inside, lines_of, line_of}
+use Rattle.toml_edit_model.specs.Print.{value_of, has_header}
 use Rattle.toml_edit_model.specs.Fits.{is_undotted, is_too_late, none_too_late, headed, elements_are_ordered}
 use Rattle.toml_edit_laws.proofs.common.OrderLaws.{sorted-alike, sorted-image}
 use Rattle.toml_edit_model.specs.Order.{sorted_by}
@@ -20,7 +23,14 @@ module _ (mode : Mode) where
     key k = owned_key source k
 
     abbrev pub visit : Visit → Visit
-    visit v = record { path = v.path; keys = map key v.keys; is_element = v.is_element; fields = owned_fields source v.fields; slots = owned_slots source v.slots }
+    visit v = record {
+      path = v.path;
+      keys = map key v.keys;
+      is_element = v.is_element;
+      fields = owned_fields source v.fields;
+      slots =
+          owned_slots source v.slots;
+    }
 
     abbrev pub line : Line → Line
     line l = record { keys = map key l.keys; item = owned_node source l.item; value = value_of mode (owned_node source l.item) }
@@ -31,7 +41,8 @@ module _ (mode : Mode) where
     -- ---- the walk
 
     mutual
-      node-walk : (n : Node) (p : Path) (ks : List Key) (b : Bool) → node_walk (owned_node source n) p (map key ks) b ≡ map visit (node_walk n p ks b)
+      node-walk : (n : Node) (p : Path) (ks : List Key) (b : Bool) → node_walk (owned_node source n) p (map key ks) b
+          ≡ map visit (node_walk n p ks b)
       node-walk nothing p ks b = refl
       node-walk (leaf s r d) p ks b = refl
       node-walk (list f xs) p ks b = refl
@@ -39,11 +50,14 @@ module _ (mode : Mode) where
       node-walk (table f ss) p ks b = ap (λ vs. visit (visit_of p ks b f ss) ∷ vs) (slots-walk ss p ks)
       node-walk (tables e xs) p ks b = items-walk xs p ks 0
 
-      items-walk : (xs : Items) (p : Path) (ks : List Key) (n : ℕ) → items_walk (owned_items source xs) p (map key ks) n ≡ map visit (items_walk xs p ks n)
+      items-walk : (xs : Items) (p : Path) (ks : List Key) (n : ℕ) → items_walk (owned_items source xs) p (map key ks) n
+          ≡ map visit (items_walk xs p ks n)
       items-walk no_items p ks n = refl
       items-walk (item (table f ss) xs) p ks n =
-          ap (λ vs. (visit (visit_of (to_element p n) ks true f ss) ∷ vs) ++ items_walk (owned_items source xs) p (map key ks) (suc n)) (slots-walk ss (to_element p n) ks)
-          ∙ ap (λ vs. map visit (visit_of (to_element p n) ks true f ss ∷ slots_walk ss (to_element p n) ks) ++ vs) (items-walk xs p ks (suc n))
+          ap (λ vs. (visit (visit_of (to_element p n) ks true f ss) ∷ vs)
+          ++ items_walk (owned_items source xs) p (map key ks) (suc n)) (slots-walk ss (to_element p n) ks)
+          ∙ ap (λ vs. map visit (visit_of (to_element p n) ks true f ss ∷ slots_walk ss (to_element p n) ks)
+          ++ vs) (items-walk xs p ks (suc n))
           ∙ sym (map-append visit (visit_of (to_element p n) ks true f ss ∷ slots_walk ss (to_element p n) ks) (items_walk xs p ks (suc n)))
       items-walk (item nothing xs) p ks n = items-walk xs p ks n
       items-walk (item (leaf s r d) xs) p ks n = items-walk xs p ks n
@@ -51,10 +65,12 @@ module _ (mode : Mode) where
       items-walk (item (inline f ss) xs) p ks n = items-walk xs p ks n
       items-walk (item (tables e ys) xs) p ks n = items-walk xs p ks n
 
-      slots-walk : (ss : Slots) (p : Path) (ks : List Key) → slots_walk (owned_slots source ss) p (map key ks) ≡ map visit (slots_walk ss p ks)
+      slots-walk : (ss : Slots) (p : Path) (ks : List Key) → slots_walk (owned_slots source ss) p (map key ks)
+          ≡ map visit (slots_walk ss p ks)
       slots-walk no_slots p ks = refl
       slots-walk (slot k n ss) p ks =
-          ap (λ js. node_walk (owned_node source n) (to_key p k.name) js false ++ slots_walk (owned_slots source ss) p (map key ks)) (sym (more-keys ks k))
+          ap (λ js. node_walk (owned_node source n) (to_key p k.name) js false
+          ++ slots_walk (owned_slots source ss) p (map key ks)) (sym (more-keys ks k))
           ∙ ap (λ vs. vs ++ slots_walk (owned_slots source ss) p (map key ks)) (node-walk n (to_key p k.name) (ks ++ one k) false)
           ∙ ap (λ vs. map visit (node_walk n (to_key p k.name) (ks ++ one k) false) ++ vs) (slots-walk ss p ks)
           ∙ sym (map-append visit (node_walk n (to_key p k.name) (ks ++ one k) false) (slots_walk ss p ks))
@@ -79,23 +95,36 @@ module _ (mode : Mode) where
     line-same (tables e xs) = refl
 
     -- a slot's lines and the rest
-    slot-lines : (b c : Bool) → b ≡ c → (k : Key) (ks : List Key) (n : Node) (ls more : List Line) (down : List Key → List Line) (rest : List Line)
+    slot-lines : (b c : Bool) → b ≡ c → (k : Key) (ks : List Key) (n : Node) (ls more : List Line) (down : List Key
+        → List Line) (rest : List Line)
         → down (map key (ks ++ one k)) ≡ map line ls → rest ≡ map line more
-        → (elim b [ true ↦ line_of (map key ks ++ one (key k)) (owned_node source n) (value_of mode (owned_node source n)) | false ↦ down (map key ks ++ one (key k)) ]) ++ rest
+        → (elim b [
+          | true ↦ line_of (map key ks ++ one (key k)) (owned_node source n) (value_of mode (owned_node source n))
+          | false ↦
+              down (map key ks ++ one (key k))
+        ]) ++ rest
         ≡ map line ((elim c [ true ↦ line_of (ks ++ one k) n (value_of mode n) | false ↦ ls ]) ++ more)
     slot-lines b c e k ks n ls more down rest h g =
-        ap (λ js. (elim b [ true ↦ line_of js (owned_node source n) (value_of mode (owned_node source n)) | false ↦ down js ]) ++ rest) (sym (more-keys ks k))
-        ∙ ap (λ d. (elim d [ true ↦ line_of (map key (ks ++ one k)) (owned_node source n) (value_of mode (owned_node source n)) | false ↦ down (map key (ks ++ one k)) ]) ++ rest) e
+        ap (λ js. (elim b [ true ↦ line_of js (owned_node source n) (value_of mode (owned_node source n)) | false ↦ down js ])
+        ++ rest) (sym (more-keys ks k))
+        ∙ ap (λ d. (elim d [
+          | true ↦ line_of (map key (ks ++ one k)) (owned_node source n) (value_of mode (owned_node source n))
+          | false ↦
+              down (map key (ks ++ one k))
+        ]) ++ rest) e
         ∙ ap (λ xs. xs ++ rest) (one-line c (ks ++ one k) n ls (down (map key (ks ++ one k))) h)
         ∙ ap (λ xs. map line (elim c [ true ↦ line_of (ks ++ one k) n (value_of mode n) | false ↦ ls ]) ++ xs) g
         ∙ sym (map-append line (elim c [ true ↦ line_of (ks ++ one k) n (value_of mode n) | false ↦ ls ]) more)
 
     mutual
-      pub inside-owned : (ss : Slots) (ks : List Key) → inside_lines mode (owned_slots source ss) (map key ks) ≡ map line (inside_lines mode ss ks)
+      pub inside-owned : (ss : Slots) (ks : List Key) → inside_lines mode (owned_slots source ss) (map key ks)
+          ≡ map line (inside_lines mode ss ks)
       inside-owned no_slots ks = refl
       inside-owned (slot k n ss) ks =
-          slot-lines (is_line_node (owned_node source n)) (is_line_node n) (line-same n) k ks n (lines_inside mode n (ks ++ one k)) (inside_lines mode ss ks)
-          (lines_inside mode (owned_node source n)) (inside_lines mode (owned_slots source ss) (map key ks)) (node-inside n (ks ++ one k)) (inside-owned ss ks)
+          slot-lines (is_line_node (owned_node source n)) (is_line_node n) (line-same n) k ks n (lines_inside mode n (ks ++ one k))
+          (inside_lines mode ss ks)
+          (lines_inside mode (owned_node source n)) (inside_lines mode (owned_slots source ss) (map key ks)) (node-inside n (ks ++ one k))
+          (inside-owned ss ks)
 
       node-inside : (n : Node) (ks : List Key) → lines_inside mode (owned_node source n) (map key ks) ≡ map line (lines_inside mode n ks)
       node-inside nothing ks = refl
@@ -106,11 +135,14 @@ module _ (mode : Mode) where
       node-inside (tables e xs) ks = refl
 
     mutual
-      pub lines-owned : (ss : Slots) (ks : List Key) → table_lines mode (owned_slots source ss) (map key ks) ≡ map line (table_lines mode ss ks)
+      pub lines-owned : (ss : Slots) (ks : List Key) → table_lines mode (owned_slots source ss) (map key ks)
+          ≡ map line (table_lines mode ss ks)
       lines-owned no_slots ks = refl
       lines-owned (slot k n ss) ks =
-          slot-lines (is_line_node (owned_node source n)) (is_line_node n) (line-same n) k ks n (dotted_lines mode n (ks ++ one k)) (table_lines mode ss ks)
-          (dotted_lines mode (owned_node source n)) (table_lines mode (owned_slots source ss) (map key ks)) (node-dotted n (ks ++ one k)) (lines-owned ss ks)
+          slot-lines (is_line_node (owned_node source n)) (is_line_node n) (line-same n) k ks n (dotted_lines mode n (ks ++ one k))
+          (table_lines mode ss ks)
+          (dotted_lines mode (owned_node source n)) (table_lines mode (owned_slots source ss) (map key ks)) (node-dotted n (ks ++ one k))
+          (lines-owned ss ks)
 
       node-dotted : (n : Node) (ks : List Key) → dotted_lines mode (owned_node source n) (map key ks) ≡ map line (dotted_lines mode n ks)
       node-dotted nothing ks = refl
@@ -120,7 +152,8 @@ module _ (mode : Mode) where
       node-dotted (table f ss) ks = by_test f.is_dotted (lines-owned ss ks)
         where
           by_test : (b : Bool) → table_lines mode (owned_slots source ss) (map key ks) ≡ map line (table_lines mode ss ks)
-              → (if b then table_lines mode (owned_slots source ss) (map key ks) else []) ≡ map line (if b then table_lines mode ss ks else [])
+              → (if b then table_lines mode (owned_slots source ss) (map key ks) else [])
+              ≡ map line (if b then table_lines mode ss ks else [])
           by_test true h = h
           by_test false h = refl
       node-dotted (tables e xs) ks = refl
@@ -147,7 +180,8 @@ module _ (mode : Mode) where
     places-owned seen [] = refl
     places-owned seen (v ∷ vs) = by_test v.fields.is_dotted (places-owned seen vs) (places-owned (place_of seen v) vs)
       where
-        by_test : (b : Bool) → places_from seen (map visit vs) ≡ map placed_visit (places_from seen vs) → places_from (place_of seen v) (map visit vs) ≡ map placed_visit (places_from (place_of seen v) vs)
+        by_test : (b : Bool) → places_from seen (map visit vs) ≡ map placed_visit (places_from seen vs)
+            → places_from (place_of seen v) (map visit vs) ≡ map placed_visit (places_from (place_of seen v) vs)
             → (if b then places_from seen (map visit vs) else (place_of seen v, visit v) ∷ places_from (place_of seen v) (map visit vs))
             ≡ map placed_visit (if b then places_from seen vs else (place_of seen v, v) ∷ places_from (place_of seen v) vs)
         by_test true a c = a
@@ -168,25 +202,31 @@ module _ (mode : Mode) where
         ∙ ap (sorted_by comes_before) (places-owned (pos 0) (walk t))
         ∙ sorted-image placed_visit comes_before (places_from (pos 0) (walk t))
         ∙ ap (map placed_visit)
-        (sorted-alike (λ x. Unit {0}) (λ g h. comes_before (placed_visit g) (placed_visit h)) comes_before (λ g h a b. comes-same g h) (places_from (pos 0) (walk t)) (each (places_from (pos 0) (walk t))))
+        (sorted-alike (λ x. Unit {0}) (λ g h. comes_before (placed_visit g) (placed_visit h)) comes_before (λ g h a b. comes-same g h)
+        (places_from (pos 0) (walk t)) (each (places_from (pos 0) (walk t))))
 
     -- ---- elements in order
 
-    headed-owned : (gs : List PlacedVisit) → filter (has_header mode) (map (λ v. v.1) (map placed_visit gs)) ≡ map visit (filter (has_header mode) (map (λ v. v.1) gs))
+    headed-owned : (gs : List PlacedVisit) → filter (has_header mode) (map (λ v. v.1) (map placed_visit gs))
+        ≡ map visit (filter (has_header mode) (map (λ v. v.1) gs))
     headed-owned [] = refl
     headed-owned (g ∷ gs) =
-        ap (λ b. if b then visit g.1 ∷ filter (has_header mode) (map (λ (v : PlacedVisit). v.1) (map placed_visit gs)) else filter (has_header mode) (map (λ (v : PlacedVisit). v.1) (map placed_visit gs))) (header-same g.1)
+        ap (λ b. if b then visit g.1 ∷ filter (has_header mode) (map (λ (v : PlacedVisit). v.1) (map placed_visit gs))
+        else filter (has_header mode) (map (λ (v : PlacedVisit). v.1) (map placed_visit gs))) (header-same g.1)
         ∙ ap (λ vs. if has_header mode g.1 then visit g.1 ∷ vs else vs) (headed-owned gs)
         ∙ by_test (has_header mode g.1)
       where
-        by_test : (b : Bool) → (if b then visit g.1 ∷ map visit (filter (has_header mode) (map (λ (v : PlacedVisit). v.1) gs)) else map visit (filter (has_header mode) (map (λ (v : PlacedVisit). v.1) gs)))
-            ≡ map visit (if b then g.1 ∷ filter (has_header mode) (map (λ (v : PlacedVisit). v.1) gs) else filter (has_header mode) (map (λ (v : PlacedVisit). v.1) gs))
+        by_test : (b : Bool) → (if b then visit g.1 ∷ map visit (filter (has_header mode) (map (λ (v : PlacedVisit). v.1) gs))
+            else map visit (filter (has_header mode) (map (λ (v : PlacedVisit). v.1) gs)))
+            ≡ map visit (if b then g.1 ∷ filter (has_header mode) (map (λ (v : PlacedVisit). v.1) gs)
+            else filter (has_header mode) (map (λ (v : PlacedVisit). v.1) gs))
         by_test true = refl
         by_test false = refl
 
     late-owned : (vs : List Visit) → none_too_late (map visit vs) ≡ none_too_late vs
     late-owned [] = refl
-    late-owned (v ∷ vs) = ap (λ b. b && none_too_late (map visit vs)) (all vs) ∙ ap (λ b. list_all (λ h. not (is_too_late v h)) vs && b) (late-owned vs)
+    late-owned (v ∷ vs) = ap (λ b. b && none_too_late (map visit vs)) (all vs)
+        ∙ ap (λ b. list_all (λ h. not (is_too_late v h)) vs && b) (late-owned vs)
       where
         all : (us : List Visit) → list_all (λ h. not (is_too_late (visit v) h)) (map visit us) ≡ list_all (λ h. not (is_too_late v h)) us
         all [] = refl
@@ -199,7 +239,8 @@ module _ (mode : Mode) where
 
     -- ---- dotted tables
 
-    undotted-walk : (vs : List Visit) → list_all (λ v. not (v.is_element && v.fields.is_dotted)) (map visit vs) ≡ list_all (λ v. not (v.is_element && v.fields.is_dotted)) vs
+    undotted-walk : (vs : List Visit) → list_all (λ v. not (v.is_element && v.fields.is_dotted)) (map visit vs)
+        ≡ list_all (λ v. not (v.is_element && v.fields.is_dotted)) vs
     undotted-walk [] = refl
     undotted-walk (v ∷ vs) = ap (λ b. not (v.is_element && v.fields.is_dotted) && b) (undotted-walk vs)
 

@@ -1,12 +1,15 @@
 -- What the mentions of a cut say of each table, so that its tree is steady: values and dotted keys stand only below what is
 -- headed, dotted, the root or an element, and brackets are of headers.
-use Rattle.std.proofs.Common.{◌≡◌, ◌⊎◌, refl, sym, ◌∙◌, ap, subst, ℕ, zero, suc, ◌+◌, Bool, true, false, List, [], ◌∷◌, ◌++◌, append_assoc, inl, inr}
+use Rattle.std.proofs.Common.{◌≡◌, ◌⊎◌, refl, sym, ◌∙◌, ap, subst, ℕ, zero, suc, ◌+◌, Bool, true, false, List, [], ◌∷◌, ◌++◌, append_assoc}
+use Rattle.std.proofs.Common.{inl, inr}
 use Rattle.std.specs.Prelude.{◌&&◌, ◌||◌, flat_map, if◌then◌else◌}
 use Rattle.std.specs.List.{AllByRecursion}
 use Rattle.std.proofs.lemmas.Bool.{cases_Bool, or_cases, or_from}
 use Rattle.toml_edit_model.specs.Text.{Text, one}
 use Rattle.toml_edit_model.specs.Syntax.{Segment, Statement, key_line, header, Document}
-use Rattle.toml_edit_model.specs.Paths.{at_key, at_element, Path, same_path, to_key, to_element, passing_role, Mention, next_start, Source, Context, line_mentions, elements_at, in_last, header_mentions, header_path, header_role_of, path_start, source_of, mentions_of, context_after, placed_from, start_context, all_mentions}
+use Rattle.toml_edit_model.specs.Paths.{at_key, at_element, Path, same_path, to_key, to_element, passing_role, Mention, next_start, Source}
+use Rattle.toml_edit_model.specs.Paths.{Context, line_mentions, elements_at, in_last, header_mentions, header_path, header_role_of}
+use Rattle.toml_edit_model.specs.Paths.{path_start, source_of, mentions_of, context_after, placed_from, start_context, all_mentions}
 use Rattle.toml_edit_laws.proofs.common.Tests.{and_left, or-true, true-false, append-nil}
 use Rattle.toml_edit_laws.proofs.common.PathLaws.{same_path-is, same_path-refl}
 use Rattle.toml_edit_laws.proofs.mentions.KeptOrder.{document-named, slot-parts}
@@ -86,7 +89,8 @@ pub record IsSlotOf (ms : List (Mention Source)) (m : Mention Source) : Type 0 w
   pub plain : is_header_role m.role ≡ false → some_at is_header_role (one (at_key m.segment.key)) ms ≡ false
   pub bracketed : IsBracketed m
 
-slot-of : (before ms all : List (Mention Source)) (m : Mention Source) → all ≡ before ++ (m ∷ ms) → EndsIn m.segment.key m.path → IsBracketed m → is_slot before m ms ≡ true → IsSlotOf all m
+slot-of : (before ms all : List (Mention Source)) (m : Mention Source) → all ≡ before ++ (m ∷ ms) → EndsIn m.segment.key m.path
+    → IsBracketed m → is_slot before m ms ≡ true → IsSlotOf all m
 slot-of before ms all m e n b h =
     let parts = slot-parts before m ms h in
     let path_is : m.path ≡ one (at_key m.segment.key) = single-named m.path m.segment.key n parts.0 in
@@ -104,7 +108,8 @@ slot-of before ms all m e n b h =
             | inr a ↦
                 or_from (some_at is_header_role p before) ((same_path m.path p && is_header_role m.role) || some_at is_header_role p ms)
                 (subst (λ q. some_at is_header_role q before ≡ false) path_is (any-test is_header_role m.path before a.0))
-                (or_from (same_path m.path p && is_header_role m.role) (some_at is_header_role p ms) (and-false (same_path m.path p) (is_header_role m.role) f)
+                (or_from (same_path m.path p && is_header_role m.role) (some_at is_header_role p ms)
+                (and-false (same_path m.path p) (is_header_role m.role) f)
                 (subst (λ q. some_at is_header_role q ms ≡ false) path_is a.1))
           ];
       bracketed = b;
@@ -114,7 +119,8 @@ slot-of before ms all m e n b h =
     and-false true c h = h
     and-false false c h = refl
 
-kept-of : (before ms all : List (Mention Source)) → all ≡ before ++ ms → AreNamed ms → AllByRecursion IsBracketed ms → AllByRecursion (IsSlotOf all) (kept_from before ms)
+kept-of : (before ms all : List (Mention Source)) → all ≡ before ++ ms → AreNamed ms → AllByRecursion IsBracketed ms
+    → AllByRecursion (IsSlotOf all) (kept_from before ms)
 kept-of before [] all e n b = tt
 kept-of before (m ∷ ms) all e n b =
     let rest = kept-of (before ++ one m) ms all (e ∙ sym (append_assoc before (one m) ms)) n.1 b.1 in
@@ -137,7 +143,8 @@ passing-bracket : (n : ℕ) → is_bracket_role (passing_role n) ≡ true → �
 passing-bracket zero h = cc
 passing-bracket (suc n) h = cc
 
-header-bracketed : (source : Source) (arrays : List Path) (role : Role) (start : ℕ) (p : Path) (ss : List Segment) → is_header source.statement ≡ true
+header-bracketed : (source : Source) (arrays : List Path) (role : Role) (start : ℕ) (p : Path) (ss : List Segment)
+    → is_header source.statement ≡ true
     → AllByRecursion IsBracketed (header_mentions source arrays role start p ss)
 header-bracketed source arrays role start p [] h = tt
 header-bracketed source arrays role start p (s ∷ []) h = ((λ e. h), tt)
@@ -148,22 +155,26 @@ header-bracketed source arrays role start p (s ∷ r ∷ rest) h =
     )
 
 statement-bracketed : (c : Context) (s : Statement) → AllByRecursion IsBracketed (mentions_of c s)
-statement-bracketed c (key_line f v end) = line-bracketed (source_of c (key_line f v end)) (c.start + path_start (key_line f v end)) c.block f.path
+statement-bracketed c (key_line f v end) =
+    line-bracketed (source_of c (key_line f v end)) (c.start + path_start (key_line f v end)) c.block f.path
 statement-bracketed c (header h end) =
     header-bracketed (source_of c (header h end)) c.arrays (header_role_of h) (c.start + path_start (header h end)) [] h.path refl
 
 placed-bracketed : (c : Context) (ss : List Statement) → AllByRecursion IsBracketed (flat_map (λ s. s.mentions) (placed_from c ss))
 placed-bracketed c [] = tt
 placed-bracketed c (s ∷ ss) =
-    all-append IsBracketed (mentions_of c s) (flat_map (λ r. r.mentions) (placed_from (context_after c s) ss)) (statement-bracketed c s) (placed-bracketed (context_after c s) ss)
+    all-append IsBracketed (mentions_of c s) (flat_map (λ r. r.mentions) (placed_from (context_after c s) ss)) (statement-bracketed c s)
+    (placed-bracketed (context_after c s) ss)
 
 -- a key of a line is below the line's block or a dotted key of it
-line-open : (source : Source) (start : ℕ) (p : Path) (ss : List Segment) (q : Path) (k : Text) → some_at is_direct (to_key q k) (line_mentions source start p ss) ≡ true
+line-open : (source : Source) (start : ℕ) (p : Path) (ss : List Segment) (q : Path) (k : Text)
+    → some_at is_direct (to_key q k) (line_mentions source start p ss) ≡ true
     → (q ≡ p) ⊎ (some_at is_opening q (line_mentions source start p ss) ≡ true)
 line-open source start p [] q k h = absurd cc
 line-open source start p (s ∷ []) q k h =
     elim (or_cases (same_path (to_key p s.key) (to_key q k) && true) false h) [
-      | inl e ↦ inl (sym (key-front p q s.key k (same_path-is (to_key p s.key) (to_key q k) (and_left (same_path (to_key p s.key) (to_key q k)) true e))))
+      | inl e ↦ inl (sym (key-front p q s.key k (same_path-is (to_key p s.key) (to_key q k)
+          (and_left (same_path (to_key p s.key) (to_key q k)) true e))))
       | inr e ↦ absurd cc
     ]
 line-open source start p (s ∷ r ∷ rest) q k h =
@@ -173,16 +184,19 @@ line-open source start p (s ∷ r ∷ rest) q k h =
       | inl e ↦ inl (sym (key-front p q s.key k (same_path-is here (to_key q k) (and_left (same_path here (to_key q k)) true e))))
       | inr e ↦
           elim (line-open source (next_start start s) here (r ∷ rest) q k e) [
-            | inl f ↦ inr (ap (λ b. (b && true) || some_at is_opening q more) (subst (λ x. same_path here x ≡ true) (sym f) (same_path-refl here)))
+            | inl f ↦ inr (ap (λ b. (b && true) || some_at is_opening q more) (subst (λ x. same_path here x
+                ≡ true) (sym f) (same_path-refl here)))
             | inr f ↦ inr (ap (λ b. (same_path here q && true) || b) f ∙ or-true (same_path here q && true))
           ]
     ]
 
 -- headers say nothing direct
-header-direct : (source : Source) (arrays : List Path) (role : Role) (start : ℕ) (p : Path) (ss : List Segment) (q : Path) → is_direct role ≡ false
+header-direct : (source : Source) (arrays : List Path) (role : Role) (start : ℕ) (p : Path) (ss : List Segment) (q : Path) → is_direct role
+    ≡ false
     → some_at is_direct q (header_mentions source arrays role start p ss) ≡ false
 header-direct source arrays role start p [] q h = refl
-header-direct source arrays role start p (s ∷ []) q h = or_from (same_path (to_key p s.key) q && is_direct role) false (and-false (same_path (to_key p s.key) q) (is_direct role) h) refl
+header-direct source arrays role start p (s ∷ []) q h =
+    or_from (same_path (to_key p s.key) q && is_direct role) false (and-false (same_path (to_key p s.key) q) (is_direct role) h) refl
   where
     and-false : (a c : Bool) → c ≡ false → (a && c) ≡ false
     and-false true c h = h
@@ -228,15 +242,19 @@ plain-open source arrays start [] ms = inl refl
 plain-open source arrays start (s ∷ ss) ms =
     inr
     (some_at-append is_opening (header_path arrays [] (s ∷ ss)) ms (header_mentions source arrays header_role start [] (s ∷ ss))
-    ∙ ap (λ b. some_at is_opening (header_path arrays [] (s ∷ ss)) ms || b) (header-opens source arrays start [] s ss) ∙ or-true (some_at is_opening (header_path arrays [] (s ∷ ss)) ms))
+    ∙ ap (λ b. some_at is_opening (header_path arrays [] (s ∷ ss)) ms || b) (header-opens source arrays start [] s ss)
+    ∙ or-true (some_at is_opening (header_path arrays [] (s ∷ ss)) ms))
 
 header-open : (b : Bool) (source : Source) (arrays : List Path) (start : ℕ) (ss : List Segment) (ms : List (Mention Source))
-    → IsBlockOpen (if b then to_element (header_path arrays [] ss) (elements_at arrays (header_path arrays [] ss)) else header_path arrays [] ss)
+    → IsBlockOpen (if b then to_element (header_path arrays [] ss) (elements_at arrays (header_path arrays [] ss))
+    else header_path arrays [] ss)
     (ms ++ header_mentions source arrays (if b then array_role else header_role) start [] ss)
-header-open true source arrays start ss ms = inl (open-element true (header_path arrays [] ss) (elements_at arrays (header_path arrays [] ss)))
+header-open true source arrays start ss ms =
+    inl (open-element true (header_path arrays [] ss) (elements_at arrays (header_path arrays [] ss)))
 header-open false source arrays start ss ms = plain-open source arrays start ss ms
 
-block-open : (c : Context) (s : Statement) (ms : List (Mention Source)) → IsBlockOpen c.block ms → IsBlockOpen (context_after c s).block (ms ++ mentions_of c s)
+block-open : (c : Context) (s : Statement) (ms : List (Mention Source)) → IsBlockOpen c.block ms
+    → IsBlockOpen (context_after c s).block (ms ++ mentions_of c s)
 block-open c (key_line f v end) ms h =
     elim h [
       | inl a ↦ inl a
@@ -245,12 +263,15 @@ block-open c (key_line f v end) ms h =
           (some_at-append is_opening c.block ms (mentions_of c (key_line f v end))
           ∙ ap (λ b. b || some_at is_opening c.block (mentions_of c (key_line f v end))) a)
     ]
-block-open c (header i end) ms h = header-open i.is_array (source_of c (header i end)) c.arrays (c.start + path_start (header i end)) i.path ms
+block-open c (header i end) ms h =
+    header-open i.is_array (source_of c (header i end)) c.arrays (c.start + path_start (header i end)) i.path ms
 
 -- one statement more
-statement-open : (c : Context) (s : Statement) (ms : List (Mention Source)) → IsBlockOpen c.block ms → IsOpen true ms → IsOpen true (ms ++ mentions_of c s)
+statement-open : (c : Context) (s : Statement) (ms : List (Mention Source)) → IsBlockOpen c.block ms → IsOpen true ms
+    → IsOpen true (ms ++ mentions_of c s)
 statement-open c s ms b h q k d =
-    elim (or_cases (some_at is_direct (to_key q k) ms) (some_at is_direct (to_key q k) (mentions_of c s)) (sym (some_at-append is_direct (to_key q k) ms (mentions_of c s)) ∙ d)) [
+    elim (or_cases (some_at is_direct (to_key q k) ms) (some_at is_direct (to_key q k) (mentions_of c s))
+    (sym (some_at-append is_direct (to_key q k) ms (mentions_of c s)) ∙ d)) [
       | inl e ↦
           elim (h q k e) [
             | inl a ↦ inl a
@@ -259,22 +280,26 @@ statement-open c s ms b h q k d =
       | inr e ↦ by_kind s e
     ]
   where
-    by_kind : (t : Statement) → some_at is_direct (to_key q k) (mentions_of c t) ≡ true → (open_at true q ≡ true) ⊎ (some_at is_opening q (ms ++ mentions_of c t) ≡ true)
+    by_kind : (t : Statement) → some_at is_direct (to_key q k) (mentions_of c t) ≡ true → (open_at true q ≡ true)
+        ⊎ (some_at is_opening q (ms ++ mentions_of c t) ≡ true)
     by_kind (key_line f v end) e =
         let own : List (Mention Source) = mentions_of c (key_line f v end) in
         elim (line-open (source_of c (key_line f v end)) (c.start + path_start (key_line f v end)) c.block f.path q k e) [
           | inl is ↦
               elim b [
                 | inl a ↦ inl (ap (open_at true) is ∙ a)
-                | inr a ↦ inr (some_at-append is_opening q ms own ∙ ap (λ x. x || some_at is_opening q own) (ap (λ x. some_at is_opening x ms) is ∙ a))
+                | inr a ↦ inr (some_at-append is_opening q ms own ∙ ap (λ x. x
+                    || some_at is_opening q own) (ap (λ x. some_at is_opening x ms) is ∙ a))
               ]
           | inr a ↦ inr (some_at-append is_opening q ms own ∙ ap (λ x. some_at is_opening q ms || x) a ∙ or-true (some_at is_opening q ms))
         ]
     by_kind (header i end) e =
         true-false (some_at is_direct (to_key q k) (mentions_of c (header i end))) e
-        (header-direct (source_of c (header i end)) c.arrays (header_role_of i) (c.start + path_start (header i end)) [] i.path (to_key q k) (array-direct i.is_array))
+        (header-direct (source_of c (header i end)) c.arrays (header_role_of i) (c.start
+        + path_start (header i end)) [] i.path (to_key q k) (array-direct i.is_array))
 
-open-from : (c : Context) (ss : List Statement) (ms : List (Mention Source)) → IsBlockOpen c.block ms → IsOpen true ms → IsOpen true (ms ++ flat_map (λ s. s.mentions) (placed_from c ss))
+open-from : (c : Context) (ss : List Statement) (ms : List (Mention Source)) → IsBlockOpen c.block ms → IsOpen true ms
+    → IsOpen true (ms ++ flat_map (λ s. s.mentions) (placed_from c ss))
 open-from c [] ms b h = subst (IsOpen true) (sym (append-nil ms)) h
 open-from c (s ∷ ss) ms b h =
     subst (IsOpen true) (append_assoc ms (mentions_of c s) (flat_map (λ r. r.mentions) (placed_from (context_after c s) ss)))

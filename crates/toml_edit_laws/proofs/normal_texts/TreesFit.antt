@@ -3,15 +3,18 @@ use Rattle.std.proofs.Common.{◌≡◌, refl, sym, ◌∙◌, ap, subst, Bool, 
 use Rattle.std.specs.Prelude.{◌&&◌, ◌||◌, not, ℤ, pos, negsuc, map, filter, Option, Some, None, if◌then◌else◌, is_some}
 use Rattle.std.specs.List.{AllByRecursion, list_all}
 use Rattle.toml_edit_model.specs.Mode.{Mode, plain, exact}
-use Rattle.toml_edit_model.specs.Syntax.{Statement, key_line, Header, header, Document, open_statements, IsDocument, keeps_limits, is_ranged}
-use Rattle.toml_edit_model.specs.Paths.{header_role_of, Mention, Source, Context, context_after, placed_from, placed, start_context, all_mentions}
+use Rattle.toml_edit_model.specs.Syntax.{Statement, key_line, Header, header, Document, open_statements, IsDocument, keeps_limits}
+use Rattle.toml_edit_model.specs.Syntax.{is_ranged}
+use Rattle.toml_edit_model.specs.Paths.{header_role_of, Mention, Source, Context, context_after, placed_from, placed, start_context}
+use Rattle.toml_edit_model.specs.Paths.{all_mentions}
 use Rattle.toml_edit_model.specs.Accepted.{has_agreeing_tables, is_sound, is_accepted}
 use Rattle.toml_edit_model.specs.Normal.{has_open_end, normal_last, normal_in}
 use Rattle.toml_edit_model.specs.Tree.{TableFields, Tree, shown_prefix}
 use Rattle.toml_edit_model.specs.TreeOf.{owned_in, IsTreeOf}
 use Rattle.toml_edit_model.specs.HeaderOrder.{Visit, walk, slots_walk, places_from, place_of, comes_before, in_header_order}
 use Rattle.toml_edit_model.specs.Print.{has_header, statements_of, written_statements, add_before}
-use Rattle.toml_edit_model.specs.Fits.{is_too_late, none_too_late, headed, elements_are_ordered, is_steady_visit, has_steady_header, has_own_prefix, has_no_dotted_inline, FitsIn}
+use Rattle.toml_edit_model.specs.Fits.{is_too_late, none_too_late, headed, elements_are_ordered, is_steady_visit, has_steady_header}
+use Rattle.toml_edit_model.specs.Fits.{has_own_prefix, has_no_dotted_inline, FitsIn}
 use Rattle.toml_edit_laws.specs.TextsFit.{TextsFit}
 use Rattle.toml_edit_laws.proofs.common.Tests.{and_left, and_right, and_both, true-false}
 use Rattle.toml_edit_laws.proofs.common.OrderLaws.{all-sorted}
@@ -85,21 +88,24 @@ none-late (v ∷ vs) h = and_both (list_all (λ u. not (is_too_late v u)) vs) (n
     each (u ∷ us) g = and_both (not (is_too_late v u)) (list_all (λ u. not (is_too_late v u)) us) (ap not g.0) (each us g.1)
 
 module _ (mode : Mode) where
-  printed-limits : (d : Document) → IsDocument d → is_accepted d ≡ true → (t : Tree) → IsTreeOf (owned_in mode) d t → list_all keeps_limits (statements_of mode t) ≡ true
+  printed-limits : (d : Document) → IsDocument d → is_accepted d ≡ true → (t : Tree) → IsTreeOf (owned_in mode) d t
+      → list_all keeps_limits (statements_of mode t) ≡ true
   printed-limits d h g t is =
       let written = written_statements mode (has_open_end d.statements) t in
       let same : normal_last mode d (statements_of mode t) ≡ (normal_in mode d).statements =
       sym (written-last mode d h t is.root is.trailing)
       ∙ sym (add-nothing written) ∙ ap (λ (f : TableFields). add_before (shown_prefix mode [] f.decor) written) (sym is.root)
       ∙ ap (λ (e : Document). e.statements) (printed_normal mode d h g t is) in
-      sym (last-limits mode d (statements_of mode t)) ∙ ap (list_all keeps_limits) same ∙ accepted-limits (normal_in mode d) (normal-accepted mode d h g).1
+      sym (last-limits mode d (statements_of mode t)) ∙ ap (list_all keeps_limits) same
+      ∙ accepted-limits (normal_in mode d) (normal-accepted mode d h g).1
 
   -- ---- headers
 
   abbrev HeadsNumbered : Visit → Type 0
   HeadsNumbered v = has_header mode v ≡ true → has_number v ≡ true
 
-  steady-number : (v : Visit) → is_steady_visit mode v ≡ true → is_counted v.fields.position ≡ true → v.fields.is_dotted ≡ false → HeadsNumbered v
+  steady-number : (v : Visit) → is_steady_visit mode v ≡ true → is_counted v.fields.position ≡ true → v.fields.is_dotted ≡ false
+      → HeadsNumbered v
   steady-number v h c d e =
       let part = and_right (has_no_dotted_inline v.slots) ((v.fields.is_dotted || not (has_header mode v)) || has_steady_header v) h in
       let steady : has_steady_header v ≡ true = by_tests v.fields.is_dotted (has_header mode v) (has_steady_header v) d e part in
@@ -113,7 +119,8 @@ module _ (mode : Mode) where
       by_tests false true c p q r = r
       by_tests false false c p q r = absurd cc
 
-  places-numbered : (seen : ℤ) (vs : List Visit) → list_all (is_steady_visit mode) vs ≡ true → list_all (λ v. is_counted v.fields.position) vs ≡ true
+  places-numbered : (seen : ℤ) (vs : List Visit) → list_all (is_steady_visit mode) vs ≡ true
+      → list_all (λ v. is_counted v.fields.position) vs ≡ true
       → AllByRecursion (λ g. HeadsNumbered g.1) (places_from seen vs)
   places-numbered seen [] h k = tt
   places-numbered seen (v ∷ vs) h k =
@@ -121,11 +128,14 @@ module _ (mode : Mode) where
       let more = and_right (is_counted v.fields.position) (list_all (λ u. is_counted u.fields.position) vs) k in
       by_test v.fields.is_dotted refl (places-numbered seen vs rest more) (places-numbered (place_of seen v) vs rest more)
     where
-      by_test : (b : Bool) → v.fields.is_dotted ≡ b → AllByRecursion (λ g. HeadsNumbered g.1) (places_from seen vs) → AllByRecursion (λ g. HeadsNumbered g.1) (places_from (place_of seen v) vs)
-          → AllByRecursion (λ g. HeadsNumbered g.1) (if b then places_from seen vs else (place_of seen v, v) ∷ places_from (place_of seen v) vs)
+      by_test : (b : Bool) → v.fields.is_dotted ≡ b → AllByRecursion (λ g. HeadsNumbered g.1) (places_from seen vs)
+          → AllByRecursion (λ g. HeadsNumbered g.1) (places_from (place_of seen v) vs)
+          → AllByRecursion (λ g. HeadsNumbered g.1) (if b then places_from seen vs else (place_of seen v, v)
+          ∷ places_from (place_of seen v) vs)
       by_test true e a c = a
       by_test false e a c = (
-        steady-number v (and_left (is_steady_visit mode v) (list_all (is_steady_visit mode) vs) h) (and_left (is_counted v.fields.position) (list_all (λ u. is_counted u.fields.position) vs) k) e,
+        steady-number v (and_left (is_steady_visit mode v) (list_all (is_steady_visit mode) vs) h)
+            (and_left (is_counted v.fields.position) (list_all (λ u. is_counted u.fields.position) vs) k) e,
         c,
       )
 
@@ -141,24 +151,32 @@ module _ (mode : Mode) where
       kept : List PlacedVisit
       kept = filter (λ (x : PlacedVisit). has_number x.1) gs
 
-      by_tests : (a : Bool) → has_header mode g.1 ≡ a → (b : Bool) → has_number g.1 ≡ b → all ≡ filter (has_header mode) (map (λ (x : PlacedVisit). x.1) kept)
+      by_tests : (a : Bool) → has_header mode g.1 ≡ a → (b : Bool) → has_number g.1 ≡ b → all
+          ≡ filter (has_header mode) (map (λ (x : PlacedVisit). x.1) kept)
           → (if a then g.1 ∷ all else all) ≡ filter (has_header mode) (map (λ (x : PlacedVisit). x.1) (if b then g ∷ kept else kept))
-      by_tests true p true q ih = sym (ap (λ c. if c then g.1 ∷ filter (has_header mode) (map (λ (x : PlacedVisit). x.1) kept) else filter (has_header mode) (map (λ (x : PlacedVisit). x.1) kept)) p ∙ ap (λ vs. g.1 ∷ vs) (sym ih))
+      by_tests true p true q ih =
+          sym (ap (λ c. if c then g.1 ∷ filter (has_header mode) (map (λ (x : PlacedVisit). x.1) kept)
+          else filter (has_header mode) (map (λ (x : PlacedVisit). x.1) kept)) p ∙ ap (λ vs. g.1 ∷ vs) (sym ih))
       by_tests true p false q ih = true-false (has_number g.1) (h.0 p) q
-      by_tests false p true q ih = sym (ap (λ c. if c then g.1 ∷ filter (has_header mode) (map (λ (x : PlacedVisit). x.1) kept) else filter (has_header mode) (map (λ (x : PlacedVisit). x.1) kept)) p ∙ sym ih)
+      by_tests false p true q ih =
+          sym (ap (λ c. if c then g.1 ∷ filter (has_header mode) (map (λ (x : PlacedVisit). x.1) kept)
+          else filter (has_header mode) (map (λ (x : PlacedVisit). x.1) kept)) p ∙ sym ih)
       by_tests false p false q ih = ih
 
   -- ---- the tables of headers follow one another
 
-  table-element : (all : List (Mention Source)) (vs : List Visit) (ch : Chunk) (h : HasTable mode all vs ch) → h.visit.is_element ≡ is_element_chunk ch
+  table-element : (all : List (Mention Source)) (vs : List Visit) (ch : Chunk) (h : HasTable mode all vs ch) → h.visit.is_element
+      ≡ is_element_chunk ch
   table-element all vs ch h =
       h.visit_is.element ∙ ap is_array_role h.is.last_role ∙ array-is h.is.header_is ∙ ap is_element_header (sym h.is.statement)
 
-  tables-follow : (all : List (Mention Source)) (vs : List Visit) (cs : List Chunk) (h : AllByRecursion (HasTable mode all vs) cs) → AllPairs NotLate cs → AllPairs VisitNotLate (tables_of mode all vs cs h)
+  tables-follow : (all : List (Mention Source)) (vs : List Visit) (cs : List Chunk) (h : AllByRecursion (HasTable mode all vs) cs)
+      → AllPairs NotLate cs → AllPairs VisitNotLate (tables_of mode all vs cs h)
   tables-follow all vs [] h g = tt
   tables-follow all vs (ch ∷ cs) h g = (each cs h.1 g.0, tables-follow all vs cs h.1 g.1)
     where
-      each : (xs : List Chunk) (k : AllByRecursion (HasTable mode all vs) xs) → AllByRecursion (NotLate ch) xs → AllByRecursion (VisitNotLate h.0.visit) (tables_of mode all vs xs k)
+      each : (xs : List Chunk) (k : AllByRecursion (HasTable mode all vs) xs) → AllByRecursion (NotLate ch) xs
+          → AllByRecursion (VisitNotLate h.0.visit) (tables_of mode all vs xs k)
       each [] k f = tt
       each (x ∷ xs) k f = (
         ap (λ e. too_late e h.0.visit.path k.0.visit.is_element k.0.visit.path) (table-element all vs ch h.0)
@@ -169,11 +187,13 @@ module _ (mode : Mode) where
         each xs k.1 f.1,
       )
 
-  ordered-tree : (d : Document) → IsDocument d → is_accepted d ≡ true → (t : Tree) → IsTreeOf (owned_in mode) d t → elements_are_ordered mode t ≡ true
+  ordered-tree : (d : Document) → IsDocument d → is_accepted d ≡ true → (t : Tree) → IsTreeOf (owned_in mode) d t
+      → elements_are_ordered mode t ≡ true
   ordered-tree d h g t is =
       let fine = walk-fine mode d t is in
       let numbered : AllByRecursion (λ (x : PlacedVisit). HeadsNumbered x.1) (in_header_order t) =
-      all-sorted (λ (x : PlacedVisit). HeadsNumbered x.1) comes_before (places_from (pos 0) (walk t)) (places-numbered (pos 0) (walk t) fine.0 fine.2) in
+      all-sorted (λ (x : PlacedVisit). HeadsNumbered x.1) comes_before (places_from (pos 0) (walk t))
+      (places-numbered (pos 0) (walk t) fine.0 fine.2) in
       let cs : List Chunk = chunks (start_context d) d.statements in
       let vs : List Visit = slots_walk t.slots [] [] in
       let heads : headed mode t ≡ filter (has_header mode) (tables_of mode (all_mentions d) vs cs (tables mode d h g t is)) =

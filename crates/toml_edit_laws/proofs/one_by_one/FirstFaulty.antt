@@ -36,25 +36,29 @@ module _ (version : Version) where
       ap (λ b. is_right_in version earlier s && b)
       (right-append_in (earlier ++ (s ∷ [])) xs ys
       ∙ ap (λ es. all_right_in version (earlier ++ (s ∷ [])) xs && all_right_in version es ys) (append_assoc earlier (s ∷ []) xs))
-      ∙ sym (and-assoc (is_right_in version earlier s) (all_right_in version (earlier ++ (s ∷ [])) xs) (all_right_in version (earlier ++ (s ∷ xs)) ys))
+      ∙ sym (and-assoc (is_right_in version earlier s) (all_right_in version (earlier ++ (s ∷ [])) xs) (all_right_in version (earlier
+      ++ (s ∷ xs)) ys))
 
   right-front : (xs ys : List Placed) → are_right_in version (xs ++ ys) ≡ true → are_right_in version xs ≡ true
   right-front xs ys h =
       right-together version xs
-      ∙ front (all_right_in version [] xs) (all_right_in version xs ys) (sym (right-append_in [] xs ys) ∙ sym (right-together version (xs ++ ys)) ∙ h)
+      ∙ front (all_right_in version [] xs) (all_right_in version xs ys) (sym (right-append_in [] xs ys)
+      ∙ sym (right-together version (xs ++ ys)) ∙ h)
     where
       front : (a b : Bool) → (a && b) ≡ true → a ≡ true
       front true b h = refl
       front false b h = h
 
   -- a statement isn't right after right ones where they aren't right together with it
-  pub wrong_here : (earlier : List Placed) (s : Placed) → are_right_in version earlier ≡ true → are_right_in version (earlier ++ (s ∷ [])) ≡ false
+  pub wrong_here : (earlier : List Placed) (s : Placed) → are_right_in version earlier ≡ true → are_right_in version (earlier ++ (s ∷ []))
+      ≡ false
       → is_right_in version earlier s ≡ false
   wrong_here earlier s right faulty =
       both-false (all_right_in version [] earlier) (is_right_in version earlier s) (sym (right-together version earlier) ∙ right)
       (sym (right-append_in [] earlier (s ∷ [])) ∙ sym (right-together version (earlier ++ (s ∷ []))) ∙ faulty)
 
-  pub wrong_there : (earlier : List Placed) (s : Placed) → is_right_in version earlier s ≡ false → are_right_in version (earlier ++ (s ∷ [])) ≡ false
+  pub wrong_there : (earlier : List Placed) (s : Placed) → is_right_in version earlier s ≡ false
+      → are_right_in version (earlier ++ (s ∷ [])) ≡ false
   wrong_there earlier s wrong =
       right-together version (earlier ++ (s ∷ [])) ∙ right-append_in [] earlier (s ∷ [])
       ∙ ap (λ b. all_right_in version [] earlier && (b && true)) wrong ∙ and-none (all_right_in version [] earlier)
@@ -74,8 +78,10 @@ module _ (version : Version) where
       by_test false e = refl
 
   -- going on from right statements, up to the first that isn't right
-  found : (all earlier places : List Placed) → all ≡ earlier ++ places → are_right_in version earlier ≡ true → all_right_in version earlier places ≡ false
-      → (done : List Placed) × (s : Placed) × (later : List Placed) × (all ≡ done ++ (s ∷ later)) × (are_right_in version done ≡ true) × (is_right_in version done s ≡ false)
+  found : (all earlier places : List Placed) → all ≡ earlier ++ places → are_right_in version earlier ≡ true
+      → all_right_in version earlier places ≡ false
+      → (done : List Placed) × (s : Placed) × (later : List Placed) × (all ≡ done ++ (s ∷ later)) × (are_right_in version done ≡ true)
+      × (is_right_in version done s ≡ false)
   found all earlier [] is right wrong = absurd (let none : true ≡ false = wrong in cc)
   found all earlier (s ∷ rest) is right wrong =
       elim (cases_Bool (is_right_in version earlier s)) [
@@ -87,22 +93,27 @@ module _ (version : Version) where
         | inr e ↦ (earlier, s, rest, is, right, e)
       ]
 
-  some_first : (d : Document) → is_accepted_in version d ≡ false → (earlier : List Placed) × (s : Placed) × IsFirstFaultyIn version d earlier s
+  some_first : (d : Document) → is_accepted_in version d ≡ false → (earlier : List Placed) × (s : Placed)
+      × IsFirstFaultyIn version d earlier s
   some_first d refused =
-      let (done, s, later, is, right, wrong) = found (placed d) [] (placed d) refl refl (sym (right-together version (placed d)) ∙ refused) in
+      let (done, s, later, is, right, wrong) =
+      found (placed d) [] (placed d) refl refl (sym (right-together version (placed d)) ∙ refused) in
       (done, s, record { later = later; split = is; right = right; faulty = wrong_there done s wrong })
 
-  one_first : (d : Document) (earlier others : List Placed) (s r : Placed) → IsFirstFaultyIn version d earlier s → IsFirstFaultyIn version d others r
+  one_first : (d : Document) (earlier others : List Placed) (s r : Placed) → IsFirstFaultyIn version d earlier s
+      → IsFirstFaultyIn version d others r
       → (others ≡ earlier) × (r ≡ s)
   one_first d earlier others s r a b =
       elim (parted earlier others a.later b.later s r (sym a.split ∙ b.split)) [
         | inl same ↦ same
         | inr (inl more) ↦
             true-false (are_right_in version (earlier ++ (s ∷ [])))
-            (right-front (earlier ++ (s ∷ [])) more.0 (ap (are_right_in version) (append_assoc earlier (s ∷ []) more.0 ∙ sym more.1) ∙ b.right)) a.faulty
+            (right-front (earlier ++ (s ∷ [])) more.0 (ap (are_right_in version) (append_assoc earlier (s ∷ []) more.0 ∙ sym more.1)
+            ∙ b.right)) a.faulty
         | inr (inr more) ↦
             true-false (are_right_in version (others ++ (r ∷ [])))
-            (right-front (others ++ (r ∷ [])) more.0 (ap (are_right_in version) (append_assoc others (r ∷ []) more.0 ∙ sym more.1) ∙ a.right)) b.faulty
+            (right-front (others ++ (r ∷ [])) more.0 (ap (are_right_in version) (append_assoc others (r ∷ []) more.0 ∙ sym more.1)
+            ∙ a.right)) b.faulty
       ]
 
   pub first_faulty_laws : (d : Document) → FirstFaulty version d

@@ -38,10 +38,12 @@ cross-parts : (earlier : List Placed) (s : Placed) (rest : List Placed) → cros
     → (cross earlier rest ≡ true) × (list_all (agrees s) rest ≡ true)
 cross-parts earlier s [] h = (refl, refl)
 cross-parts earlier s (r ∷ rest) h =
-    let here : (agrees_with earlier r && (agrees s r && true)) ≡ true = sym (one-more earlier s r) ∙ and_left (agrees_with (earlier ++ (s ∷ [])) r) (cross (earlier ++ (s ∷ [])) rest) h in
+    let here : (agrees_with earlier r && (agrees s r && true)) ≡ true = sym (one-more earlier s r)
+    ∙ and_left (agrees_with (earlier ++ (s ∷ [])) r) (cross (earlier ++ (s ∷ [])) rest) h in
     let more = cross-parts earlier s rest (and_right (agrees_with (earlier ++ (s ∷ [])) r) (cross (earlier ++ (s ∷ [])) rest) h) in (
       and_both (agrees_with earlier r) (cross earlier rest) (and_left (agrees_with earlier r) (agrees s r && true) here) more.0,
-      and_both (agrees s r) (list_all (agrees s) rest) (and_left (agrees s r) true (and_right (agrees_with earlier r) (agrees s r && true) here)) more.1,
+      and_both (agrees s r) (list_all (agrees s) rest) (and_left (agrees s r) true (and_right (agrees_with earlier r) (agrees s r
+          && true) here)) more.1,
     )
 
 cross-whole : (earlier : List Placed) (s : Placed) (rest : List Placed) → cross earlier rest ≡ true → list_all (agrees s) rest ≡ true
@@ -52,7 +54,8 @@ cross-whole earlier s (r ∷ rest) h g =
     (one-more earlier s r
     ∙ and_both (agrees_with earlier r) (agrees s r && true) (and_left (agrees_with earlier r) (cross earlier rest) h)
     (and_both (agrees s r) true (and_left (agrees s r) (list_all (agrees s) rest) g) refl))
-    (cross-whole earlier s rest (and_right (agrees_with earlier r) (cross earlier rest) h) (and_right (agrees s r) (list_all (agrees s) rest) g))
+    (cross-whole earlier s rest (and_right (agrees_with earlier r) (cross earlier rest) h)
+    (and_right (agrees s r) (list_all (agrees s) rest) g))
 
 cross-none : (places : List Placed) → cross [] places ≡ true
 cross-none [] = refl
@@ -75,13 +78,15 @@ module _ (version : Version) where
       let more = together-of (earlier ++ (s ∷ [])) rest (and_right right later h) in
       let apart = cross-parts earlier s rest more.2 in (
         and_both (of_version && own) (list_all sound rest)
-            (and_both of_version own (and_left of_version (own && agrees_with earlier s) here) (and_left own (agrees_with earlier s) parts)) more.0,
+            (and_both of_version own (and_left of_version (own && agrees_with earlier s) here) (and_left own (agrees_with earlier s) parts))
+            more.0,
         and_both (list_all (agree may_meet s.mentions) (mentions_each rest)) (all_agree may_meet (mentions_each rest))
             (list_all-map (agree may_meet s.mentions) (λ (r : Placed). r.mentions) rest ∙ apart.1) more.1,
         and_both (agrees_with earlier s) (cross earlier rest) (and_right own (agrees_with earlier s) parts) apart.0,
       )
 
-  pub together-to : (earlier places : List Placed) → list_all sound places ≡ true → all_agree may_meet (mentions_each places) ≡ true → cross earlier places ≡ true
+  pub together-to : (earlier places : List Placed) → list_all sound places ≡ true → all_agree may_meet (mentions_each places) ≡ true
+      → cross earlier places ≡ true
       → all_right_in version earlier places ≡ true
   together-to earlier [] a b c = refl
   together-to earlier (s ∷ rest) a b c =
@@ -90,11 +95,13 @@ module _ (version : Version) where
       let here = and_left (of_version && own) (list_all sound rest) a in
       let agreed = list_all (agree may_meet s.mentions) (mentions_each rest) in
       let later : list_all (agrees s) rest ≡ true =
-      sym (list_all-map (agree may_meet s.mentions) (λ (r : Placed). r.mentions) rest) ∙ and_left agreed (all_agree may_meet (mentions_each rest)) b in
+      sym (list_all-map (agree may_meet s.mentions) (λ (r : Placed). r.mentions) rest)
+      ∙ and_left agreed (all_agree may_meet (mentions_each rest)) b in
       and_both (is_right_in version earlier s) (all_right_in version (earlier ++ (s ∷ [])) rest)
       (and_both of_version (own && agrees_with earlier s) (and_left of_version own here)
       (and_both own (agrees_with earlier s) (and_right of_version own here) (and_left (agrees_with earlier s) (cross earlier rest) c)))
-      (together-to (earlier ++ (s ∷ [])) rest (and_right (of_version && own) (list_all sound rest) a) (and_right agreed (all_agree may_meet (mentions_each rest)) b)
+      (together-to (earlier ++ (s ∷ [])) rest (and_right (of_version && own) (list_all sound rest) a)
+      (and_right agreed (all_agree may_meet (mentions_each rest)) b)
       (cross-whole earlier s rest (and_right (agrees_with earlier s) (cross earlier rest) c) later))
 
   -- Statements are right together where they are right one after another.

@@ -10,27 +10,31 @@ use Rattle.toml_edit_laws.specs.OneCut.{OneCut}
 use Rattle.toml_edit_laws.specs.reading.Runs.{first}
 use Rattle.toml_edit_laws.proofs.reading.Begins.{StartsAscii, ascii_trivia, ascii_final}
 use Rattle.toml_edit_laws.proofs.one_cut.Parts.{past, past_trivia, past_final, opens_stops}
-use Rattle.toml_edit_laws.proofs.one_cut.Statements.{IsEnding, EndsAt, leading_of, statement_tail, statement_then, leading_is, statement_opens, one_statement}
+use Rattle.toml_edit_laws.proofs.one_cut.Statements.{IsEnding, EndsAt, leading_of, statement_tail, statement_then, leading_is}
+use Rattle.toml_edit_laws.proofs.one_cut.Statements.{statement_opens, one_statement}
 
 abbrev statements_text : List Statement → Text
 statements_text ss = joined (map statement_text ss)
 
 -- ---- a list of statements
 
-ends_weaken : (Weak Strong : Text → Type 0) (s : Statement) → ((end : Text) → Weak end → Strong end) → IsStatement Weak s → IsStatement Strong s
+ends_weaken : (Weak Strong : Text → Type 0) (s : Statement) → ((end : Text) → Weak end → Strong end) → IsStatement Weak s
+    → IsStatement Strong s
 ends_weaken Weak Strong (key_line f v end) more (frame, value, ends) = (frame, value, more end ends)
 ends_weaken Weak Strong (header h end) more (is, ends) = (is, more end ends)
 
 -- the first of the statements, and the others
 first_of : (s : Statement) (ss : List Statement) (final : Text) → AreStatements final (s ∷ ss) → EndsAt (statements_text ss ++ final) s
 first_of s [] final is = is
-first_of s (r ∷ rest) final (is, more) = ends_weaken IsNewline (λ end. IsEnding end (statements_text (r ∷ rest) ++ final)) s (λ end newline. inl newline) is
+first_of s (r ∷ rest) final (is, more) =
+    ends_weaken IsNewline (λ end. IsEnding end (statements_text (r ∷ rest) ++ final)) s (λ end newline. inl newline) is
 
 later_of : (s : Statement) (ss : List Statement) (final : Text) → AreStatements final (s ∷ ss) → AreStatements final ss
 later_of s [] final is = tt
 later_of s (r ∷ rest) final (is, more) = more
 
-statements_then : (s : Statement) (ss : List Statement) (final : Text) → statements_text (s ∷ ss) ++ final ≡ statement_text s ++ (statements_text ss ++ final)
+statements_then : (s : Statement) (ss : List Statement) (final : Text) → statements_text (s ∷ ss) ++ final ≡ statement_text s
+    ++ (statements_text ss ++ final)
 statements_then s ss final = append_assoc (statement_text s) (statements_text ss) final
 
 -- a statement is no final trivia
@@ -38,7 +42,8 @@ not_final : (s : Statement) (rest t : Text) → EndsAt rest s → IsFinalTrivia 
 not_final s rest t is last e =
     let (c, cs, begins, opening) = statement_opens s rest is in
     let behind : past false (statement_text s ++ rest) ≡ c ∷ cs =
-    ap (past false) (statement_then s rest) ∙ past_trivia (leading_of s) (statement_tail s rest) (leading_is s rest is) ∙ opens_stops (statement_tail s rest) (c, cs, begins, opening) ∙ begins in
+    ap (past false) (statement_then s rest) ∙ past_trivia (leading_of s) (statement_tail s rest) (leading_is s rest is)
+    ∙ opens_stops (statement_tail s rest) (c, cs, begins, opening) ∙ begins in
     let clash : [] ≡ c ∷ cs = sym (past_final t last) ∙ ap (past false) e ∙ behind in
     cc
 
@@ -58,7 +63,8 @@ one_statements (s ∷ ss) (z ∷ zs) f g are also last also_last e =
 -- ---- the byte order mark
 
 -- statements begin with an ASCII byte
-statements_ascii : (ss : List Statement) (final : Text) → AreStatements final ss → IsFinalTrivia final → StartsAscii (statements_text ss ++ final)
+statements_ascii : (ss : List Statement) (final : Text) → AreStatements final ss → IsFinalTrivia final
+    → StartsAscii (statements_text ss ++ final)
 statements_ascii [] final are last = ascii_final final last
 statements_ascii (s ∷ ss) final are last =
     let rest = statements_text ss ++ final in

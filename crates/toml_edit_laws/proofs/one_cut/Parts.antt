@@ -1,12 +1,14 @@
 -- Runs, trivia, keys, scalars and dotted keys are told apart from what follows them: equal texts have equal parts.
-use Rattle.std.proofs.Common.{◌≡◌, ℕ, Bool, true, false, cond, ◌==◌, ◌||◌, List, [], ◌∷◌, ◌++◌, refl, sym, ap, ◌∙◌, inl, inr, arith, append_assoc}
+use Rattle.std.proofs.Common.{◌≡◌, ℕ, Bool, true, false, cond, ◌==◌, ◌||◌, List, [], ◌∷◌, ◌++◌, refl, sym, ap, ◌∙◌, inl, inr, arith}
+use Rattle.std.proofs.Common.{append_assoc}
 use Rattle.std.specs.List.{list_all, flat_map, AllByRecursion}
 use Rattle.std.proofs.lemmas.Bool.{and_parts, false≢true}
 use Rattle.std.proofs.lemmas.Bool.Decides.{nat_tests}
 use Rattle.std.proofs.lemmas.List.{append_cancel_right}
 use Rattle.std.proofs.lemmas.Option.{same_Some}
 use Rattle.toml_edit_model.specs.Text.{Text, is_empty}
-use Rattle.toml_edit_model.specs.Trivia.{Each, is_blank, is_visible, Newline, lf, crlf, newline_text, comment, Piece, blank, break, remark, piece_text, IsPiece, IsWhiteSpace, IsWholeTrivia, IsFinalTrivia}
+use Rattle.toml_edit_model.specs.Trivia.{Each, is_blank, is_visible, Newline, lf, crlf, newline_text, comment, Piece, blank, break, remark}
+use Rattle.toml_edit_model.specs.Trivia.{piece_text, IsPiece, IsWhiteSpace, IsWholeTrivia, IsFinalTrivia}
 use Rattle.toml_edit_model.specs.Scalars.{Scalar}
 use Rattle.toml_edit_model.specs.Spelling.{Spells, SpellsKey}
 use Rattle.toml_edit_model.specs.Syntax.{Segment, path_text, IsSpacedSegment, IsSpelledSegment, ends_unspaced, IsPath}
@@ -25,18 +27,23 @@ pub fronts : (a b r q : Text) → r ≡ q → a ++ r ≡ b ++ q → a ≡ b
 fronts a b r q same e = append_cancel_right a b q (ap (λ (x : Text). a ++ x) (sym same) ∙ e)
 
 -- a run of bytes that pass, before one that does not
-pub one_run : (p : ℕ → Bool) (a b r q : Text) → Each p a → Each p b → p (first r) ≡ false → p (first q) ≡ false → a ++ r ≡ b ++ q → (a ≡ b) × (r ≡ q)
+pub one_run : (p : ℕ → Bool) (a b r q : Text) → Each p a → Each p b → p (first r) ≡ false → p (first q) ≡ false → a ++ r ≡ b ++ q → (a ≡ b)
+    × (r ≡ q)
 one_run p a b r q is also stop halt e =
     same_parts a b r q (sym (split_while-run p a r is stop) ∙ ap (split_while p) e ∙ split_while-run p b q also halt)
 
-pub one_key : (k l s t r q : Text) → SpellsKey k s → SpellsKey l t → ends_key r ≡ true → ends_key q ≡ true → s ++ r ≡ t ++ q → (k ≡ l) × (s ≡ t) × (r ≡ q)
+pub one_key : (k l s t r q : Text) → SpellsKey k s → SpellsKey l t → ends_key r ≡ true → ends_key q ≡ true → s ++ r ≡ t ++ q → (k ≡ l)
+    × (s ≡ t) × (r ≡ q)
 one_key k l s t r q is also stop halt e =
-    let (key, rest) = same_parts k l r q (same_Some (k, r) (l, q) (sym (key_again k s r is stop) ∙ ap key_at e ∙ key_again l t q also halt)) in
+    let (key, rest) = same_parts k l r q (same_Some (k, r) (l, q) (sym (key_again k s r is stop) ∙ ap key_at e
+    ∙ key_again l t q also halt)) in
     (key, fronts s t r q rest e, rest)
 
-pub one_scalar : (a b : Scalar) (s t r q : Text) → Spells a s → Spells b t → ends_scalar r ≡ true → ends_scalar q ≡ true → s ++ r ≡ t ++ q → (a ≡ b) × (s ≡ t) × (r ≡ q)
+pub one_scalar : (a b : Scalar) (s t r q : Text) → Spells a s → Spells b t → ends_scalar r ≡ true → ends_scalar q ≡ true → s ++ r ≡ t ++ q
+    → (a ≡ b) × (s ≡ t) × (r ≡ q)
 one_scalar a b s t r q is also stop halt e =
-    let (value, rest) = same_parts a b r q (same_Some (a, r) (b, q) (sym (scalar_again a s r is stop) ∙ ap scalar_at e ∙ scalar_again b t q also halt)) in
+    let (value, rest) = same_parts a b r q (same_Some (a, r) (b, q) (sym (scalar_again a s r is stop) ∙ ap scalar_at e
+    ∙ scalar_again b t q also halt)) in
     (value, fronts s t r q rest e, rest)
 
 -- ---- trivia
@@ -51,7 +58,8 @@ past true (c ∷ cs) = cond (c == 10) (past false cs) (past true cs)
 abbrev pub Stops : Text → Type 0
 Stops t = past false t ≡ t
 
-past_body : (body : Text) (n : Newline) (rest : Text) → Each is_visible body → past true (body ++ (newline_text n ++ rest)) ≡ past false rest
+past_body : (body : Text) (n : Newline) (rest : Text) → Each is_visible body → past true (body ++ (newline_text n ++ rest))
+    ≡ past false rest
 past_body [] lf rest each = refl
 past_body [] crlf rest each = refl
 past_body (c ∷ body) n rest each =
@@ -94,7 +102,8 @@ one_trivia w u r q is also stop halt e =
     (fronts w u r q rest e, rest)
 
 -- what ends a scalar may have trivia before it
-ends_pieces : (ps : List Piece) (rest : Text) → AllByRecursion IsPiece ps → ends_scalar rest ≡ true → ends_scalar (flat_map piece_text ps ++ rest) ≡ true
+ends_pieces : (ps : List Piece) (rest : Text) → AllByRecursion IsPiece ps → ends_scalar rest ≡ true
+    → ends_scalar (flat_map piece_text ps ++ rest) ≡ true
 ends_pieces [] rest each h = h
 ends_pieces (blank c ∷ ps) rest (white, each) h = rw white (ends_pieces ps rest each h)
 ends_pieces (break lf ∷ ps) rest each h = refl
@@ -140,7 +149,8 @@ opens_apart c cs t none (d, ds, e, opening) same =
 -- ---- dotted keys
 
 -- what stands at the front of blanks and then of this
-pub blank_first : (p : ℕ → Bool) (b rest : Text) → ((c : ℕ) → is_blank c ≡ true → p c ≡ true) → IsWhiteSpace b → p (first rest) ≡ true → p (first (b ++ rest)) ≡ true
+pub blank_first : (p : ℕ → Bool) (b rest : Text) → ((c : ℕ) → is_blank c ≡ true → p c ≡ true) → IsWhiteSpace b → p (first rest) ≡ true
+    → p (first (b ++ rest)) ≡ true
 blank_first p [] rest apart each h = h
 blank_first p (c ∷ cs) rest apart each h = apart c (and_parts (is_blank c) (list_all is_blank cs) each).0
 
@@ -153,7 +163,8 @@ pub record EndsPath (rest : Text) : Type 0 where
   pub stops : ends_key rest ≡ true
   pub undotted : (first (split_while is_blank rest).1 == 46) ≡ false
 
-pub ends_path : (b rest : Text) (c : ℕ) → IsWhiteSpace b → ends_key (c ∷ []) ≡ true → is_blank c ≡ false → (c == 46) ≡ false → EndsPath (b ++ (c ∷ rest))
+pub ends_path : (b rest : Text) (c : ℕ) → IsWhiteSpace b → ends_key (c ∷ []) ≡ true → is_blank c ≡ false → (c == 46) ≡ false
+    → EndsPath (b ++ (c ∷ rest))
 ends_path b rest c each key stop dot =
     record {
       stops = blank_first (λ c. ends_key (c ∷ [])) b (c ∷ rest) (λ c h. grind (arith, nat_tests)) each key;
@@ -171,19 +182,24 @@ regroup a b c d rest = simp append_assoc
 regroup_last : (a b rest : Text) → (a ++ (b ++ [])) ++ rest ≡ a ++ (b ++ rest)
 regroup_last a b rest = simp append_assoc
 
-path_tail : (s : Segment) (p : List Segment) (rest : Text) → ends_unspaced (s ∷ p) ≡ true → path_text (s ∷ p) ++ rest ≡ s.before ++ tail_text s p rest
-path_tail s [] rest ends = ap (λ (x : Text). (s.before ++ (s.spelled ++ x)) ++ rest) (empty_nil s.after ends) ∙ regroup_last s.before s.spelled rest
+path_tail : (s : Segment) (p : List Segment) (rest : Text) → ends_unspaced (s ∷ p) ≡ true → path_text (s ∷ p) ++ rest ≡ s.before
+    ++ tail_text s p rest
+path_tail s [] rest ends = ap (λ (x : Text). (s.before ++ (s.spelled ++ x)) ++ rest) (empty_nil s.after ends)
+    ∙ regroup_last s.before s.spelled rest
 path_tail s (r ∷ p) rest ends =
-    sym (regroup s.before s.spelled s.after (path_text (r ∷ p)) rest) ∙ ap (λ (x : Text). s.before ++ (s.spelled ++ (s.after ++ (46 ∷ x)))) (path_tail r p rest ends)
+    sym (regroup s.before s.spelled s.after (path_text (r ∷ p)) rest)
+    ∙ ap (λ (x : Text). s.before ++ (s.spelled ++ (s.after ++ (46 ∷ x)))) (path_tail r p rest ends)
 
 tail_opens : (s : Segment) (p : List Segment) (rest : Text) → SpellsKey s.key s.spelled → Opens (tail_text s p rest)
 tail_opens s [] rest is = opens_more s.spelled rest (opens_from s.spelled (key_begins s.key s.spelled is))
-tail_opens s (r ∷ p) rest is = opens_more s.spelled (s.after ++ (46 ∷ (r.before ++ tail_text r p rest))) (opens_from s.spelled (key_begins s.key s.spelled is))
+tail_opens s (r ∷ p) rest is =
+    opens_more s.spelled (s.after ++ (46 ∷ (r.before ++ tail_text r p rest))) (opens_from s.spelled (key_begins s.key s.spelled is))
 
 -- no dot stands behind a key that ends
 undotted : (rest after more : Text) → EndsPath rest → IsWhiteSpace after → rest ≡ after ++ (46 ∷ more) → ⊥
 undotted rest after more ends white e =
-    false≢true (sym ends.undotted ∙ ap (λ (x : Text). first (split_while is_blank x).1 == 46) e ∙ ap (λ (x : Text × Text). first x.1 == 46) (split_while-run is_blank after (46 ∷ more) white refl))
+    false≢true (sym ends.undotted ∙ ap (λ (x : Text). first (split_while is_blank x).1 == 46) e
+    ∙ ap (λ (x : Text × Text). first x.1 == 46) (split_while-run is_blank after (46 ∷ more) white refl))
 
 dot_ends : (after more : Text) → IsWhiteSpace after → ends_key (after ++ (46 ∷ more)) ≡ true
 dot_ends after more white = blank_first (λ c. ends_key (c ∷ [])) after (46 ∷ more) (λ c h. grind (arith, nat_tests)) white refl
@@ -204,32 +220,43 @@ record AreSegments (s : Segment) (p : List Segment) : Type 0 where
 later : (s r : Segment) (p : List Segment) → AreSegments s (r ∷ p) → AreSegments r p
 later s r p are = record { ends = are.ends; spelled = are.spelled.1; spaced = are.spaced.1 }
 
-one_segments : (p o : List Segment) (s t : Segment) (r q : Text) → AreSegments s p → AreSegments t o → EndsPath r → EndsPath q → s.before ≡ t.before
+one_segments : (p o : List Segment) (s t : Segment) (r q : Text) → AreSegments s p → AreSegments t o → EndsPath r → EndsPath q → s.before
+    ≡ t.before
     → tail_text s p r ≡ tail_text t o q → (◌≡◌ {A = List Segment} (s ∷ p) (t ∷ o)) × (r ≡ q)
 one_segments [] [] s t r q are also stop halt before e =
-    let (key, spelled, rest) = one_key s.key t.key s.spelled t.spelled r q are.spelled.0 also.spelled.0 stop.stops halt.stops e in
-    (ap (λ (x : Segment). x ∷ []) (same_segment s t before key spelled (empty_nil s.after are.ends ∙ sym (empty_nil t.after also.ends))), rest)
+    let (key, spelled, rest) = one_key s.key t.key s.spelled t.spelled r q are.spelled.0 also.spelled.0 stop.stops halt.stops e in (
+      ap (λ (x : Segment). x ∷ []) (same_segment s t before key spelled (empty_nil s.after are.ends ∙ sym (empty_nil t.after also.ends))),
+      rest,
+    )
 one_segments [] (u ∷ o) s t r q are also stop halt before e =
     let more = u.before ++ tail_text u o q in
-    let (key, spelled, rest) = one_key s.key t.key s.spelled t.spelled r (t.after ++ (46 ∷ more)) are.spelled.0 also.spelled.0 stop.stops (dot_ends t.after more also.spaced.0.1) e in
+    let (key, spelled, rest) =
+    one_key s.key t.key s.spelled t.spelled r (t.after
+    ++ (46 ∷ more)) are.spelled.0 also.spelled.0 stop.stops (dot_ends t.after more also.spaced.0.1) e in
     absurd (undotted r t.after more stop also.spaced.0.1 rest)
 one_segments (v ∷ p) [] s t r q are also stop halt before e =
     let more = v.before ++ tail_text v p r in
-    let (key, spelled, rest) = one_key s.key t.key s.spelled t.spelled (s.after ++ (46 ∷ more)) q are.spelled.0 also.spelled.0 (dot_ends s.after more are.spaced.0.1) halt.stops e in
+    let (key, spelled, rest) =
+    one_key s.key t.key s.spelled t.spelled (s.after ++ (46 ∷ more)) q are.spelled.0 also.spelled.0
+    (dot_ends s.after more are.spaced.0.1) halt.stops e in
     absurd (undotted q s.after more halt are.spaced.0.1 (sym rest))
 one_segments (v ∷ p) (u ∷ o) s t r q are also stop halt before e =
     let next = tail_text v p r in
     let also_next = tail_text u o q in
-    let (key, spelled, rest) = one_key s.key t.key s.spelled t.spelled (s.after ++ (46 ∷ (v.before ++ next))) (t.after ++ (46 ∷ (u.before ++ also_next)))
-    are.spelled.0 also.spelled.0 (dot_ends s.after (v.before ++ next) are.spaced.0.1) (dot_ends t.after (u.before ++ also_next) also.spaced.0.1) e in
-    let (after, dots) = one_run is_blank s.after t.after (46 ∷ (v.before ++ next)) (46 ∷ (u.before ++ also_next)) are.spaced.0.1 also.spaced.0.1 refl refl rest in
+    let (key, spelled, rest) =
+    one_key s.key t.key s.spelled t.spelled (s.after ++ (46 ∷ (v.before ++ next))) (t.after ++ (46 ∷ (u.before ++ also_next)))
+    are.spelled.0 also.spelled.0 (dot_ends s.after (v.before ++ next) are.spaced.0.1) (dot_ends t.after (u.before
+    ++ also_next) also.spaced.0.1) e in
+    let (after, dots) = one_run is_blank s.after t.after (46 ∷ (v.before ++ next)) (46
+    ∷ (u.before ++ also_next)) are.spaced.0.1 also.spaced.0.1 refl refl rest in
     let behind : v.before ++ next ≡ u.before ++ also_next = cc in
     let (inner, tails) = one_run is_blank v.before u.before next also_next are.spaced.1.0.0 also.spaced.1.0.0
     (opens_unblank next (tail_opens v p r are.spelled.1.0)) (opens_unblank also_next (tail_opens u o q also.spelled.1.0)) behind in
     let (same, ended) = one_segments p o v u r q (later s v p are) (later t u o also) stop halt inner tails in
     (ap (λ (x : List Segment). s ∷ x) same ∙ ap (λ (x : Segment). x ∷ u ∷ o) (same_segment s t before key spelled after), ended)
 
-pub one_path : (p o : List Segment) (r q : Text) → IsPath p → IsPath o → AllByRecursion IsSpacedSegment p → AllByRecursion IsSpacedSegment o → EndsPath r → EndsPath q
+pub one_path : (p o : List Segment) (r q : Text) → IsPath p → IsPath o → AllByRecursion IsSpacedSegment p → AllByRecursion IsSpacedSegment o
+    → EndsPath r → EndsPath q
     → path_text p ++ r ≡ path_text o ++ q → (p ≡ o) × (r ≡ q)
 one_path [] o r q is also spaced also_spaced stop halt e = absurd (false≢true is.begins)
 one_path (s ∷ p) [] r q is also spaced also_spaced stop halt e = absurd (false≢true also.begins)
@@ -237,8 +264,14 @@ one_path (s ∷ p) (t ∷ o) r q is also spaced also_spaced stop halt e =
     let before = empty_nil s.before is.begins in
     let also_before = empty_nil t.before also.begins in
     let here : path_text (s ∷ p) ++ r ≡ tail_text s p r = path_tail s p r is.ends ∙ ap (λ (x : Text). x ++ tail_text s p r) before in
-    let there : path_text (t ∷ o) ++ q ≡ tail_text t o q = path_tail t o q also.ends ∙ ap (λ (x : Text). x ++ tail_text t o q) also_before in
-    one_segments p o s t r q (record { ends = is.ends; spelled = is.spelled; spaced = spaced }) (record { ends = also.ends; spelled = also.spelled; spaced = also_spaced })
+    let there : path_text (t ∷ o) ++ q ≡ tail_text t o q = path_tail t o q also.ends
+    ∙ ap (λ (x : Text). x ++ tail_text t o q) also_before in
+    one_segments p o s t r q (record { ends = is.ends; spelled = is.spelled; spaced = spaced }) (record {
+      ends = also.ends;
+      spelled =
+          also.spelled;
+      spaced = also_spaced;
+    })
     stop halt (before ∙ sym also_before) (sym here ∙ e ∙ there)
 
 pub path_opens : (p : List Segment) (rest : Text) → IsPath p → Opens (path_text p ++ rest)
@@ -248,11 +281,14 @@ path_opens (s ∷ p) rest is =
     (c, cs, path_tail s p rest is.ends ∙ ap (λ (x : Text). x ++ tail_text s p rest) (empty_nil s.before is.begins) ∙ e, opening)
 
 -- a byte that fails where no key can begin
-pub path_keyed : (t : ℕ → Bool) (p : List Segment) (rest : Text) → ((c : ℕ) → is_opening c ≡ true → t c ≡ false) → IsPath p → t (first (path_text p ++ rest)) ≡ false
+pub path_keyed : (t : ℕ → Bool) (p : List Segment) (rest : Text) → ((c : ℕ) → is_opening c ≡ true → t c ≡ false) → IsPath p
+    → t (first (path_text p ++ rest)) ≡ false
 path_keyed t [] rest apart is = absurd (false≢true is.begins)
 path_keyed t (s ∷ p) rest apart is =
-    ap (λ (x : Text). t (first x)) (path_tail s p rest is.ends ∙ ap (λ (x : Text). x ++ tail_text s p rest) (empty_nil s.before is.begins)) ∙ tail_keyed s p is.spelled.0
+    ap (λ (x : Text). t (first x)) (path_tail s p rest is.ends ∙ ap (λ (x : Text). x ++ tail_text s p rest) (empty_nil s.before is.begins))
+    ∙ tail_keyed s p is.spelled.0
   where
     tail_keyed : (s : Segment) (p : List Segment) → SpellsKey s.key s.spelled → t (first (tail_text s p rest)) ≡ false
     tail_keyed s [] spells = begins_not t s.spelled rest apart (key_begins s.key s.spelled spells)
-    tail_keyed s (r ∷ p) spells = begins_not t s.spelled (s.after ++ (46 ∷ (r.before ++ tail_text r p rest))) apart (key_begins s.key s.spelled spells)
+    tail_keyed s (r ∷ p) spells =
+        begins_not t s.spelled (s.after ++ (46 ∷ (r.before ++ tail_text r p rest))) apart (key_begins s.key s.spelled spells)

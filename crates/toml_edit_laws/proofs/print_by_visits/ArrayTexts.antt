@@ -49,7 +49,8 @@ pub array-text : (comma : Bool) (t : Text) (es : Elements)
     → value_text (close_array comma t es) ≡ codes "[" ++ ((elements_text es ++ closing_comma comma true es) ++ (t ++ codes "]"))
 array-text true t no_elements = refl
 array-text false t no_elements = refl
-array-text true t (element a v es) = ap (λ x. codes "[" ++ x) (sym (append_assoc (elements_text (element a v es)) (codes ",") (t ++ codes "]")))
+array-text true t (element a v es) =
+    ap (λ x. codes "[" ++ x) (sym (append_assoc (elements_text (element a v es)) (codes ",") (t ++ codes "]")))
 array-text false t (element a v es) =
     ap (λ x. codes "[" ++ (x ++ codes "]")) (add-after t a v es)
     ∙ ap (λ x. codes "[" ++ x) (before-bracket (elements_text (element a v es)) t (codes "]"))
@@ -79,21 +80,37 @@ module _ (mode : Mode) where
   -- the items have the text of these elements
   abbrev pub AreShown : Bool → Items → Bool → Type 0
   AreShown comma xs is_first =
-      written_items mode comma is_first xs ≡ shown_elements is_first (elements_of mode xs is_first) ++ closing_comma comma is_first (elements_of mode xs is_first)
+      written_items mode comma is_first xs ≡ shown_elements is_first (elements_of mode xs is_first)
+      ++ closing_comma comma is_first (elements_of mode xs is_first)
 
   item-by_test : (comma : Bool) (n : Node) (xs : Items) (is_first : Bool) → value_text (value_of mode n) ≡ written_value mode n
       → AreShown comma xs is_first → AreShown comma xs false → (b : Bool)
-      → (elim b [ true ↦ element_text mode is_first n (written_value mode n) ++ written_items mode comma false xs | false ↦ written_items mode comma is_first xs ])
-      ≡ shown_elements is_first (elim b [ true ↦ element (around_of mode is_first (node_decor n)) (value_of mode n) (elements_of mode xs false) | false ↦ elements_of mode xs is_first ])
-      ++ closing_comma comma is_first (elim b [ true ↦ element (around_of mode is_first (node_decor n)) (value_of mode n) (elements_of mode xs false) | false ↦ elements_of mode xs is_first ])
+      → (elim b [
+        | true ↦ element_text mode is_first n (written_value mode n) ++ written_items mode comma false xs
+        | false ↦
+            written_items mode comma is_first xs
+      ])
+      ≡ shown_elements is_first (elim b [
+        | true ↦ element (around_of mode is_first (node_decor n)) (value_of mode n)
+            (elements_of mode xs false)
+        | false ↦ elements_of mode xs is_first
+      ])
+      ++ closing_comma comma is_first (elim b [
+        | true ↦ element (around_of mode is_first (node_decor n)) (value_of mode n)
+            (elements_of mode xs false)
+        | false ↦ elements_of mode xs is_first
+      ])
   item-by_test comma n xs is_first value same more false = same
   item-by_test comma n xs is_first value same more true =
       ap (λ x. element_text mode is_first n x ++ written_items mode comma false xs) (sym value)
       ∙ ap (λ x. element_text mode is_first n (value_text (value_of mode n)) ++ x) more
-      ∙ ap (λ x. element_text mode is_first n (value_text (value_of mode n)) ++ (more_elements (elements_of mode xs false) ++ x)) (closing-more comma (elements_of mode xs false))
-      ∙ in_order (comma_before is_first) (shown_prefix mode (element_default is_first) (node_decor n)) (value_text (value_of mode n)) (shown_suffix mode [] (node_decor n))
+      ∙ ap (λ x. element_text mode is_first n (value_text (value_of mode n))
+      ++ (more_elements (elements_of mode xs false) ++ x)) (closing-more comma (elements_of mode xs false))
+      ∙ in_order (comma_before is_first) (shown_prefix mode (element_default is_first) (node_decor n)) (value_text (value_of mode n))
+      (shown_suffix mode [] (node_decor n))
       (more_elements (elements_of mode xs false)) (comma_text comma)
-      ∙ ap (λ x. x ++ comma_text comma) (sym (first-shown is_first (around_of mode is_first (node_decor n)) (value_of mode n) (elements_of mode xs false)))
+      ∙ ap (λ x. x ++ comma_text comma) (sym (first-shown is_first (around_of mode is_first (node_decor n)) (value_of mode n)
+      (elements_of mode xs false)))
 
   pub no-items-shown : (comma is_first : Bool) → AreShown comma no_items is_first
   no-items-shown comma is_first = no-items comma is_first

@@ -4,9 +4,11 @@ use Rattle.std.specs.Prelude.{codes, map}
 use Rattle.toml_edit_laws.proofs.common.LineEnds.{end-and-newline}
 use Rattle.toml_edit_model.specs.Mode.{Mode, line_end, line_newline}
 use Rattle.toml_edit_model.specs.Text.{Text, newline, joined}
-use Rattle.toml_edit_model.specs.Syntax.{Frame, Value, Pairs, no_pairs, pair, comma_text, frame_text, pairs_text, path_text, statement_text, value_text}
+use Rattle.toml_edit_model.specs.Syntax.{Frame, Value, Pairs, no_pairs, pair, comma_text, frame_text, pairs_text, path_text, statement_text}
+use Rattle.toml_edit_model.specs.Syntax.{value_text}
 use Rattle.toml_edit_model.specs.Tree.{Decor, node_decor, shown_prefix, shown_suffix}
-use Rattle.toml_edit_model.specs.Print.{Line, add_after_pairs, one_space, close_inline, frame_of, last_leaf, line_statement, pairs_of_lines, segments}
+use Rattle.toml_edit_model.specs.Print.{Line, add_after_pairs, one_space, close_inline, frame_of, last_leaf, line_statement, pairs_of_lines}
+use Rattle.toml_edit_model.specs.Print.{segments}
 use Rattle.toml_edit_laws.proofs.common.Tests.{append-nil}
 use Rattle.toml_edit_laws.specs.PrintByVisits.{after_pairs, between_pairs}
 use Rattle.toml_edit_laws.proofs.print_by_visits.KeyTexts.{line_start}
@@ -36,7 +38,8 @@ pairs-order : (a s c b r z : Text) → (a ++ s) ++ (c ++ ((b ++ r) ++ z)) ≡ (a
 pairs-order a s c b r z = simp append_assoc
 
 pairs-after : (t : Text) (f : Frame) (v : Value) (g : Frame) (w : Value) (ps : Pairs)
-    → pairs_text (pair f v (add_after_pairs t (pair g w ps))) ≡ frame_text f (value_text v) ++ (codes "," ++ pairs_text (add_after_pairs t (pair g w ps)))
+    → pairs_text (pair f v (add_after_pairs t (pair g w ps))) ≡ frame_text f (value_text v)
+    ++ (codes "," ++ pairs_text (add_after_pairs t (pair g w ps)))
 pairs-after t f v g w no_pairs = refl
 pairs-after t f v g w (pair e u ps) = refl
 
@@ -82,7 +85,8 @@ module _ (mode : Mode) where
   pairs_shown-append before [] ys = refl
   pairs_shown-append before (l ∷ xs) ys =
       ap (λ t. between_pairs mode before ++ (line_start mode one_space l ++ t)) (pairs_shown-append (Some (node_decor l.item)) xs ys)
-      ∙ sym (three (between_pairs mode before) (line_start mode one_space l) (pairs_shown (Some (node_decor l.item)) xs) (pairs_shown (last_shown (Some (node_decor l.item)) xs) ys))
+      ∙ sym (three (between_pairs mode before) (line_start mode one_space l) (pairs_shown (Some (node_decor l.item)) xs)
+      (pairs_shown (last_shown (Some (node_decor l.item)) xs) ys))
     where
       three : (a b c d : Text) → (a ++ (b ++ c)) ++ d ≡ a ++ (b ++ (c ++ d))
       three a b c d = simp append_assoc
@@ -96,16 +100,20 @@ module _ (mode : Mode) where
   -- ---- a line
 
   frame-text : (default suffix : Text) (l : Line)
-      → frame_text (frame_of mode default suffix l) (value_text l.value) ≡ line_start mode default l ++ shown_suffix mode suffix (node_decor l.item)
+      → frame_text (frame_of mode default suffix l) (value_text l.value) ≡ line_start mode default l
+      ++ shown_suffix mode suffix (node_decor l.item)
   frame-text default suffix l =
-      frame-order (shown_prefix mode default (last_leaf l.keys)) (path_text (segments mode l.keys)) (shown_suffix mode one_space (last_leaf l.keys)) (codes "=")
+      frame-order (shown_prefix mode default (last_leaf l.keys)) (path_text (segments mode l.keys))
+      (shown_suffix mode one_space (last_leaf l.keys)) (codes "=")
       (shown_prefix mode one_space (node_decor l.item)) (value_text l.value) (shown_suffix mode suffix (node_decor l.item))
 
-  pub line-text : (l : Line) → statement_text (line_statement mode l) ≡ line_start mode [] l ++ (shown_suffix mode [] (node_decor l.item) ++ newline)
+  pub line-text : (l : Line) → statement_text (line_statement mode l) ≡ line_start mode [] l
+      ++ (shown_suffix mode [] (node_decor l.item) ++ newline)
   line-text l =
       let s = shown_suffix mode [] (node_decor l.item) in
       ap (λ t. t ++ line_newline mode s)
-      (frame-order (shown_prefix mode [] (last_leaf l.keys)) (path_text (segments mode l.keys)) (shown_suffix mode one_space (last_leaf l.keys)) (codes "=")
+      (frame-order (shown_prefix mode [] (last_leaf l.keys)) (path_text (segments mode l.keys))
+      (shown_suffix mode one_space (last_leaf l.keys)) (codes "=")
       (shown_prefix mode one_space (node_decor l.item)) (value_text l.value) (line_end mode s))
       ∙ append_assoc (line_start mode [] l) (line_end mode s) (line_newline mode s)
       ∙ ap (λ t. line_start mode [] l ++ t) (end-and-newline mode s)
@@ -113,13 +121,15 @@ module _ (mode : Mode) where
   -- ---- pairs
 
   pairs-step : (f : Frame) (v : Value) (m : Line) (rest : List Line)
-      → pairs_text (pair f v (pairs_of_lines mode (m ∷ rest))) ≡ frame_text f (value_text v) ++ (codes "," ++ pairs_text (pairs_of_lines mode (m ∷ rest)))
+      → pairs_text (pair f v (pairs_of_lines mode (m ∷ rest))) ≡ frame_text f (value_text v)
+      ++ (codes "," ++ pairs_text (pairs_of_lines mode (m ∷ rest)))
   pairs-step f v m [] = refl
   pairs-step f v m (l ∷ rest) = refl
 
   pairs-are : (l : Line) (ls : List Line)
       → pairs_text (pairs_of_lines mode (l ∷ ls))
-      ≡ (line_start mode one_space l ++ pairs_shown (Some (node_decor l.item)) ls) ++ shown_suffix mode one_space (last_decor (node_decor l.item) ls)
+      ≡ (line_start mode one_space l ++ pairs_shown (Some (node_decor l.item)) ls)
+      ++ shown_suffix mode one_space (last_decor (node_decor l.item) ls)
   pairs-are l [] =
       frame-text one_space one_space l
       ∙ ap (λ t. t ++ shown_suffix mode one_space (node_decor l.item)) (sym (append-nil (line_start mode one_space l)))
@@ -133,7 +143,8 @@ module _ (mode : Mode) where
   -- ---- the end
 
   lines-closed : (comma : Bool) (t : Text) (l : Line) (ls : List Line)
-      → value_text (close_inline comma t (pairs_of_lines mode (l ∷ ls))) ≡ codes "{" ++ (pairs_text (pairs_of_lines mode (l ∷ ls)) ++ (comma_text comma ++ (t ++ codes "}")))
+      → value_text (close_inline comma t (pairs_of_lines mode (l ∷ ls))) ≡ codes "{"
+      ++ (pairs_text (pairs_of_lines mode (l ∷ ls)) ++ (comma_text comma ++ (t ++ codes "}")))
   lines-closed comma t l [] = inline-closed comma t (frame_of mode one_space one_space l) l.value no_pairs
   lines-closed comma t l (m ∷ rest) = inline-closed comma t (frame_of mode one_space [] l) l.value (pairs_of_lines mode (m ∷ rest))
 
@@ -145,5 +156,8 @@ module _ (mode : Mode) where
   pairs-closed comma t (l ∷ ls) =
       lines-closed comma t l ls
       ∙ ap (λ x. codes "{" ++ (x ++ (comma_text comma ++ (t ++ codes "}")))) (pairs-are l ls)
-      ∙ ap (λ x. codes "{" ++ x) (end-order (line_start mode one_space l ++ pairs_shown (Some (node_decor l.item)) ls) (shown_suffix mode one_space (last_decor (node_decor l.item) ls)) (comma_text comma) (t ++ codes "}"))
-      ∙ ap (λ (d : Option Decor). codes "{" ++ ((line_start mode one_space l ++ pairs_shown (Some (node_decor l.item)) ls) ++ (after_pairs mode comma d ++ (t ++ codes "}")))) (sym (last-decor (node_decor l.item) ls))
+      ∙ ap (λ x. codes "{" ++ x) (end-order (line_start mode one_space l
+      ++ pairs_shown (Some (node_decor l.item)) ls) (shown_suffix mode one_space (last_decor (node_decor l.item) ls)) (comma_text comma)
+      (t ++ codes "}"))
+      ∙ ap (λ (d : Option Decor). codes "{" ++ ((line_start mode one_space l ++ pairs_shown (Some (node_decor l.item)) ls)
+      ++ (after_pairs mode comma d ++ (t ++ codes "}")))) (sym (last-decor (node_decor l.item) ls))

@@ -10,9 +10,12 @@ use Rattle.toml_edit_model.specs.Text.{Text, is_empty, joined}
 use Rattle.toml_edit_model.specs.Paths.{Path}
 use Rattle.toml_edit_model.specs.Syntax.{closing_brackets, opening_brackets, path_text, statement_text}
 use Rattle.toml_edit_model.specs.Tree.{TableFields, Slots, Tree, shown_prefix, shown_raw, shown_suffix}
-use Rattle.toml_edit_model.specs.HeaderOrder.{PlacedVisit, Visit, comes_before, in_header_order, is_root, place_of, places_from, slots_walk, visit_of}
-use Rattle.toml_edit_model.specs.Print.{Line, Printed, has_header, header_default, last_leaf, line_statement, lines_of, print_in, printed_line, printed_table, printed_tables, segments, table_lines, header_statement}
-use Rattle.toml_edit_laws.specs.PrintByVisits.{PrintByVisits, begins, by_place, has_lines, headed_tables, header_text, headers_text, holds_newline, root_lines, root_place, written_lines, inside_brackets}
+use Rattle.toml_edit_model.specs.HeaderOrder.{PlacedVisit, Visit, comes_before, in_header_order, is_root, place_of, places_from, slots_walk}
+use Rattle.toml_edit_model.specs.HeaderOrder.{visit_of}
+use Rattle.toml_edit_model.specs.Print.{Line, Printed, has_header, header_default, last_leaf, line_statement, lines_of, print_in}
+use Rattle.toml_edit_model.specs.Print.{printed_line, printed_table, printed_tables, segments, table_lines, header_statement}
+use Rattle.toml_edit_laws.specs.PrintByVisits.{PrintByVisits, begins, by_place, has_lines, headed_tables, header_text, headers_text}
+use Rattle.toml_edit_laws.specs.PrintByVisits.{holds_newline, root_lines, root_place, written_lines, inside_brackets}
 use Rattle.toml_edit_laws.proofs.common.Tests.{and-true}
 use Rattle.toml_edit_laws.proofs.common.OrderLaws.{all-sorted, sorted-alike, sorted-image, int_le-total, int_le-trans}
 use Rattle.toml_edit_laws.proofs.print_by_visits.PairTexts.{lines_text}
@@ -103,13 +106,16 @@ module _ (mode : Mode) where
       let d = last_leaf v.1.keys in
       (if holds_newline mode d then shown_prefix mode [] d else [])
       ++ (shown_prefix mode (header_default is_first) v.1.fields.decor
-      ++ (opening_brackets v.1.is_element ++ (inside_brackets mode d (path_text (segments mode v.1.keys)) ++ (closing_brackets v.1.is_element ++ t))))
+      ++ (opening_brackets v.1.is_element ++ (inside_brackets mode d (path_text (segments mode v.1.keys))
+      ++ (closing_brackets v.1.is_element ++ t))))
 
   -- a header in the parts that are written
-  pub header-is : (is_first : Bool) (v : PlacedVisit) → statement_text (header_statement mode is_first v.1) ≡ header_text mode is_first (head_of v)
+  pub header-is : (is_first : Bool) (v : PlacedVisit) → statement_text (header_statement mode is_first v.1)
+      ≡ header_text mode is_first (head_of v)
   header-is is_first v =
       let d = last_leaf v.1.keys in
-      header-order (if holds_newline mode d then shown_prefix mode [] d else []) (shown_prefix mode (header_default is_first) v.1.fields.decor)
+      header-order (if holds_newline mode d then shown_prefix mode [] d
+      else []) (shown_prefix mode (header_default is_first) v.1.fields.decor)
       (opening_brackets v.1.is_element) (if holds_newline mode d then [] else shown_prefix mode [] d) (path_text (segments mode v.1.keys))
       (if holds_newline mode d then [] else shown_suffix mode [] d) (closing_brackets v.1.is_element)
       (line_end mode (shown_suffix mode [] v.1.fields.decor)) (line_newline mode (shown_suffix mode [] v.1.fields.decor))
@@ -121,36 +127,45 @@ module _ (mode : Mode) where
   pub has-header : (v : PlacedVisit) → is_root v.1 ≡ false → has_header mode v.1 ≡ shows_header v
   has-header v below =
       ap (λ (r : Bool). not r && (v.1.is_element || not (v.1.fields.is_implicit && is_empty (lines_of mode v.1)))) below
-      ∙ ap (λ (b : Bool). v.1.is_element || b) (not-both v.1.fields.is_implicit (is_empty (lines_of mode v.1)) (has_lines v.1.slots) (lines-some mode v.1.slots []))
+      ∙ ap (λ (b : Bool). v.1.is_element || b) (not-both v.1.fields.is_implicit (is_empty (lines_of mode v.1)) (has_lines v.1.slots)
+      (lines-some mode v.1.slots []))
 
   with-header : (b : Bool) (v : PlacedVisit) → is_root v.1 ≡ false → shows_header v ≡ true
       → printed_table mode b v.1 ≡ own_header mode b v.1 ∷ map (printed_line mode v.1.path) (lines_of mode v.1)
   with-header b v below e =
-      ap (λ (c : Bool). (if c then own_header mode b v.1 ∷ [] else []) ++ map (printed_line mode v.1.path) (lines_of mode v.1)) (has-header v below ∙ e)
+      ap (λ (c : Bool). (if c then own_header mode b v.1 ∷ [] else [])
+      ++ map (printed_line mode v.1.path) (lines_of mode v.1)) (has-header v below ∙ e)
 
   -- one that isn't collected prints nothing
   pub without-header : (b : Bool) (v : PlacedVisit) → is_root v.1 ≡ false → shows_header v ≡ false → printed_table mode b v.1 ≡ []
   without-header b v below e =
-      ap (λ (c : Bool). (if c then own_header mode b v.1 ∷ [] else []) ++ map (printed_line mode v.1.path) (lines_of mode v.1)) (has-header v below ∙ e)
-      ∙ ap (map (printed_line mode v.1.path)) (no-lines v.1.is_element v.1.fields.is_implicit (has_lines v.1.slots) (lines_of mode v.1) (lines-some mode v.1.slots []) e)
+      ap (λ (c : Bool). (if c then own_header mode b v.1 ∷ [] else [])
+      ++ map (printed_line mode v.1.path) (lines_of mode v.1)) (has-header v below ∙ e)
+      ∙ ap (map (printed_line mode v.1.path)) (no-lines v.1.is_element v.1.fields.is_implicit (has_lines v.1.slots) (lines_of mode v.1)
+      (lines-some mode v.1.slots []) e)
 
   -- the text of tables below the root is that of those with headers
-  pub headers-printed : (b : Bool) (vs : List PlacedVisit) → AllByRecursion IsBelow vs → text_of (printed_tables mode b vs) ≡ headers_text mode b (shown_heads vs)
+  pub headers-printed : (b : Bool) (vs : List PlacedVisit) → AllByRecursion IsBelow vs → text_of (printed_tables mode b vs)
+      ≡ headers_text mode b (shown_heads vs)
   headers-printed b [] h = refl
   headers-printed b (v ∷ vs) h =
       elim (cases_Bool (shows_header v)) [
         | inl e ↦ ap (λ (t : List Printed). text_of (t ++ printed_tables mode (b && is_empty t) vs)) (with-header b v h.0 e)
-            ∙ ap (λ (c : Bool). statement_text (header_statement mode b v.1) ++ text_of (map (printed_line mode v.1.path) (lines_of mode v.1) ++ printed_tables mode c vs)) (and-false b)
-            ∙ ap (λ (t : Text). t ++ text_of (map (printed_line mode v.1.path) (lines_of mode v.1) ++ printed_tables mode false vs)) (header-is b v)
+            ∙ ap (λ (c : Bool). statement_text (header_statement mode b v.1)
+            ++ text_of (map (printed_line mode v.1.path) (lines_of mode v.1) ++ printed_tables mode c vs)) (and-false b)
+            ∙ ap (λ (t : Text). t ++ text_of (map (printed_line mode v.1.path) (lines_of mode v.1) ++ printed_tables mode false vs))
+            (header-is b v)
             ∙ ap (λ (t : Text). header_text mode b (head_of v) ++ t)
             (text_of-append (map (printed_line mode v.1.path) (lines_of mode v.1)) (printed_tables mode false vs)
             ∙ ap (λ (t : Text). t ++ text_of (printed_tables mode false vs)) (table-text v.1.path v.1.slots)
             ∙ ap (λ (t : Text). written_lines mode v.1.slots [] ++ t) (headers-printed false vs h.1))
-            ∙ sym (ap (λ (c : Bool). headers_text mode b (map head_of (if c then v ∷ filter shows_header vs else filter shows_header vs))) e)
+            ∙ sym (ap (λ (c : Bool). headers_text mode b (map head_of (if c then v ∷ filter shows_header vs else filter shows_header vs)))
+            e)
         | inr e ↦ ap (λ (t : List Printed). text_of (t ++ printed_tables mode (b && is_empty t) vs)) (without-header b v h.0 e)
             ∙ ap (λ (c : Bool). text_of (printed_tables mode c vs)) (and-true b)
             ∙ headers-printed b vs h.1
-            ∙ sym (ap (λ (c : Bool). headers_text mode b (map head_of (if c then v ∷ filter shows_header vs else filter shows_header vs))) e)
+            ∙ sym (ap (λ (c : Bool). headers_text mode b (map head_of (if c then v ∷ filter shows_header vs else filter shows_header vs)))
+            e)
       ]
 
   -- ---- their order
@@ -173,17 +188,21 @@ module _ (mode : Mode) where
 
   -- the root's lines, and the headers behind them
   printed-root : (f : TableFields) (ss : Slots) (p : ℤ) (b : Bool)
-      → text_of (printed_tables mode true (sorted_by comes_before (if b then places_from (pos 0) (slots_walk ss [] []) else (p, visit_of [] [] false f ss) ∷ places_from p (slots_walk ss [] []))))
+      → text_of (printed_tables mode true (sorted_by comes_before (if b then places_from (pos 0) (slots_walk ss [] [])
+      else (p, visit_of [] [] false f ss) ∷ places_from p (slots_walk ss [] []))))
       ≡ (if b then [] else written_lines mode ss [])
-      ++ headers_text mode (b || not (has_lines ss)) (sorted_by by_place (shown_heads (places_from (if b then pos 0 else p) (slots_walk ss [] []))))
+      ++ headers_text mode (b || not (has_lines ss)) (sorted_by by_place
+      (shown_heads (places_from (if b then pos 0 else p) (slots_walk ss [] []))))
   printed-root f ss p true =
       in-order true (places_from (pos 0) (slots_walk ss [] [])) (places-below (pos 0) (slots_walk ss [] []) (slots-below ss [] []))
   printed-root f ss p false =
       let hs = places_from p (slots_walk ss [] []) in
       let sorted = sorted_by comes_before hs in
       ap (λ (l : List PlacedVisit). text_of (printed_tables mode true l)) (root-first (p, visit_of [] [] false f ss) sorted refl)
-      ∙ text_of-append (map (printed_line mode []) (table_lines mode ss [])) (printed_tables mode (is_empty (map (printed_line mode []) (table_lines mode ss []))) sorted)
-      ∙ ap (λ (t : Text). t ++ text_of (printed_tables mode (is_empty (map (printed_line mode []) (table_lines mode ss []))) sorted)) (table-text [] ss)
+      ∙ text_of-append (map (printed_line mode []) (table_lines mode ss []))
+      (printed_tables mode (is_empty (map (printed_line mode []) (table_lines mode ss []))) sorted)
+      ∙ ap (λ (t : Text). t ++ text_of (printed_tables mode (is_empty (map (printed_line mode []) (table_lines mode ss []))) sorted))
+      (table-text [] ss)
       ∙ ap (λ (b : Bool). written_lines mode ss [] ++ text_of (printed_tables mode b sorted)) (begins-is ss)
       ∙ ap (λ (t : Text). written_lines mode ss [] ++ t)
       (in-order (not (has_lines ss)) hs (places-below p (slots_walk ss [] []) (slots-below ss [] [])))
@@ -193,16 +212,19 @@ module _ (mode : Mode) where
       ≡ root_lines mode t.root t.slots ++ headers_text mode (begins t.root t.slots) (sorted_by by_place (headed_tables t.root t.slots))
   printed-text t =
       printed-root t.root t.slots (place_of (pos 0) (visit_of [] [] false t.root t.slots)) t.root.is_dotted
-      ∙ ap (λ hs. root_lines mode t.root t.slots ++ headers_text mode (begins t.root t.slots) (sorted_by by_place hs)) (sym (headed-are t.root t.slots))
+      ∙ ap (λ hs. root_lines mode t.root t.slots ++ headers_text mode (begins t.root t.slots) (sorted_by by_place hs))
+      (sym (headed-are t.root t.slots))
 
   -- ---- the print
 
   pub print-by-visits : PrintByVisits mode
   print-by-visits t =
       print-framed mode t
-      ∙ ap (λ (x : Text). shown_prefix mode [] t.root.decor ++ (x ++ (shown_suffix mode [] t.root.decor ++ shown_raw mode t.trailing))) (printed-text t)
+      ∙ ap (λ (x : Text). shown_prefix mode [] t.root.decor
+      ++ (x ++ (shown_suffix mode [] t.root.decor ++ shown_raw mode t.trailing))) (printed-text t)
       ∙ ap (λ (x : Text). shown_prefix mode [] t.root.decor ++ x)
-      (append_assoc (root_lines mode t.root t.slots) (headers_text mode (begins t.root t.slots) (sorted_by by_place (headed_tables t.root t.slots)))
+      (append_assoc (root_lines mode t.root t.slots) (headers_text mode (begins t.root t.slots)
+      (sorted_by by_place (headed_tables t.root t.slots)))
       (shown_suffix mode [] t.root.decor ++ shown_raw mode t.trailing))
 
   -- the same where the root's lines are as the definition has them
@@ -210,10 +232,12 @@ module _ (mode : Mode) where
       → print_in mode false t
       ≡ shown_prefix mode [] t.root.decor
       ++ ((if t.root.is_dotted then [] else lines_text mode (table_lines mode t.slots []))
-      ++ (headers_text mode (begins t.root t.slots) (sorted_by by_place (headed_tables t.root t.slots)) ++ (shown_suffix mode [] t.root.decor ++ shown_raw mode t.trailing)))
+      ++ (headers_text mode (begins t.root t.slots) (sorted_by by_place (headed_tables t.root t.slots))
+      ++ (shown_suffix mode [] t.root.decor ++ shown_raw mode t.trailing)))
   print-parts t =
       print-by-visits t
       ∙ ap (λ (x : Text). shown_prefix mode [] t.root.decor
       ++ ((if t.root.is_dotted then [] else x)
-      ++ (headers_text mode (begins t.root t.slots) (sorted_by by_place (headed_tables t.root t.slots)) ++ (shown_suffix mode [] t.root.decor ++ shown_raw mode t.trailing))))
+      ++ (headers_text mode (begins t.root t.slots) (sorted_by by_place (headed_tables t.root t.slots))
+      ++ (shown_suffix mode [] t.root.decor ++ shown_raw mode t.trailing))))
       (sym (lines-are mode t.slots []))

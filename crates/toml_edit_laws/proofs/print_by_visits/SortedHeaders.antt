@@ -3,7 +3,8 @@ use Rattle.std.proofs.Common.{◌≡◌, refl, sym, ap, ◌∙◌, ℤ, Bool, tr
 use Rattle.std.specs.Prelude.{map, not, int_le}
 use Rattle.std.specs.Cmp.{IsStrictWeakOrder, int_cmp_total}
 use Rattle.std.specs.Fn.{Called, Mut}
-use Rattle.std.specs.List.Sorted.{IsSortedBy, IsSortedByClosure, IsSortedByKey, IsSortedByKeyClosure, IsStableBy, IsStableByClosure, IsStableByKey, IsStableByKeyClosure}
+use Rattle.std.specs.List.Sorted.{IsSortedBy, IsSortedByClosure, IsSortedByKey, IsSortedByKeyClosure, IsStableBy, IsStableByClosure}
+use Rattle.std.specs.List.Sorted.{IsStableByKey, IsStableByKeyClosure}
 use Rattle.std.specs.Ordering.{int_cmp, is_lt}
 use Rattle.std.proofs.lemmas.Fn.{always_returns_same}
 use Rattle.std.proofs.lemmas.List.Sorted.{ranks_by}
@@ -55,7 +56,8 @@ module _ {A : Type 0} (le : A → A → Bool)
 module _ {A : Type 0} (view : A → Headed) (place : A → ℤ) (same : (a : A) → place a ≡ (view a).place) where
   by-view : (xs : List A) → map view (sorted_by (λ x y. int_le (place x) (place y)) xs) ≡ sorted_by by_place (map view xs)
   by-view xs =
-      ap (map view) (sorted-alike (λ x. Unit {0}) (λ x y. int_le (place x) (place y)) (λ x y. by_place (view x) (view y)) (λ x y p q. two x y) xs (trivially xs))
+      ap (map view) (sorted-alike (λ x. Unit {0}) (λ x y. int_le (place x) (place y)) (λ x y. by_place (view x) (view y))
+      (λ x y p q. two x y) xs (trivially xs))
       ∙ sym (sorted-image view by_place xs)
     where
       two : (x y : A) → int_le (place x) (place y) ≡ by_place (view x) (view y)
@@ -77,10 +79,12 @@ module _ {A : Type 0} (view : A → Headed) (place : A → ℤ) (same : (a : A) 
   -- from those of `sort_by`, where each call compares the places
   pub sorted-views-by : {F : Type 0} {g : Mut F (Bor A × (Bor A × Unit {0})) Ordering} {f : F} (xs ys : List A)
       → IsSortedByClosure g f ys → IsStableByClosure g f xs ys
-      → ((a : Bor A × (Bor A × Unit {0})) (r : Ordering) (f' : F) → Called g f a r f' → (r ≡ int_cmp (place a.0.now) (place a.1.0.now)) × (f' ≡ f))
+      → ((a : Bor A × (Bor A × Unit {0})) (r : Ordering) (f' : F) → Called g f a r f' → (r ≡ int_cmp (place a.0.now) (place a.1.0.now))
+      × (f' ≡ f))
       → map view ys ≡ sorted_by by_place (map view xs)
   sorted-views-by {g = g} {f = f} xs ys up stable calls =
       let lt : A → A → Bool = λ x y. is_lt (int_cmp (place x) (place y)) in
       let order = ranks_by int_cmp_total place in
-      let compares = always_returns_same g (λ a r. is_lt r ≡ is_lt (int_cmp (place a.0.now) (place a.1.0.now))) f (λ a r f' k. (ap is_lt (calls a r f' k).0, (calls a r f' k).1)) in
+      let compares = always_returns_same g (λ a r. is_lt r
+      ≡ is_lt (int_cmp (place a.0.now) (place a.1.0.now))) f (λ a r f' k. (ap is_lt (calls a r f' k).0, (calls a r f' k).1)) in
       sorted-views xs ys (up lt order compares) (stable lt order compares)

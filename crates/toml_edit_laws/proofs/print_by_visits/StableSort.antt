@@ -1,5 +1,6 @@
 -- A stable sort by an order is the sort by insertion.
-use Rattle.std.proofs.Common.{◌≡◌, ℕ, suc, ◌<◌, ◌≤◌, ℤ, pos, negsuc, Bool, true, false, cond, ltb, leb, Less, Equal, Greater, List, [], ◌∷◌, length, get_or, refl, sym, ap, subst, ◌∙◌, inl, inr, arith}
+use Rattle.std.proofs.Common.{◌≡◌, ℕ, suc, ◌<◌, ◌≤◌, ℤ, pos, negsuc, Bool, true, false, cond, ltb, leb, Less, Equal, Greater, List, [], ◌∷◌}
+use Rattle.std.proofs.Common.{length, get_or, refl, sym, ap, subst, ◌∙◌, inl, inr, arith}
 use Rattle.std.specs.Prelude.{filter, not, ◌&&◌, int_le, if◌then◌else◌}
 use Rattle.std.specs.Cmp.{IsStrictWeakOrder, int_cmp_total}
 use Rattle.std.specs.List.{AllByRecursion}
@@ -65,7 +66,8 @@ module _ {A : Type 0} (lt : A → A → Bool) (o : IsStrictWeakOrder lt) where
   ties-insert x a [] = refl
   ties-insert x a (b ∷ xs) =
       elim (cases_Bool (lt b a)) [
-        | inl e ↦ rw e (passed a b (ties lt x a) (ties lt x b) (apart x a b e) (filter (ties lt x) (insert_by not_above a xs)) (filter (ties lt x) xs) (ties-insert x a xs))
+        | inl e ↦ rw e (passed a b (ties lt x a) (ties lt x b) (apart x a b e) (filter (ties lt x) (insert_by not_above a xs))
+            (filter (ties lt x) xs) (ties-insert x a xs))
         | inr e ↦ rw e refl
       ]
 
@@ -90,7 +92,8 @@ module _ {A : Type 0} (lt : A → A → Bool) (o : IsStrictWeakOrder lt) where
   kept-first x xs = rw (own-tie x) refl
 
   -- one whose ties begin another list is not below the first there
-  not-below : (x y : A) (rest ys : List A) → AllByRecursion (λ z. lt z y ≡ false) ys → x ∷ rest ≡ filter (ties lt x) (y ∷ ys) → lt x y ≡ false
+  not-below : (x y : A) (rest ys : List A) → AllByRecursion (λ z. lt z y ≡ false) ys → x ∷ rest ≡ filter (ties lt x) (y ∷ ys) → lt x y
+      ≡ false
   not-below x y rest ys h e =
       (subst (AllByRecursion (λ z. lt z y ≡ false)) (sym e) (all-filter (λ z. lt z y ≡ false) (ties lt x) (y ∷ ys) (own y, h))).0
 
@@ -110,13 +113,16 @@ module _ {A : Type 0} (lt : A → A → Bool) (o : IsStrictWeakOrder lt) where
       let two : y ∷ filter (ties lt y) ys ≡ filter (ties lt y) (x ∷ xs) = sym (f y ∙ kept-first y ys) in
       let tie : ties lt x y ≡ true = both-not (lt x y) (lt y x) (not-below x y _ ys v.0 one) (not-below y x _ xs u.0 two) in
       let same : x ≡ y = first-same x y _ (filter (ties lt x) ys) tie one in
-      let more : (z : A) → filter (ties lt z) (x ∷ xs) ≡ filter (ties lt z) (x ∷ ys) = λ z. f z ∙ ap (λ (w : A). filter (ties lt z) (w ∷ ys)) (sym same) in
+      let more : (z : A) → filter (ties lt z) (x ∷ xs) ≡ filter (ties lt z) (x ∷ ys) = λ z. f z
+      ∙ ap (λ (w : A). filter (ties lt z) (w ∷ ys)) (sym same) in
       ap (λ (w : A). w ∷ xs) same
-      ∙ ap (λ (l : List A). y ∷ l) (same-up xs ys u.1 v.1 (λ z. rest-same (ties lt z x) x (filter (ties lt z) xs) (filter (ties lt z) ys) (more z)))
+      ∙ ap (λ (l : List A). y ∷ l) (same-up xs ys u.1 v.1
+      (λ z. rest-same (ties lt z x) x (filter (ties lt z) xs) (filter (ties lt z) ys) (more z)))
 
   -- ---- the sort
 
-  all_of : (x : A) (ys : List A) → ((j : ℕ) (d : A) → j < length ys → lt (get_or ys j d) x ≡ false) → AllByRecursion (λ y. lt y x ≡ false) ys
+  all_of : (x : A) (ys : List A) → ((j : ℕ) (d : A) → j < length ys → lt (get_or ys j d) x ≡ false)
+      → AllByRecursion (λ y. lt y x ≡ false) ys
   all_of x [] h = tt
   all_of x (y ∷ ys) h = (h 0 y (omega arith), all_of x ys (λ j d l. h (suc j) d (omega (arith, l))))
 
@@ -153,4 +159,5 @@ pub sorted-by_place : {A : Type 0} (key : A → ℤ) (xs ys : List A) → IsSort
     → ys ≡ sorted_by (λ x y. int_le (key x) (key y)) xs
 sorted-by_place key xs ys up stable =
     stable-sort (λ x y. is_lt (int_cmp (key x) (key y))) (ranks_by int_cmp_total key) xs ys up stable
-    ∙ sorted-alike (λ x. Unit {0}) (λ x y. not (is_lt (int_cmp (key y) (key x)))) (λ x y. int_le (key x) (key y)) (λ x y p q. not-above (key x) (key y)) xs (trivially xs)
+    ∙ sorted-alike (λ x. Unit {0}) (λ x y. not (is_lt (int_cmp (key y) (key x)))) (λ x y. int_le (key x) (key y))
+    (λ x y p q. not-above (key x) (key y)) xs (trivially xs)

@@ -67,8 +67,10 @@ tells-alike s around facts xs ys e t =
     record { forth = λ f a. t.forth f (e.1 f a); back = λ f a. e.0 f (t.back f a); up = λ h f a. e.0 f (t.up h f a) }
 
 -- one thing after another
-pub tells-both : (a b : Bool) (around xs ys us vs : List Fact) → Tells a around xs us → Tells b around ys vs → Tells (a || b) around (xs ++ ys) (us ++ vs)
-tells-both a b around xs ys us vs t u = record { forth = forth; back = within-append xs us ys vs t.back u.back; up = λ h. up a b refl refl h }
+pub tells-both : (a b : Bool) (around xs ys us vs : List Fact) → Tells a around xs us → Tells b around ys vs
+    → Tells (a || b) around (xs ++ ys) (us ++ vs)
+tells-both a b around xs ys us vs t u =
+    record { forth = forth; back = within-append xs us ys vs t.back u.back; up = λ h. up a b refl refl h }
   where
     or-first : (a b : Bool) → a ≡ true → (a || b) ≡ true
     or-first a b e = rw e refl
@@ -102,7 +104,8 @@ tells-value around xs us h =
     }
 
 -- one fact of its own, at the level above
-pub tells-above : (s : Bool) (around xs us : List Fact) (g : Fact) → ((f : Fact) → Among f xs → s ≡ true) → Tells s (around ++ (g ∷ [])) xs us
+pub tells-above : (s : Bool) (around xs us : List Fact) (g : Fact) → ((f : Fact) → Among f xs → s ≡ true)
+    → Tells s (around ++ (g ∷ [])) xs us
     → Tells s around (if s then g ∷ xs else []) us
 tells-above false around xs us g h t =
     record {
@@ -119,7 +122,11 @@ tells-above true around xs us g h t =
           elim (t.forth f a) [
             | inl x ↦ inl (inr x)
             | inr x ↦
-                elim (among-cases f around (g ∷ []) x.1) [ inl y ↦ inr (refl, y) | inr y ↦ inl (elim y [ inl e ↦ inl e | inr z ↦ absurd z ]) ]
+                elim (among-cases f around (g ∷ []) x.1) [
+                  | inl y ↦ inr (refl, y)
+                  | inr y ↦
+                      inl (elim y [ inl e ↦ inl e | inr z ↦ absurd z ])
+                ]
           ];
       back = back;
       up = λ e f a. t.up refl f (among-left f around (g ∷ []) a);
@@ -130,7 +137,8 @@ tells-above true around xs us g h t =
     back f (inr a) = t.back f a
 
 -- a header of its own
-pub tells-headed : (h s : Bool) (around xs us : List Fact) → Tells s around xs us → Tells (h || s) around xs ((if h then around else []) ++ us)
+pub tells-headed : (h s : Bool) (around xs us : List Fact) → Tells s around xs us
+    → Tells (h || s) around xs ((if h then around else []) ++ us)
 tells-headed true s around xs us t =
     record {
       forth = λ f m.
@@ -152,18 +160,21 @@ pub tells-table : (dotted implicit rootless lineless s : Bool) (around lines own
     → rootless ≡ false → (lineless ≡ false → s ≡ true) → ((f : Fact) → Among f xs → s ≡ true)
     → Tells s (around ++ (g ∷ [])) xs (lines ++ below) → Tells s (around ++ (g ∷ [])) xs (own ++ below)
     → Tells (not (dotted || implicit) || s) around (if not (dotted || implicit) || s then g ∷ xs else [])
-    ((if dotted then lines else []) ++ ((if dotted then [] else ((if not rootless && (false || not (implicit && lineless)) then around ++ (g ∷ []) else []) ++ own)) ++ below))
+    ((if dotted then lines else []) ++ ((if dotted then []
+    else ((if not rootless && (false || not (implicit && lineless)) then around ++ (g ∷ []) else []) ++ own)) ++ below))
 tells-table true i r e s around lines own below xs g root line facts t u = tells-above s around xs (lines ++ below) g facts t
 tells-table false true true e s around lines own below xs g root line facts t u = absurd cc
 tells-table false true false true s around lines own below xs g root line facts t u = tells-above s around xs (own ++ below) g facts u
 tells-table false true false false s around lines own below xs g root line facts t u =
     tells-above s around xs (((around ++ (g ∷ [])) ++ own) ++ below) g facts
     (subst (λ us. Tells s (around ++ (g ∷ [])) xs us) (sym (append_assoc (around ++ (g ∷ [])) own below))
-    (subst (λ b. Tells b (around ++ (g ∷ [])) xs ((around ++ (g ∷ [])) ++ (own ++ below))) (sym (line refl)) (tells-headed true s (around ++ (g ∷ [])) xs (own ++ below) u)))
+    (subst (λ b. Tells b (around ++ (g ∷ [])) xs ((around ++ (g ∷ [])) ++ (own ++ below))) (sym (line refl)) (tells-headed true s (around
+    ++ (g ∷ [])) xs (own ++ below) u)))
 tells-table false false true e s around lines own below xs g root line facts t u = absurd cc
 tells-table false false false e s around lines own below xs g root line facts t u =
     tells-above true around xs (((around ++ (g ∷ [])) ++ own) ++ below) g (λ f a. refl)
-    (subst (λ us. Tells true (around ++ (g ∷ [])) xs us) (sym (append_assoc (around ++ (g ∷ [])) own below)) (tells-headed true s (around ++ (g ∷ [])) xs (own ++ below) u))
+    (subst (λ us. Tells true (around ++ (g ∷ [])) xs us) (sym (append_assoc (around ++ (g ∷ [])) own below)) (tells-headed true s (around
+    ++ (g ∷ [])) xs (own ++ below) u))
 
 -- an element, whose header tells of the array and of it
 pub tells-element : (s : Bool) (around xs us : List Fact) (g t : Fact) → Tells s around xs us
@@ -176,7 +187,11 @@ tells-element s around xs us g t h = record { forth = forth; back = back; up = �
           | inl a ↦
               elim (among-cases f around (g ∷ t ∷ []) a) [
                 | inl x ↦ inr (refl, among-left f around (g ∷ []) x)
-                | inr x ↦ elim x [ inl e ↦ inr (refl, among-right f around (g ∷ []) (inl e)) | inr y ↦ elim y [ inl e ↦ inl (inl e) | inr z ↦ absurd z ] ]
+                | inr x ↦ elim x [
+                  | inl e ↦ inr (refl, among-right f around (g ∷ []) (inl e))
+                  | inr y ↦
+                      elim y [ inl e ↦ inl (inl e) | inr z ↦ absurd z ]
+                ]
               ]
           | inr a ↦ elim (h.forth f a) [ inl x ↦ inl (inr x) | inr x ↦ inr (refl, among-left f around (g ∷ []) x.1) ]
         ]

@@ -24,11 +24,13 @@ use Rattle.toml_edit_laws.proofs.mentions.KeptPaths.{kept_below, kept_in, key_se
 use Rattle.toml_edit_laws.proofs.mentions.RankLaws.{RanksFollow, under-follow}
 use Rattle.toml_edit_laws.proofs.adding.TableMentions.{kept-some, one_slot}
 use Rattle.toml_edit_laws.proofs.clashes.ClashMentions.{AreOfStatements, statements-under, kinds-apart}
-use Rattle.toml_edit_laws.proofs.mentions.GatheredLines.{first_key, rest_of, has_first, keys_before, group, group_pass, group-part, group-sorted, gathered-by, rests, first-is, AllFilled, AllPart, IsKeyed}
+use Rattle.toml_edit_laws.proofs.mentions.GatheredLines.{first_key, rest_of, has_first, keys_before, group, group_pass, group-part}
+use Rattle.toml_edit_laws.proofs.mentions.GatheredLines.{group-sorted, gathered-by, rests, first-is, AllFilled, AllPart, IsKeyed}
 use Rattle.toml_edit_laws.proofs.mentions.MentionGroups.{first_role, lower, below_start, flat_lines, under-lower, below-lines}
 use Rattle.toml_edit_laws.proofs.inline_tables.InlineLines.{AreLines, lines-append, keys-down}
 use Rattle.toml_edit_laws.proofs.clashes.ClashRoles.{standing}
-use Rattle.toml_edit_laws.proofs.print_of_read.LevelFacts.{among-filter, among-map, map-among, all-under, under-filter, distinct-found, among-found, line-first, first-line, alone-group}
+use Rattle.toml_edit_laws.proofs.print_of_read.LevelFacts.{among-filter, among-map, map-among, all-under, under-filter, distinct-found}
+use Rattle.toml_edit_laws.proofs.print_of_read.LevelFacts.{among-found, line-first, first-line, alone-group}
 use Rattle.toml_edit_laws.proofs.mentions.SomeAt.{among-test}
 use Rattle.toml_edit_laws.proofs.common.Each.{all-filter}
 use Rattle.toml_edit_laws.proofs.mentions.Named.{EndsIn, single-named}
@@ -57,7 +59,8 @@ last-role (s ∷ rest) h = absurd (no h)
     no : dotted_role ≡ value_role → ⊥
     no e = cc
 
-some-any : {S : Type 0} (test : Role → Bool) (k : Text) (ms : List (Mention S)) → some_at test (one (at_key k)) ms ≡ true → some_at any_role (one (at_key k)) ms ≡ true
+some-any : {S : Type 0} (test : Role → Bool) (k : Text) (ms : List (Mention S)) → some_at test (one (at_key k)) ms ≡ true
+    → some_at any_role (one (at_key k)) ms ≡ true
 some-any test k ms h =
     let found = member-at test (one (at_key k)) ms h in
     subst (λ p. some_at any_role p ms ≡ true) found.2 (among-test any_role found.0 ms found.1 refl)
@@ -74,14 +77,16 @@ kept-slots ms are one_header =
       is.among,
       single-named m.path m.segment.key (all-among (λ (n : Mention Source). EndsIn n.segment.key n.path) m ms are.named is.among) is.single,
       all-among (λ (n : Mention Source). kept_mention ms n.path ≡ Some n) m (kept ms) (kept-mentions ms one_header) a,
-      all-among (λ (n : Mention Source). first_of_key n.segment.key (kept ms) ≡ Some n) m (kept ms) (distinct-found (kept ms) (one_slot ms are.named one_header)) a,
+      all-among (λ (n : Mention Source). first_of_key n.segment.key (kept ms)
+          ≡ Some n) m (kept ms) (distinct-found (kept ms) (one_slot ms are.named one_header)) a,
     ))
 
 -- The block's lines are told by a test of statements, and the paths of its dotted tables by a condition: a value whose key stands in such a
 -- table is of a line of the block.
 pub record IsWay (all : List (Mention Source)) (mine : Source → Bool) (Way : Path → Type 0) : Type 0 where
   pub down : (p : Path) (k : Text) → Way p → some_at is_dotted_role (to_key p k) all ≡ true → Way (to_key p k)
-  pub owns : (p : Path) (k : Text) (m : Mention Source) → Way p → Among m all → m.role ≡ value_role → m.path ≡ to_key p k → mine m.source ≡ true
+  pub owns : (p : Path) (k : Text) (m : Mention Source) → Way p → Among m all → m.role ≡ value_role → m.path ≡ to_key p k → mine m.source
+      ≡ true
 
 module _ (mode : Mode) where
   -- Lines are printed by a relation between lines and what they are of, where it holds of every line whose item is the value of the
@@ -102,11 +107,13 @@ module _ (mode : Mode) where
   AreInside ms (table f ss) = (f.is_dotted ≡ true) × AreSlotsOf (owned_in mode) ms (kept ms) ss
   AreInside ms _ = ⊥
 
-  module _ {X : Type 0} (all : List (Mention Source)) (mine : Source → Bool) (Way : Path → Type 0) (source : X → Source) (rank_of : Path → ℕ)
+  module _ {X : Type 0} (all : List (Mention Source)) (mine : Source → Bool) (Way : Path → Type 0) (source : X → Source) (rank_of : Path
+      → ℕ)
       (full : X → List Segment) (Prints : Line → X → Type 0) where
     -- Lines whose keys pass through this path: their segments from there on and where these begin, the keys down to the path, and the
     -- mentions.
-    pub record IsLevel (p : Path) (path_of : X → List Segment) (start : X → ℕ) (ks : List Key) (xs : List X) (ms : List (Mention Source)) : Type 0 where
+    pub record IsLevel (p : Path) (path_of : X → List Segment) (start : X
+        → ℕ) (ks : List Key) (xs : List X) (ms : List (Mention Source)) : Type 0 where
       pub filled : AllFilled path_of xs
       pub part : AllPart path_of xs
       pub mentioned : lower (filter (λ m. mine m.source) ms) ≡ flat_lines source start path_of xs
@@ -164,7 +171,8 @@ module _ (mode : Mode) where
 
     -- a key at which no value and no dotted key stands has no lines
     none-here : (p : Path) (path_of : X → List Segment) (start : X → ℕ) (ks : List Key) (xs : List X) (ms : List (Mention Source))
-        → IsLevel p path_of start ks xs ms → (k : Text) → some_at is_value_role (one (at_key k)) ms ≡ false → some_at is_dotted_role (one (at_key k)) ms ≡ false
+        → IsLevel p path_of start ks xs ms → (k : Text) → some_at is_value_role (one (at_key k)) ms ≡ false
+        → some_at is_dotted_role (one (at_key k)) ms ≡ false
         → group k path_of xs ≡ []
     none-here p path_of start ks xs ms h k no_value no_dot =
         none-left (λ x. has_first k (path_of x)) xs
@@ -185,14 +193,17 @@ module _ (mode : Mode) where
 
     -- and how it is printed
     slot-shown : (p : Path) (path_of : X → List Segment) (start : X → ℕ) (ks : List Key) (xs : List X) (ms : List (Mention Source))
-        → IsLevel p path_of start ks xs ms → (m : Mention Source) → IsSlot ms m → (k : Key) → k ≡ key_at (owned_in mode) m → key_segment mode k ≡ m.segment
+        → IsLevel p path_of start ks xs ms → (m : Mention Source) → IsSlot ms m → (k : Key) → k ≡ key_at (owned_in mode) m
+        → key_segment mode k ≡ m.segment
     slot-shown p path_of start ks xs ms h m is k key_is =
         ap (key_segment mode) key_is
-        ∙ key-shown mode (statement_leaf (owned_in mode) m.source m.source.statement) m (all-among (λ (n : Mention Source). IsSpacedSegment n.segment) m ms h.spaced is.0)
+        ∙ key-shown mode (statement_leaf (owned_in mode) m.source m.source.statement) m
+        (all-among (λ (n : Mention Source). IsSpacedSegment n.segment) m ms h.spaced is.0)
 
     -- the lines of a slot whose key ends a path
     value-slot : (p : Path) (path_of : X → List Segment) (start : X → ℕ) (ks : List Key) (xs : List X) (ms : List (Mention Source))
-        → IsWay all mine Way → IsLevel p path_of start ks xs ms → (m : Mention Source) → IsSlot ms m → (k : Key) (n : Node) → k ≡ key_at (owned_in mode) m
+        → IsWay all mine Way → IsLevel p path_of start ks xs ms → (m : Mention Source) → IsSlot ms m → (k : Key) (n : Node) → k
+        ≡ key_at (owned_in mode) m
         → m.role ≡ value_role → IsLineNode (owned_in mode) m.source m.source.statement n
         → AreLines Prints (slot_lines (is_line_node n) (ks ++ one k) n) (sorted_by (before p path_of) (group m.segment.key path_of xs))
     value-slot p path_of start ks xs ms ways h m is k n key_is role line_is =
@@ -230,9 +241,11 @@ module _ (mode : Mode) where
 
     -- the lines one key down, where a dotted table stands
     level-below : (p : Path) (path_of : X → List Segment) (start : X → ℕ) (ks : List Key) (xs : List X) (ms : List (Mention Source))
-        → IsWay all mine Way → IsLevel p path_of start ks xs ms → (m : Mention Source) → IsSlot ms m → (k : Key) → k ≡ key_at (owned_in mode) m
+        → IsWay all mine Way → IsLevel p path_of start ks xs ms → (m : Mention Source) → IsSlot ms m → (k : Key) → k
+        ≡ key_at (owned_in mode) m
         → some_at is_value_role (one (at_key m.segment.key)) ms ≡ false → some_at is_dotted_role (one (at_key m.segment.key)) ms ≡ true
-        → IsLevel (to_key p m.segment.key) (rests path_of) (λ y. below_start (start y) (path_of y)) (ks ++ one k) (group m.segment.key path_of xs) (under (at_key m.segment.key) ms)
+        → IsLevel (to_key p m.segment.key) (rests path_of) (λ y. below_start (start y) (path_of y)) (ks
+        ++ one k) (group m.segment.key path_of xs) (under (at_key m.segment.key) ms)
     level-below p path_of start ks xs ms ways h m is k key_is no_value dot =
         let l : Text = m.segment.key in
         let passes = group_pass l path_of xs in
@@ -250,7 +263,8 @@ module _ (mode : Mode) where
               ∙ ap (under (at_key l)) h.mentioned)
               ∙ below-lines source start path_of l xs;
           spelled =
-              all-of-among (λ y. full y ≡ map (key_segment mode) (ks ++ one k) ++ kept_below (kept_in all) (to_key p l) (rests path_of y)) (group l path_of xs) (λ y a.
+              all-of-among (λ y. full y ≡ map (key_segment mode) (ks ++ one k)
+              ++ kept_below (kept_in all) (to_key p l) (rests path_of y)) (group l path_of xs) (λ y a.
               let up = among-filter (λ z. has_first l (path_of z)) y xs a in
               all-among (λ z. full z ≡ map (key_segment mode) ks ++ kept_below (kept_in all) p (path_of z)) y xs h.spelled up.0
               ∙ keys-down mode (kept_in all) p ks k m.segment (path_of y) here shown up.1);
@@ -259,11 +273,13 @@ module _ (mode : Mode) where
           are = statements-under (at_key l) ms h.are;
           one_header = under-header (at_key l) ms h.one_header;
           spaced = all-under (λ (o : Mention Source). IsSpacedSegment o.segment) (λ o q g. g) (at_key l) ms h.spaced;
-          kept_same = λ q. under-kept (at_key l) q ms ∙ h.kept_same (at_key l ∷ q) ∙ ap (kept_in all) (sym (append_assoc p (one (at_key l)) q));
+          kept_same = λ q. under-kept (at_key l) q ms ∙ h.kept_same (at_key l ∷ q)
+              ∙ ap (kept_in all) (sym (append_assoc p (one (at_key l)) q));
           lifted = λ o a.
               let up = under-is (at_key l) o ms a in
               subst (λ (j : Mention Source). Among j all)
-              (ap (λ q. moved up.mention q) (ap (λ q. p ++ q) up.path ∙ sym (append_assoc p (one (at_key l)) o.path)) ∙ ap (λ (j : Mention Source). moved j (to_key p l ++ o.path)) (sym up.same))
+              (ap (λ q. moved up.mention q) (ap (λ q. p ++ q) up.path ∙ sym (append_assoc p (one (at_key l)) o.path))
+              ∙ ap (λ (j : Mention Source). moved j (to_key p l ++ o.path)) (sym up.same))
               (h.lifted up.mention up.among);
           way =
               ways.down p l h.way
@@ -292,7 +308,8 @@ module _ (mode : Mode) where
 
     -- the lines of a slot whose key ends no path: those of a dotted table, else none
     table-slot : (p : Path) (path_of : X → List Segment) (start : X → ℕ) (ks : List Key) (xs : List X) (ms : List (Mention Source))
-        → IsWay all mine Way → IsLevel p path_of start ks xs ms → (m : Mention Source) → IsSlot ms m → (k : Key) (f : TableFields) (ss : Slots) → k ≡ key_at (owned_in mode) m
+        → IsWay all mine Way → IsLevel p path_of start ks xs ms → (m : Mention Source) → IsSlot ms m
+        → (k : Key) (f : TableFields) (ss : Slots) → k ≡ key_at (owned_in mode) m
         → IsNodeOf (owned_in mode) (under (at_key m.segment.key) ms) m (table f ss) → IsInside (table f ss)
         → AreLines Prints (dotted_lines mode (table f ss) (ks ++ one k)) (sorted_by (before p path_of) (group m.segment.key path_of xs))
     table-slot p path_of start ks xs ms ways h m is k f ss key_is node inside = by_dot f.is_dotted refl
@@ -306,24 +323,33 @@ module _ (mode : Mode) where
         dots : some_at is_dotted_role (one (at_key m.segment.key)) ms ≡ f.is_dotted
         dots = (standing (owned_in mode) m.segment.key ms m (table f ss) h.are is.3 node).roles.dotted
 
-        by_dot : (b : Bool) → f.is_dotted ≡ b → AreLines Prints (if b then table_lines mode ss (ks ++ one k) else []) (sorted_by (before p path_of) (group m.segment.key path_of xs))
+        by_dot : (b : Bool) → f.is_dotted ≡ b → AreLines Prints (if b then table_lines mode ss (ks ++ one k)
+            else []) (sorted_by (before p path_of) (group m.segment.key path_of xs))
         by_dot true e =
-            subst (λ b. AreLines Prints (if b then table_lines mode ss (ks ++ one k) else []) (sorted_by (before p path_of) (group m.segment.key path_of xs))) e
+            subst (λ b. AreLines Prints (if b then table_lines mode ss (ks ++ one k)
+            else []) (sorted_by (before p path_of) (group m.segment.key path_of xs))) e
             (subst (AreLines Prints (dotted_lines mode (table f ss) (ks ++ one k))) (sym (group-sorted rank_of p l path_of xs))
-            (inside (to_key p l) (rests path_of) (λ y. below_start (start y) (path_of y)) (ks ++ one k) (group l path_of xs) (under (at_key l) ms)
+            (inside (to_key p l) (rests path_of) (λ y. below_start (start y) (path_of y)) (ks
+            ++ one k) (group l path_of xs) (under (at_key l) ms)
             (level-below p path_of start ks xs ms ways h m is k key_is no_value (dots ∙ e)) (e, node.2)))
         by_dot false e =
-            subst (λ ys. AreLines Prints [] (sorted_by (before p path_of) ys)) (sym (none-here p path_of start ks xs ms h l no_value (dots ∙ e))) tt
+            subst (λ ys. AreLines Prints [] (sorted_by (before p path_of) ys))
+            (sym (none-here p path_of start ks xs ms h l no_value (dots ∙ e))) tt
 
     slot-lines : (p : Path) (path_of : X → List Segment) (start : X → ℕ) (ks : List Key) (xs : List X) (ms : List (Mention Source))
-        → IsWay all mine Way → IsLevel p path_of start ks xs ms → (m : Mention Source) → IsSlot ms m → (k : Key) (n : Node) → k ≡ key_at (owned_in mode) m
+        → IsWay all mine Way → IsLevel p path_of start ks xs ms → (m : Mention Source) → IsSlot ms m → (k : Key) (n : Node) → k
+        ≡ key_at (owned_in mode) m
         → IsNodeOf (owned_in mode) (under (at_key m.segment.key) ms) m n → IsInside n
         → AreLines Prints (slot_lines (is_line_node n) (ks ++ one k) n) (sorted_by (before p path_of) (group m.segment.key path_of xs))
     slot-lines p path_of start ks xs ms ways h m is k nothing key_is node inside = absurd node
-    slot-lines p path_of start ks xs ms ways h m is k (leaf s r d) key_is node inside = value-slot p path_of start ks xs ms ways h m is k (leaf s r d) key_is node.0 node.1
-    slot-lines p path_of start ks xs ms ways h m is k (list f us) key_is node inside = value-slot p path_of start ks xs ms ways h m is k (list f us) key_is node.0 node.1
-    slot-lines p path_of start ks xs ms ways h m is k (inline f us) key_is node inside = value-slot p path_of start ks xs ms ways h m is k (inline f us) key_is node.0 node.1
-    slot-lines p path_of start ks xs ms ways h m is k (table f us) key_is node inside = table-slot p path_of start ks xs ms ways h m is k f us key_is node inside
+    slot-lines p path_of start ks xs ms ways h m is k (leaf s r d) key_is node inside =
+        value-slot p path_of start ks xs ms ways h m is k (leaf s r d) key_is node.0 node.1
+    slot-lines p path_of start ks xs ms ways h m is k (list f us) key_is node inside =
+        value-slot p path_of start ks xs ms ways h m is k (list f us) key_is node.0 node.1
+    slot-lines p path_of start ks xs ms ways h m is k (inline f us) key_is node inside =
+        value-slot p path_of start ks xs ms ways h m is k (inline f us) key_is node.0 node.1
+    slot-lines p path_of start ks xs ms ways h m is k (table f us) key_is node inside =
+        table-slot p path_of start ks xs ms ways h m is k f us key_is node inside
     slot-lines p path_of start ks xs ms ways h m is k (tables e us) key_is node inside =
         let stands = standing (owned_in mode) m.segment.key ms m (tables e us) h.are is.3 node in
         subst (λ ys. AreLines Prints [] (sorted_by (before p path_of) ys))
@@ -349,12 +375,14 @@ module _ (mode : Mode) where
           ],
         )
 
-    from-slots : (p : Path) (path_of : X → List Segment) (start : X → ℕ) (ks : List Key) (xs : List X) (ms : List (Mention Source)) (ss : Slots)
+    from-slots : (p : Path) (path_of : X → List Segment) (start : X
+        → ℕ) (ks : List Key) (xs : List X) (ms : List (Mention Source)) (ss : Slots)
         → IsLevel p path_of start ks xs ms → AreSlotsOf (owned_in mode) ms (kept ms) ss → AreSlots ss
         → AreLines Prints (table_lines mode ss ks) (sorted_by (before p path_of) xs)
     from-slots p path_of start ks xs ms ss h is slots =
         let keys : List Text = map (λ (m : Mention Source). m.segment.key) (kept ms) in
-        let sorted_is : sorted_by (before p path_of) xs ≡ flat_map (λ m. sorted_by (before p path_of) (group m.segment.key path_of xs)) (kept ms) =
+        let sorted_is : sorted_by (before p path_of) xs ≡ flat_map (λ m. sorted_by (before p path_of) (group m.segment.key path_of xs))
+        (kept ms) =
         gathered-by (IsPlain ms) rank_of p path_of keys xs (kept-in-order rank_of p ms h.follow h.are.named h.one_header)
         (all-of-among (IsKeyed (IsPlain ms) keys path_of) xs (line-keyed p path_of start ks xs ms h))
         ∙ flat_map-map (λ k. sorted_by (before p path_of) (group k path_of xs)) (λ (m : Mention Source). m.segment.key) (kept ms) in
@@ -383,7 +411,8 @@ module _ (mode : Mode) where
       node-inside ways (tables e us) p path_of start ks xs ms h is = absurd is
 
     -- The lines of a table are those of its block in their order.
-    pub block-lines : IsWay all mine Way → (ss : Slots) (p : Path) (path_of : X → List Segment) (start : X → ℕ) (ks : List Key) (xs : List X) (ms : List (Mention Source))
+    pub block-lines : IsWay all mine Way → (ss : Slots) (p : Path) (path_of : X → List Segment) (start : X
+        → ℕ) (ks : List Key) (xs : List X) (ms : List (Mention Source))
         → IsLevel p path_of start ks xs ms → AreSlotsOf (owned_in mode) ms (kept ms) ss
         → AreLines Prints (table_lines mode ss ks) (sorted_by (before p path_of) xs)
     block-lines ways ss p path_of start ks xs ms h is = from-slots p path_of start ks xs ms ss h is (slots-inside ways ss)

@@ -1,5 +1,6 @@
 -- The blocks of a document: where a value's key stands in the dotted tables of one, its line is of that block.
-use Rattle.std.proofs.Common.{◌≡◌, refl, sym, ◌∙◌, ap, subst, ℕ, zero, suc, Bool, true, false, List, [], ◌∷◌, ◌++◌, append_assoc, Option, Some, None, inl, inr}
+use Rattle.std.proofs.Common.{◌≡◌, refl, sym, ◌∙◌, ap, subst, ℕ, zero, suc, Bool, true, false, List, [], ◌∷◌, ◌++◌, append_assoc, Option}
+use Rattle.std.proofs.Common.{Some, None, inl, inr}
 use Rattle.std.specs.Prelude.{◌⊎◌, ◌&&◌, filter, ◌==◌}
 use Rattle.std.proofs.lemmas.Bool.{eq-eqb}
 use Rattle.std.proofs.lemmas.List.{map-append}
@@ -120,22 +121,27 @@ AreDotted all p [] = Unit {0}
 AreDotted all p (k ∷ ks) = (some_at is_dotted_role (to_key p k) all ≡ true) × AreDotted all (to_key p k) ks
 
 -- one more
-pub dotted-more : (all : List (Mention Source)) (p : Path) (ks : List Text) (k : Text) → AreDotted all p ks → some_at is_dotted_role (to_key (p ++ steps ks) k) all ≡ true
+pub dotted-more : (all : List (Mention Source)) (p : Path) (ks : List Text) (k : Text) → AreDotted all p ks
+    → some_at is_dotted_role (to_key (p ++ steps ks) k) all ≡ true
     → AreDotted all p (ks ++ one k)
 dotted-more all p [] k h e = (subst (λ q. some_at is_dotted_role (to_key q k) all ≡ true) (append-none p) e, tt)
   where
     append-none : (q : Path) → q ++ [] ≡ q
     append-none [] = refl
     append-none (s ∷ q) = ap (λ r. s ∷ r) (append-none q)
-dotted-more all p (l ∷ ks) k h e =
-    (h.0, dotted-more all (to_key p l) ks k h.1 (subst (λ q. some_at is_dotted_role (to_key q k) all ≡ true) (sym (append_assoc p (one (at_key l)) (steps ks))) e))
+dotted-more all p (l ∷ ks) k h e = (
+  h.0,
+  dotted-more all (to_key p l) ks k h.1 (subst (λ q. some_at is_dotted_role (to_key q k) all
+      ≡ true) (sym (append_assoc p (one (at_key l)) (steps ks))) e),
+)
 
 -- one stands at each part of them
 pub dotted-part : (all : List (Mention Source)) (p : Path) (k : Text) (w v : List Text) → AreDotted all p ((k ∷ w) ++ v)
     → some_at is_dotted_role (p ++ steps (k ∷ w)) all ≡ true
 dotted-part all p k [] v h = h.0
 dotted-part all p k (l ∷ w) v h =
-    subst (λ q. some_at is_dotted_role q all ≡ true) (append_assoc p (one (at_key k)) (steps (l ∷ w))) (dotted-part all (to_key p k) l w v h.1)
+    subst (λ q. some_at is_dotted_role q all ≡ true) (append_assoc p (one (at_key k)) (steps (l ∷ w)))
+    (dotted-part all (to_key p k) l w v h.1)
 
 -- ---- blocks
 
@@ -152,8 +158,10 @@ arrays_at p ms = filter (λ m. same_path m.path p && is_array_role m.role) ms
 -- The block of a path has this number: the root's has 0, and a header's its own.
 pub data IsBlock (all : List (Mention Source)) (b : Path) (j : ℕ) : Type 0 where
   of_root : b ≡ [] → j ≡ 0 → IsBlock all b j
-  of_table : (m : Mention Source) (q : Path) (k : Text) → Among m all → m.role ≡ header_role → m.path ≡ b → b ≡ to_key q k → m.source.headers ≡ j → IsBlock all b j
-  of_element : (m : Mention Source) (h : Path) (i : ℕ) → nth i (arrays_at h all) ≡ Some m → b ≡ to_element h i → m.source.headers ≡ j → IsBlock all b j
+  of_table : (m : Mention Source) (q : Path) (k : Text) → Among m all → m.role ≡ header_role → m.path ≡ b → b ≡ to_key q k
+      → m.source.headers ≡ j → IsBlock all b j
+  of_element : (m : Mention Source) (h : Path) (i : ℕ) → nth i (arrays_at h all) ≡ Some m → b ≡ to_element h i → m.source.headers ≡ j
+      → IsBlock all b j
 
 -- a path has one plain header
 pub one-header : {S : Type 0} (ms : List (Mention S)) (m n : Mention S) → HaveOneHeader ms → Among m ms → Among n ms → m.path ≡ n.path
@@ -163,11 +171,13 @@ one-header (x ∷ ms) m n h (inl g) (inl i) path e f = g ∙ sym i
 one-header {S = S} (x ∷ ms) m n h (inl g) (inr i) path e f =
     true-false (some_at is_header_role m.path ms)
     (subst (λ p. some_at is_header_role p ms ≡ true) (sym path) (among-test is_header_role n ms i f))
-    (subst (λ (y : Mention S). some_at is_header_role y.path ms ≡ false) (sym g) (h.0 (subst (λ (y : Mention S). is_header_role y.role ≡ true) g e)))
+    (subst (λ (y : Mention S). some_at is_header_role y.path ms
+    ≡ false) (sym g) (h.0 (subst (λ (y : Mention S). is_header_role y.role ≡ true) g e)))
 one-header {S = S} (x ∷ ms) m n h (inr a) (inl i) path e f =
     true-false (some_at is_header_role n.path ms)
     (subst (λ p. some_at is_header_role p ms ≡ true) path (among-test is_header_role m ms a e))
-    (subst (λ (y : Mention S). some_at is_header_role y.path ms ≡ false) (sym i) (h.0 (subst (λ (y : Mention S). is_header_role y.role ≡ true) i f)))
+    (subst (λ (y : Mention S). some_at is_header_role y.path ms
+    ≡ false) (sym i) (h.0 (subst (λ (y : Mention S). is_header_role y.role ≡ true) i f)))
 one-header (x ∷ ms) m n h (inr a) (inr i) path e f = one-header ms m n h.1 a i path e f
 
 -- a path is of one block
@@ -189,9 +199,11 @@ one-block all b i j h (of_element m q k a ends n) (of_element o u l c more g) =
     sym n ∙ ap (λ (x : Mention Source). x.source.headers) same ∙ g
 
 -- a block whose path ends in a key has a plain header
-pub block-header : (all : List (Mention Source)) (b q : Path) (k : Text) (j : ℕ) → IsBlock all b j → b ≡ to_key q k → some_at is_header_role b all ≡ true
+pub block-header : (all : List (Mention Source)) (b q : Path) (k : Text) (j : ℕ) → IsBlock all b j → b ≡ to_key q k
+    → some_at is_header_role b all ≡ true
 block-header all b q k j (of_root e f) ends = absurd (no-path q (at_key k) (sym ends ∙ e))
-block-header all b q k j (of_table m u l a r p more n) ends = subst (λ x. some_at is_header_role x all ≡ true) p (among-test is_header_role m all a (ap is_header_role r))
+block-header all b q k j (of_table m u l a r p more n) ends =
+    subst (λ x. some_at is_header_role x all ≡ true) p (among-test is_header_role m all a (ap is_header_role r))
 block-header all b q k j (of_element m h i a more n) ends = absurd (no-element q h k i (sym ends ∙ more))
 
 -- the line of a value: its block, and the keys to it
@@ -212,7 +224,8 @@ HaveLines all = (m : Mention Source) → Among m all → m.role ≡ value_role �
 abbrev pub IsDown : List (Mention Source) → Path → Path → Type 0
 IsDown all c p = (vs : List Text) × (p ≡ c ++ steps vs) × AreDotted all c vs
 
-pub way-down : (all : List (Mention Source)) (c p : Path) (k : Text) → IsDown all c p → some_at is_dotted_role (to_key p k) all ≡ true → IsDown all c (to_key p k)
+pub way-down : (all : List (Mention Source)) (c p : Path) (k : Text) → IsDown all c p → some_at is_dotted_role (to_key p k) all ≡ true
+    → IsDown all c (to_key p k)
 way-down all c p k h e = (
   h.0 ++ one k,
   ap (λ q. to_key q k) h.1 ∙ append_assoc c (steps h.0) (one (at_key k)) ∙ ap (λ q. c ++ q) (sym (steps-more h.0 (one k))),
@@ -220,14 +233,16 @@ way-down all c p k h e = (
 )
 
 -- A value's key below a table by dotted keys alone: it is of the block of that path, or the table itself is dotted.
-pub line-meets : (all : List (Mention Source)) (c p : Path) (k : Text) (m : Mention Source) → AreOfStatements all → IsDown all c p → (line : IsLineOf all m)
+pub line-meets : (all : List (Mention Source)) (c p : Path) (k : Text) (m : Mention Source) → AreOfStatements all → IsDown all c p
+    → (line : IsLineOf all m)
     → m.path ≡ to_key p k → (c ≡ line.block) ⊎ ((some_at is_dotted_role c all ≡ true) × ((q : Path) × (l : Text) × (c ≡ to_key q l)))
 line-meets all c p k m are down line path =
     by_case
     (compare c line.block down.0 line.keys
     (sym down.1 ∙ (same-keys p (line.block ++ steps line.keys) k line.last (sym path ∙ line.path)).0))
   where
-    by_case : Compared c line.block down.0 line.keys → (c ≡ line.block) ⊎ ((some_at is_dotted_role c all ≡ true) × ((q : Path) × (l : Text) × (c ≡ to_key q l)))
+    by_case : Compared c line.block down.0 line.keys → (c ≡ line.block)
+        ⊎ ((some_at is_dotted_role c all ≡ true) × ((q : Path) × (l : Text) × (c ≡ to_key q l)))
     by_case (same e) = inl e
     by_case (longer l w e g) =
         let dot = dotted-part all line.block l w down.0 (subst (AreDotted all line.block) g line.dotted) in
@@ -238,7 +253,8 @@ line-meets all c p k m are down line path =
         let end = keys-end c l w in
         let head = block-header all line.block end.0 end.1 m.source.headers line.opened (e ∙ end.2) in
         true-false (some_at is_header_role line.block all) head
-        (kinds-apart is_dotted_role is_header_role line.block all refl are.meeting (subst (λ q. some_at is_dotted_role q all ≡ true) (sym e) dot))
+        (kinds-apart is_dotted_role is_header_role line.block all refl are.meeting (subst (λ q. some_at is_dotted_role q all
+        ≡ true) (sym e) dot))
 
 -- the lines of the block with a number
 abbrev pub is_of : ℕ → Source → Bool

@@ -52,7 +52,8 @@ chunk_places ch = ch.head ∷ ch.lines
 
 pub placed-chunks : (c : Context) (ss : List Statement) → placed_from c ss ≡ lead_lines c ss ++ flat_map chunk_places (chunks c ss)
 placed-chunks c [] = refl
-placed-chunks c (key_line f v end ∷ ss) = ap (λ ps. placed_at c (key_line f v end) ∷ ps) (placed-chunks (context_after c (key_line f v end)) ss)
+placed-chunks c (key_line f v end ∷ ss) =
+    ap (λ ps. placed_at c (key_line f v end) ∷ ps) (placed-chunks (context_after c (key_line f v end)) ss)
 placed-chunks c (header h end ∷ ss) = ap (λ ps. placed_at c (header h end) ∷ ps) (placed-chunks (context_after c (header h end)) ss)
 
 -- ---- in order
@@ -73,7 +74,8 @@ leads c (key_line f v end ∷ ss) = (refl, leads (context_after c (key_line f v 
 leads c (header h end ∷ ss) = tt
 
 -- what goes in before the first of a list
-insert-seam : {A : Type 0} (before : A → A → Bool) (a : A) (xs ys : List A) → (ys ≡ []) ⊎ ((y : A) × (rest : List A) × (ys ≡ y ∷ rest) × (before a y ≡ true))
+insert-seam : {A : Type 0} (before : A → A → Bool) (a : A) (xs ys : List A) → (ys ≡ [])
+    ⊎ ((y : A) × (rest : List A) × (ys ≡ y ∷ rest) × (before a y ≡ true))
     → insert_by before a (xs ++ ys) ≡ insert_by before a xs ++ ys
 insert-seam before a [] ys (inl e) = rw e refl
 insert-seam before a [] ys (inr h) = rw h.2 (rw h.3 refl)
@@ -92,12 +94,14 @@ chunk-first mss s c (key_line f v end ∷ ss) = chunk-first mss s (context_after
 chunk-first mss s c (header h end ∷ ss) =
     inr (
       placed_at c (header h end),
-      sorted_by (lines_before mss) (lead_lines (context_after c (header h end)) ss) ++ flat_map (ordered_chunk mss) (chunks (context_after c (header h end)) ss),
+      sorted_by (lines_before mss) (lead_lines (context_after c (header h end)) ss)
+          ++ flat_map (ordered_chunk mss) (chunks (context_after c (header h end)) ss),
       refl,
       refl,
     )
 
-lines-alike : (mss : List (List (Mention Source))) (xs : List Placed) → AllByRecursion IsLinePlace xs → sorted_by (line_before mss) xs ≡ sorted_by (lines_before mss) xs
+lines-alike : (mss : List (List (Mention Source))) (xs : List Placed) → AllByRecursion IsLinePlace xs → sorted_by (line_before mss) xs
+    ≡ sorted_by (lines_before mss) xs
 lines-alike mss xs h =
     sorted-alike IsLinePlace (line_before mss) (lines_before mss) (λ a b p q. ap (λ t. not t || lines_before mss a b) q) xs h
 
@@ -113,4 +117,5 @@ ordered-chunks mss c (key_line f v end ∷ ss) =
     ap (insert_by (line_before mss) s) (ordered-chunks mss d ss ∙ ap (λ ys. ys ++ rest) (sym (lines-alike mss xs (leads d ss))))
     ∙ insert-seam (line_before mss) s (sorted_by (line_before mss) xs) rest (chunk-first mss s d ss)
     ∙ ap (λ ys. ys ++ rest) (lines-alike mss (s ∷ xs) (refl, leads d ss))
-ordered-chunks mss c (header h end ∷ ss) = ap (λ ps. placed_at c (header h end) ∷ ps) (ordered-chunks mss (context_after c (header h end)) ss)
+ordered-chunks mss c (header h end ∷ ss) =
+    ap (λ ps. placed_at c (header h end) ∷ ps) (ordered-chunks mss (context_after c (header h end)) ss)

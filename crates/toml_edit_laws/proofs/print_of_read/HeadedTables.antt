@@ -43,13 +43,15 @@ abbrev pub has_chunk : ℕ → List Chunk → Bool
 has_chunk n cs = list_any (λ ch. chunk_number ch == n) cs
 
 -- without a header of the number no mention is of one
-pub no-chunk : (c : Context) (ss : List Statement) (n : ℕ) → has_chunk n (chunks c ss) ≡ false → filter (is_heading n) (mentions_in (placed_from c ss)) ≡ []
+pub no-chunk : (c : Context) (ss : List Statement) (n : ℕ) → has_chunk n (chunks c ss) ≡ false
+    → filter (is_heading n) (mentions_in (placed_from c ss)) ≡ []
 no-chunk c [] n h = refl
 no-chunk c (key_line f v end ∷ ss) n h =
     let d : Context = context_after c (key_line f v end) in
     filter-append (is_heading n) (mentions_of c (key_line f v end)) (mentions_in (placed_from d ss))
     ∙ ap (λ xs. xs ++ filter (is_heading n) (mentions_in (placed_from d ss)))
-    (no-heading n (mentions_of c (key_line f v end)) (line-opens (source_of c (key_line f v end)) (c.start + path_start (key_line f v end)) c.block f.path))
+    (no-heading n (mentions_of c (key_line f v end)) (line-opens (source_of c (key_line f v end)) (c.start
+    + path_start (key_line f v end)) c.block f.path))
     ∙ no-chunk d ss n h
 no-chunk c (header hd end ∷ ss) n h =
     let d : Context = context_after c (header hd end) in
@@ -64,7 +66,8 @@ has-number n v h =
     let both : (has_number v && (number_of v == n)) ≡ true = set-number n v.fields.position ∙ h in
     (and_left (has_number v) (number_of v == n) both, eqb-true (number_of v) n (and_right (has_number v) (number_of v == n) both))
 
-below-above : (n : ℕ) (v : Visit) (us : List Visit) → number_of v ≡ n → AllByRecursion (λ u. suc n ≤ number_of u) us → AllByRecursion (λ u. number_of v ≤ number_of u) us
+below-above : (n : ℕ) (v : Visit) (us : List Visit) → number_of v ≡ n → AllByRecursion (λ u. suc n ≤ number_of u) us
+    → AllByRecursion (λ u. number_of v ≤ number_of u) us
 below-above n v [] e h = tt
 below-above n v (u ∷ us) e h =
     let more : suc n ≤ number_of u = h.0 in
@@ -81,7 +84,8 @@ other-table n k v h e =
       | inr g ↦ g
     ]
 
-none-above : (n : ℕ) (us : List Visit) → AllByRecursion (λ v. has_number v ≡ true) us → AllByRecursion (λ u. suc n ≤ number_of u) us → filter (numbered n) us ≡ []
+none-above : (n : ℕ) (us : List Visit) → AllByRecursion (λ v. has_number v ≡ true) us → AllByRecursion (λ u. suc n ≤ number_of u) us
+    → filter (numbered n) us ≡ []
 none-above n [] h g = refl
 none-above n (u ∷ us) h g =
     let apart : numbered n u ≡ false =
@@ -101,11 +105,13 @@ module _ (mode : Mode) where
     pub walk : filter (numbered (chunk_number ch)) vs ≡ one visit
     pub visit_is : IsVisit mode all ch.block is.last.role is.last.source visit
 
-  abbrev pub tables_of : (all : List (Mention Source)) (vs : List Visit) (cs : List Chunk) → AllByRecursion (HasTable all vs) cs → List Visit
+  abbrev pub tables_of : (all : List (Mention Source)) (vs : List Visit) (cs : List Chunk) → AllByRecursion (HasTable all vs) cs
+      → List Visit
   tables_of all vs [] h = []
   tables_of all vs (ch ∷ cs) h = h.0.visit ∷ tables_of all vs cs h.1
 
-  table-number : (all : List (Mention Source)) (vs : List Visit) (ch : Chunk) (h : HasTable all vs ch) → Among h.visit vs × (numbered (chunk_number ch) h.visit ≡ true)
+  table-number : (all : List (Mention Source)) (vs : List Visit) (ch : Chunk) (h : HasTable all vs ch) → Among h.visit vs
+      × (numbered (chunk_number ch) h.visit ≡ true)
   table-number all vs ch h = among-filter (numbered (chunk_number ch)) h.visit vs (subst (Among h.visit) (sym h.walk) (inl refl))
 
   pub table-among : (all : List (Mention Source)) (vs : List Visit) (ch : Chunk) (h : HasTable all vs ch) → Among h.visit vs
@@ -114,9 +120,11 @@ module _ (mode : Mode) where
   pub tables-numbers : (all : List (Mention Source)) (vs : List Visit) (cs : List Chunk) (h : AllByRecursion (HasTable all vs) cs)
       → AllByRecursion (λ v. has_number v ≡ true) (tables_of all vs cs h)
   tables-numbers all vs [] h = tt
-  tables-numbers all vs (ch ∷ cs) h = ((has-number (chunk_number ch) h.0.visit (table-number all vs ch h.0).1).0, tables-numbers all vs cs h.1)
+  tables-numbers all vs (ch ∷ cs) h =
+      ((has-number (chunk_number ch) h.0.visit (table-number all vs ch h.0).1).0, tables-numbers all vs cs h.1)
 
-  tables-above : (all : List (Mention Source)) (vs : List Visit) (m : ℕ) (cs : List Chunk) (h : AllByRecursion (HasTable all vs) cs) → AreNumbered m cs
+  tables-above : (all : List (Mention Source)) (vs : List Visit) (m : ℕ) (cs : List Chunk) (h : AllByRecursion (HasTable all vs) cs)
+      → AreNumbered m cs
       → (n : ℕ) → n ≤ m → AllByRecursion (λ v. suc n ≤ number_of v) (tables_of all vs cs h)
   tables-above all vs m [] h g n e = tt
   tables-above all vs m (ch ∷ cs) h g n e =
@@ -125,15 +133,19 @@ module _ (mode : Mode) where
       let next : chunk_number ch ≡ suc m = g.0 in
       (omega arith, tables-above all vs (suc m) cs h.1 g.1 n (omega arith))
 
-  pub tables-ascending : (all : List (Mention Source)) (vs : List Visit) (m : ℕ) (cs : List Chunk) (h : AllByRecursion (HasTable all vs) cs) → AreNumbered m cs
+  pub tables-ascending : (all : List (Mention Source)) (vs : List Visit) (m : ℕ) (cs : List Chunk) (h : AllByRecursion (HasTable all vs) cs)
+      → AreNumbered m cs
       → IsAscending number_of (tables_of all vs cs h)
   tables-ascending all vs m [] h g = tt
   tables-ascending all vs m (ch ∷ cs) h g =
-      let is : number_of h.0.visit ≡ suc m = (has-number (chunk_number ch) h.0.visit (table-number all vs ch h.0).1).1 ∙ g.0 in
-      (below-above (suc m) h.0.visit (tables_of all vs cs h.1) is (tables-above all vs (suc m) cs h.1 g.1 (suc m) (omega arith)), tables-ascending all vs (suc m) cs h.1 g.1)
+      let is : number_of h.0.visit ≡ suc m = (has-number (chunk_number ch) h.0.visit (table-number all vs ch h.0).1).1 ∙ g.0 in (
+        below-above (suc m) h.0.visit (tables_of all vs cs h.1) is (tables-above all vs (suc m) cs h.1 g.1 (suc m) (omega arith)),
+        tables-ascending all vs (suc m) cs h.1 g.1,
+      )
 
   -- a number keeps of them its table, where there is one
-  tables-kept : (all : List (Mention Source)) (vs : List Visit) (m : ℕ) (cs : List Chunk) (h : AllByRecursion (HasTable all vs) cs) → AreNumbered m cs → (n : ℕ)
+  tables-kept : (all : List (Mention Source)) (vs : List Visit) (m : ℕ) (cs : List Chunk) (h : AllByRecursion (HasTable all vs) cs)
+      → AreNumbered m cs → (n : ℕ)
       → filter (numbered n) (tables_of all vs cs h) ≡ (if has_chunk n cs then filter (numbered n) vs else [])
   tables-kept all vs m [] h g n = refl
   tables-kept all vs m (ch ∷ cs) h g n =
@@ -156,12 +168,15 @@ module _ (mode : Mode) where
           ap (λ b. if b then h.0.visit ∷ filter (numbered n) rest else filter (numbered n) rest) here
           ∙ ap (λ us. h.0.visit ∷ us) none ∙ sym h.0.walk ∙ ap (λ k. filter (numbered k) vs) same
       by_test false e ih =
-          ap (λ b. if b then h.0.visit ∷ filter (numbered n) rest else filter (numbered n) rest) (other-table n (chunk_number ch) h.0.visit own e) ∙ ih
+          ap (λ b. if b then h.0.visit ∷ filter (numbered n) rest
+          else filter (numbered n) rest) (other-table n (chunk_number ch) h.0.visit own e) ∙ ih
 
   -- Each number keeps the same of the walk and of the headers' tables.
-  pub tables-same : (c : Context) (ss : List Statement) (ts : Slots) (p : Path) → AreSlotsOf (owned_in mode) (mentions_in (placed_from c ss)) (kept (mentions_in (placed_from c ss))) ts
+  pub tables-same : (c : Context) (ss : List Statement) (ts : Slots) (p : Path)
+      → AreSlotsOf (owned_in mode) (mentions_in (placed_from c ss)) (kept (mentions_in (placed_from c ss))) ts
       → (h : AllByRecursion (HasTable (mentions_in (placed_from c ss)) (slots_walk ts p [])) (chunks c ss)) (n : ℕ)
-      → filter (numbered n) (slots_walk ts p []) ≡ filter (numbered n) (tables_of (mentions_in (placed_from c ss)) (slots_walk ts p []) (chunks c ss) h)
+      → filter (numbered n) (slots_walk ts p []) ≡ filter (numbered n)
+      (tables_of (mentions_in (placed_from c ss)) (slots_walk ts p []) (chunks c ss) h)
   tables-same c ss ts p slots h n =
       by_test (has_chunk n (chunks c ss)) refl ∙ sym (tables-kept all vs c.headers (chunks c ss) h (chunk-numbers c ss) n)
     where

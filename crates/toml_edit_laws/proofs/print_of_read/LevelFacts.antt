@@ -22,7 +22,8 @@ pub among-filter : {A : Type 0} (test : A → Bool) (x : A) (xs : List A) → Am
 among-filter test x [] a = elim a [ ]
 among-filter {A = A} test x (y ∷ xs) a = by_test (test y) refl a (among-filter test x xs)
   where
-    by_test : (b : Bool) → test y ≡ b → Among x (if b then y ∷ filter test xs else filter test xs) → (Among x (filter test xs) → Among x xs × (test x ≡ true))
+    by_test : (b : Bool) → test y ≡ b → Among x (if b then y ∷ filter test xs else filter test xs)
+        → (Among x (filter test xs) → Among x xs × (test x ≡ true))
         → Among x (y ∷ xs) × (test x ≡ true)
     by_test true e (inl g) ih = (inl g, ap test g ∙ e)
     by_test true e (inr h) ih = (inr (ih h).0, (ih h).1)
@@ -44,7 +45,8 @@ map-among f y x (z ∷ xs) (inr a) b = among-right y (f z) (flat_map f xs) (map-
 -- ---- paths and roles of members
 
 -- what doesn't look at a path holds one step down
-pub all-under : {S : Type 0} (P : Mention S → Type 0) → ((m : Mention S) (p : Path) → P m → P (moved m p)) → (s : Step) (ms : List (Mention S))
+pub all-under : {S : Type 0} (P : Mention S → Type 0) → ((m : Mention S) (p : Path) → P m → P (moved m p))
+    → (s : Step) (ms : List (Mention S))
     → AllByRecursion P ms → AllByRecursion P (under s ms)
 all-under P still s ms h =
     all-of-among P (under s ms) (λ m a.
@@ -58,7 +60,8 @@ under-filter {S = S} test s (m ∷ ms) = by_path m.path (under-filter test s ms)
   where
     by_path : (p : Path) → filter (λ (n : Mention S). test n.source) (under s ms) ≡ under s (filter (λ (n : Mention S). test n.source) ms)
         → filter (λ (n : Mention S). test n.source) (inside s m p ++ under s ms)
-        ≡ under s (if test m.source then moved m p ∷ filter (λ (n : Mention S). test n.source) ms else filter (λ (n : Mention S). test n.source) ms)
+        ≡ under s (if test m.source then moved m p ∷ filter (λ (n : Mention S). test n.source) ms
+        else filter (λ (n : Mention S). test n.source) ms)
     by_path [] ih = ih ∙ elim (cases_Bool (test m.source)) [ inl e ↦ rw e refl | inr e ↦ rw e refl ]
     by_path (t ∷ p) ih =
         elim (cases_Bool (same_step t s)) [
@@ -74,7 +77,8 @@ distinct-found [] h = tt
 distinct-found {S = S} (m ∷ ms) h = (
   rw (same_text-refl m.segment.key) refl,
   all-of-among (λ n. first_of_key n.segment.key (m ∷ ms) ≡ Some n) ms (λ n a.
-      let found : first_of_key n.segment.key ms ≡ Some n = all-among (λ (x : Mention S). first_of_key x.segment.key ms ≡ Some x) n ms (distinct-found ms h.1) a in
+      let found : first_of_key n.segment.key ms ≡ Some n =
+      all-among (λ (x : Mention S). first_of_key x.segment.key ms ≡ Some x) n ms (distinct-found ms h.1) a in
       let apart : same_text n.segment.key m.segment.key ≡ false =
       false-by (same_text n.segment.key m.segment.key) (λ e.
       let same : n.segment.key ≡ m.segment.key = same_text-is n.segment.key m.segment.key e in
@@ -100,9 +104,11 @@ long s t (v ∷ p) u h = cc
 line-longer : {S : Type 0} (source : S) (start : ℕ) (k l : Text) (p : Path) (ss : List Segment) (m : Mention S)
     → Among m (line_mentions source start (at_key l ∷ p) ss) → m.path ≡ at_key k ∷ [] → ⊥
 line-longer source start k l p [] m a e = elim a [ ]
-line-longer {S = S} source start k l p (s ∷ []) m (inl g) e = long (at_key l) (at_key k) p (at_key s.key) (sym (ap (λ (x : Mention S). x.path) g) ∙ e)
+line-longer {S = S} source start k l p (s ∷ []) m (inl g) e =
+    long (at_key l) (at_key k) p (at_key s.key) (sym (ap (λ (x : Mention S). x.path) g) ∙ e)
 line-longer source start k l p (s ∷ []) m (inr a) e = elim a [ ]
-line-longer {S = S} source start k l p (s ∷ r ∷ rest) m (inl g) e = long (at_key l) (at_key k) p (at_key s.key) (sym (ap (λ (x : Mention S). x.path) g) ∙ e)
+line-longer {S = S} source start k l p (s ∷ r ∷ rest) m (inl g) e =
+    long (at_key l) (at_key k) p (at_key s.key) (sym (ap (λ (x : Mention S). x.path) g) ∙ e)
 line-longer source start k l p (s ∷ r ∷ rest) m (inr a) e = line-longer source (next_start start s) k l (to_key p s.key) (r ∷ rest) m a e
 
 -- the line whose first mention it is
@@ -117,14 +123,16 @@ pub line-first : {S : Type 0} (source : S) (start : ℕ) (k : Text) (ss : List S
 line-first source start k [] m a e = elim a [ ]
 line-first {S = S} source start k (s ∷ rest) m a e = by_place (subst (Among m) (line-from source start [] s rest) a)
   where
-    by_place : Among m (mention_of source start (one (at_key s.key)) (first_role rest) s ∷ line_mentions source (next_start start s) (one (at_key s.key)) rest)
+    by_place : Among m (mention_of source start (one (at_key s.key)) (first_role rest) s
+        ∷ line_mentions source (next_start start s) (one (at_key s.key)) rest)
         → IsFirstOf source start (s ∷ rest) m
     by_place (inl g) = record { segment = s; rest = rest; is = refl; same = g }
     by_place (inr g) = absurd (line-longer source (next_start start s) k s.key [] rest m g e)
 
 pub first-line : {S : Type 0} (source : S) (start : ℕ) (s : Segment) (rest : List Segment)
     → Among (mention_of source start (one (at_key s.key)) (first_role rest) s) (line_mentions source start [] (s ∷ rest))
-first-line source start s rest = subst (Among (mention_of source start (one (at_key s.key)) (first_role rest) s)) (sym (line-from source start [] s rest)) (inl refl)
+first-line source start s rest =
+    subst (Among (mention_of source start (one (at_key s.key)) (first_role rest) s)) (sym (line-from source start [] s rest)) (inl refl)
 
 -- ---- a line of one key
 
@@ -149,7 +157,8 @@ alone-before s (r ∷ rs) h =
     no (q ∷ qs) g = cc
 
 -- A line of one key is alone in its group.
-pub alone-group : {X : Type 0} (path_of : X → List Segment) (x : X) (s : Segment) (xs : List X) → AllPart path_of xs → Among x xs → path_of x ≡ one s
+pub alone-group : {X : Type 0} (path_of : X → List Segment) (x : X) (s : Segment) (xs : List X) → AllPart path_of xs → Among x xs
+    → path_of x ≡ one s
     → group s.key path_of xs ≡ one x
 alone-group path_of x s [] h a e = elim a [ ]
 alone-group path_of x s (y ∷ xs) h (inl g) e =
@@ -157,8 +166,10 @@ alone-group path_of x s (y ∷ xs) h (inl g) e =
     let none : group s.key path_of xs ≡ [] =
     none-left (λ z. has_first s.key (path_of z)) xs
     (all-of-among (λ z. has_first s.key (path_of z) ≡ false) xs (λ z b.
-    alone-after s (path_of z) (ap (λ ss. part_ways ss (path_of z)) (sym is) ∙ all-among (λ w. part_ways (path_of y) (path_of w) ≡ true) z xs h.0 b))) in
+    alone-after s (path_of z) (ap (λ ss. part_ways ss (path_of z)) (sym is)
+    ∙ all-among (λ w. part_ways (path_of y) (path_of w) ≡ true) z xs h.0 b))) in
     rw (ap (has_first s.key) is ∙ same_text-refl s.key) (ap (λ zs. y ∷ zs) none ∙ ap one (sym g))
 alone-group path_of x s (y ∷ xs) h (inr a) e =
-    rw (alone-before s (path_of y) (ap (part_ways (path_of y)) (sym e) ∙ all-among (λ w. part_ways (path_of y) (path_of w) ≡ true) x xs h.0 a))
+    rw (alone-before s (path_of y) (ap (part_ways (path_of y)) (sym e)
+    ∙ all-among (λ w. part_ways (path_of y) (path_of w) ≡ true) x xs h.0 a))
     (alone-group path_of x s xs h.1 a e)

@@ -7,7 +7,8 @@ use Rattle.toml_edit_model.specs.Mode.{Mode}
 use Rattle.toml_edit_model.specs.Text.{one, is_empty}
 use Rattle.toml_edit_model.specs.Syntax.{Statement, key_line, header}
 use Rattle.toml_edit_model.specs.Paths.{Step, at_key, at_element, Path, to_key, to_element, Mention, Source}
-use Rattle.toml_edit_model.specs.Tree.{Key, TableFields, Node, nothing, leaf, list, inline, table, tables, Items, no_items, item, Slots, no_slots, slot}
+use Rattle.toml_edit_model.specs.Tree.{Key, TableFields, Node, nothing, leaf, list, inline, table, tables, Items, no_items, item, Slots}
+use Rattle.toml_edit_model.specs.Tree.{no_slots, slot}
 use Rattle.toml_edit_model.specs.TreeOf.{owned_in, header_fields, fields_of, IsNodeOf, AreElementsOf, AreSlotsOf}
 use Rattle.toml_edit_model.specs.HeaderOrder.{Visit, visit_of, node_walk, items_walk, slots_walk}
 use Rattle.toml_edit_laws.proofs.common.Members.{Among, all-among, all-of-among}
@@ -59,7 +60,8 @@ none-kept n ms h =
     all-among (λ (x : Mention Source). is_empty x.path ≡ false → is_heading n x ≡ false) m ms h is.among (single-full m.path is.single))
 
 -- the headers in double brackets of the array itself
-pub array-is : {S : Type 0} (a : Mention S) (ms : List (Mention S)) → Among a (array_headers ms) → Among a ms × (a.path ≡ []) × (is_array_role a.role ≡ true)
+pub array-is : {S : Type 0} (a : Mention S) (ms : List (Mention S)) → Among a (array_headers ms) → Among a ms × (a.path ≡ [])
+    × (is_array_role a.role ≡ true)
 array-is {S = S} a ms h =
     let up = among-filter (λ (m : Mention S). is_array_role m.role) a (own ms) h in
     let here = among-filter (λ (m : Mention S). is_empty m.path) a ms up.0 in
@@ -78,16 +80,19 @@ none-arrays n ms h =
     let is = array-is a ms b in
     other-number n a (array-bracket a.role is.2) (all-among (λ m. is_heading n m ≡ false) a ms h is.0))
 
-pub first-other : (n : ℕ) (v : Visit) (vs : List Visit) → numbered n v ≡ false → filter (numbered n) vs ≡ [] → filter (numbered n) (v ∷ vs) ≡ []
+pub first-other : (n : ℕ) (v : Visit) (vs : List Visit) → numbered n v ≡ false → filter (numbered n) vs ≡ [] → filter (numbered n) (v ∷ vs)
+    ≡ []
 first-other n v vs h g = rw h g
 
-pub first-none : (n : ℕ) (xs ys : List Visit) → filter (numbered n) xs ≡ [] → filter (numbered n) ys ≡ [] → filter (numbered n) (xs ++ ys) ≡ []
+pub first-none : (n : ℕ) (xs ys : List Visit) → filter (numbered n) xs ≡ [] → filter (numbered n) ys ≡ [] → filter (numbered n) (xs ++ ys)
+    ≡ []
 first-none n xs ys h g = filter-append (numbered n) xs ys ∙ ap (λ zs. zs ++ filter (numbered n) ys) h ∙ g
 
 module _ (mode : Mode) where
   -- ---- fields
 
-  pub header-other : (n : ℕ) (s : Source) (t : Statement) → (s.headers == n) ≡ false → is_number n (header_fields (owned_in mode) s t).position ≡ false
+  pub header-other : (n : ℕ) (s : Source) (t : Statement) → (s.headers == n) ≡ false
+      → is_number n (header_fields (owned_in mode) s t).position ≡ false
   header-other n s (header h end) e = e
   header-other n s (key_line f v end) e = refl
 
@@ -103,28 +108,34 @@ module _ (mode : Mode) where
   -- ---- the walk
 
   mutual
-    pub slots-none : (n : ℕ) (ms ls : List (Mention Source)) (ss : Slots) (p : Path) (ks : List Key) → HaveNoneBelow n ms → HaveNone n ls → AreSlotsOf (owned_in mode) ms ls ss
+    pub slots-none : (n : ℕ) (ms ls : List (Mention Source)) (ss : Slots) (p : Path) (ks : List Key) → HaveNoneBelow n ms → HaveNone n ls
+        → AreSlotsOf (owned_in mode) ms ls ss
         → filter (numbered n) (slots_walk ss p ks) ≡ []
     slots-none n ms [] no_slots p ks none kept_none h = refl
     slots-none n ms [] (slot k node ss) p ks none kept_none h = absurd h
     slots-none n ms (m ∷ ls) no_slots p ks none kept_none h = absurd h
     slots-none n ms (m ∷ ls) (slot k node ss) p ks none kept_none h =
         first-none n (node_walk node (to_key p k.name) (ks ++ one k) false) (slots_walk ss p ks)
-        (node-none n (under (at_key m.segment.key) ms) m node (to_key p k.name) (ks ++ one k) (none-under n (at_key m.segment.key) ms none) kept_none.0 h.1)
+        (node-none n (under (at_key m.segment.key) ms) m node (to_key p k.name) (ks
+        ++ one k) (none-under n (at_key m.segment.key) ms none) kept_none.0 h.1)
         (slots-none n ms ls ss p ks none kept_none.1 h.2)
 
-    pub node-none : (n : ℕ) (ns : List (Mention Source)) (m : Mention Source) (node : Node) (p : Path) (ks : List Key) → HaveNone n ns → is_heading n m ≡ false
+    pub node-none : (n : ℕ) (ns : List (Mention Source)) (m : Mention Source) (node : Node) (p : Path) (ks : List Key) → HaveNone n ns
+        → is_heading n m ≡ false
         → IsNodeOf (owned_in mode) ns m node → filter (numbered n) (node_walk node p ks false) ≡ []
     node-none n ns m nothing p ks none e h = absurd h
     node-none n ns m (leaf s r d) p ks none e h = refl
     node-none n ns m (list f xs) p ks none e h = refl
     node-none n ns m (inline f ss) p ks none e h = refl
     node-none n ns m (table f ss) p ks none e h =
-        first-other n (visit_of p ks false f ss) (slots_walk ss p ks) (ap (λ (g : TableFields). is_number n g.position) h.1 ∙ fields-other n ns m m.role refl e)
+        first-other n (visit_of p ks false f ss) (slots_walk ss p ks) (ap (λ (g : TableFields). is_number n g.position) h.1
+        ∙ fields-other n ns m m.role refl e)
         (slots-none n ns (kept ns) ss p ks (none-below n ns none) (none-kept n ns (none-below n ns none)) h.2)
-    node-none n ns m (tables x xs) p ks none e h = items-none n ns 0 (array_headers ns) xs p ks (none-below n ns none) (none-arrays n ns none) h.2
+    node-none n ns m (tables x xs) p ks none e h =
+        items-none n ns 0 (array_headers ns) xs p ks (none-below n ns none) (none-arrays n ns none) h.2
 
-    pub items-none : (n : ℕ) (ns : List (Mention Source)) (i : ℕ) (hs : List (Mention Source)) (xs : Items) (p : Path) (ks : List Key) → HaveNoneBelow n ns
+    pub items-none : (n : ℕ) (ns : List (Mention Source)) (i : ℕ) (hs : List (Mention Source)) (xs : Items) (p : Path) (ks : List Key)
+        → HaveNoneBelow n ns
         → HaveOtherNumbers n hs → AreElementsOf (owned_in mode) ns i hs xs → filter (numbered n) (items_walk xs p ks i) ≡ []
     items-none n ns i [] no_items p ks none others h = refl
     items-none n ns i [] (item x xs) p ks none others h = absurd h
@@ -135,7 +146,8 @@ module _ (mode : Mode) where
         first-none n (visit_of (to_element p i) ks true f ss ∷ slots_walk ss (to_element p i) ks) (items_walk xs p ks (suc i))
         (first-other n (visit_of (to_element p i) ks true f ss) (slots_walk ss (to_element p i) ks)
         (ap (λ (g : TableFields). is_number n g.position) h.0 ∙ header-other n a.source a.source.statement others.0)
-        (slots-none n below (kept below) ss (to_element p i) ks (none-below n below none_here) (none-kept n below (none-below n below none_here)) h.1))
+        (slots-none n below (kept below) ss (to_element p i) ks (none-below n below none_here)
+        (none-kept n below (none-below n below none_here)) h.1))
         (items-none n ns (suc i) hs xs p ks none others.1 h.2)
     items-none n ns i (a ∷ hs) (item nothing xs) p ks none others h = absurd h
     items-none n ns i (a ∷ hs) (item (leaf s r d) xs) p ks none others h = absurd h

@@ -9,14 +9,17 @@ use Rattle.toml_edit_laws.proofs.common.LineEnds.{IsEnd}
 use Rattle.toml_edit_model.specs.Trivia.{IsNewline, lf, crlf}
 use Rattle.toml_edit_model.specs.Mode.{Mode, shown_text, plain, exact, is_exact}
 use Rattle.toml_edit_model.specs.Text.{Text, one, is_empty}
-use Rattle.toml_edit_model.specs.Syntax.{Header, Statement, header, Document, IsDocument, IsHeader, open_statements, AreStatements, document_text, key_line}
+use Rattle.toml_edit_model.specs.Syntax.{Header, Statement, header, Document, IsDocument, IsHeader, open_statements, AreStatements}
+use Rattle.toml_edit_model.specs.Syntax.{document_text, key_line}
 use Rattle.toml_edit_model.specs.Paths.{Step, at_key, at_element, Path, Mention, Source, Placed, start_context, placed, all_mentions}
 use Rattle.toml_edit_model.specs.Accepted.{is_accepted}
 use Rattle.toml_edit_model.specs.Normal.{is_line, ordered, normal_statement, normal_in, normal_text_in, has_open_end, normal_last}
 use Rattle.toml_edit_model.specs.Tree.{Tree, TableFields, shown_prefix, shown_suffix, shown_raw, owned}
 use Rattle.toml_edit_model.specs.TreeOf.{owned_in, IsTreeOf, root_fields}
 use Rattle.toml_edit_model.specs.HeaderOrder.{Visit, slots_walk, is_root, in_header_order}
-use Rattle.toml_edit_model.specs.Print.{Line, lines_of, table_lines, line_statement, Printed, printed_line, printed_header, printed_table, printed, statements_of, print_in, add_before, final_of, document_in, leaves_open, open_last, written_statements}
+use Rattle.toml_edit_model.specs.Print.{Line, lines_of, table_lines, line_statement, Printed, printed_line, printed_header, printed_table}
+use Rattle.toml_edit_model.specs.Print.{printed, statements_of, print_in, add_before, final_of, document_in, leaves_open, open_last}
+use Rattle.toml_edit_model.specs.Print.{written_statements}
 use Rattle.toml_edit_laws.proofs.print_of_read.NoVisits.{numbered}
 use Rattle.toml_edit_laws.proofs.common.Members.{Among, among-left, among-right, all-among, all-of-among}
 use Rattle.toml_edit_laws.proofs.mentions.KeptOrder.{HaveOneHeader}
@@ -27,16 +30,20 @@ use Rattle.toml_edit_laws.proofs.clashes.ClashMentions.{AreOfStatements, stateme
 use Rattle.toml_edit_laws.proofs.mentions.GatheredLines.{AllPart}
 use Rattle.toml_edit_laws.proofs.print_of_read.LevelFacts.{map-among}
 use Rattle.toml_edit_laws.proofs.print_of_read.Blocks.{HaveLines, of_root}
-use Rattle.toml_edit_laws.proofs.print_of_read.Chunks.{place_path, Chunk, lead_lines, chunks, chunk_places, placed-chunks, lines_before, ordered_chunk, ordered-chunks}
-use Rattle.toml_edit_laws.proofs.print_of_read.ChunkFacts.{lead-facts, own-lines, OpensAt, opens_table, opens_element, IsChunk, AgreeAfter, right-agree, document-chunks}
-use Rattle.toml_edit_laws.proofs.print_of_read.DocumentFacts.{IsRightStatement, document-right, mentions-right, document-spaced, document-openings, document-lines}
+use Rattle.toml_edit_laws.proofs.print_of_read.Chunks.{place_path, Chunk, lead_lines, chunks, chunk_places, placed-chunks, lines_before}
+use Rattle.toml_edit_laws.proofs.print_of_read.Chunks.{ordered_chunk, ordered-chunks}
+use Rattle.toml_edit_laws.proofs.print_of_read.ChunkFacts.{lead-facts, own-lines, OpensAt, opens_table, opens_element, IsChunk, AgreeAfter}
+use Rattle.toml_edit_laws.proofs.print_of_read.ChunkFacts.{right-agree, document-chunks}
+use Rattle.toml_edit_laws.proofs.print_of_read.DocumentFacts.{IsRightStatement, document-right, mentions-right, document-spaced}
+use Rattle.toml_edit_laws.proofs.print_of_read.DocumentFacts.{document-openings, document-lines}
 use Rattle.toml_edit_laws.proofs.print_of_read.UnderPaths.{path-header}
 use Rattle.toml_edit_laws.proofs.print_of_read.HeaderWalk.{walk-one}
 use Rattle.toml_edit_laws.proofs.print_of_read.WalkFacts.{IsEntered, walk-read}
 use Rattle.toml_edit_laws.proofs.print_of_read.HeadersInOrder.{has_number, order-of-headers, printed-in-order}
 use Rattle.toml_edit_laws.proofs.print_of_read.PrintedLines.{lines-printed, lead-part, chunk-parts}
 use Rattle.toml_edit_laws.proofs.print_of_read.PrintedHeader.{header-printed}
-use Rattle.toml_edit_laws.proofs.print_of_read.HeadedTables.{HasTable, tables_of, table-among, tables-numbers, tables-ascending, tables-same, chunk-numbers}
+use Rattle.toml_edit_laws.proofs.print_of_read.HeadedTables.{HasTable, tables_of, table-among, tables-numbers, tables-ascending}
+use Rattle.toml_edit_laws.proofs.print_of_read.HeadedTables.{tables-same, chunk-numbers}
 use Rattle.toml_edit_laws.proofs.mentions.RoleTests.{is_bracket_role}
 use Rattle.toml_edit_laws.proofs.common.Statements.{add-nothing, final-nothing}
 use Rattle.toml_edit_laws.proofs.mentions.Placed.{path-ends}
@@ -53,7 +60,8 @@ right-header s h end e r = subst IsRightStatement e r
 
 -- a document of its parts
 abbrev made : Text → Text → Text → List Statement → Document
-made before after trailing ss = record { has_mark = false; statements = add_before before ss; final = final_of before ss (after ++ trailing) }
+made before after trailing ss =
+    record { has_mark = false; statements = add_before before ss; final = final_of before ss (after ++ trailing) }
 
 -- a newline isn't empty
 end-final : (final end : Text) → IsNewline end ⊎ ((end ≡ []) × (final ≡ [])) → is_empty end ≡ true → final ≡ []
@@ -69,7 +77,8 @@ open-end-final final (s ∷ r ∷ ss) h e = open-end-final final (r ∷ ss) h.1 
 
 module _ (mode : Mode) where
   -- a block's path isn't empty
-  block-full : (all : List (Mention Source)) (b : Path) (m : Mention Source) (q : Path) (s : Step) → OpensAt all b m → m.path ≡ q ++ one s → is_empty b ≡ false
+  block-full : (all : List (Mention Source)) (b : Path) (m : Mention Source) (q : Path) (s : Step) → OpensAt all b m → m.path ≡ q ++ one s
+      → is_empty b ≡ false
   block-full all b m q s (opens_table role path) e = ap is_empty (sym path ∙ e) ∙ full q s
     where
       full : (q : Path) (s : Step) → is_empty (q ++ one s) ≡ false
@@ -82,7 +91,8 @@ module _ (mode : Mode) where
       full (t ∷ q) s = refl
 
   -- the statements of printed lines
-  line-statements : (p : Path) (ls : List Line) → map (λ (x : Printed). x.statement) (map (printed_line mode p) ls) ≡ map (line_statement mode) ls
+  line-statements : (p : Path) (ls : List Line) → map (λ (x : Printed). x.statement) (map (printed_line mode p) ls)
+      ≡ map (line_statement mode) ls
   line-statements p [] = refl
   line-statements p (l ∷ ls) = ap (λ ts. line_statement mode l ∷ ts) (line-statements p ls)
 
@@ -137,7 +147,8 @@ module _ (mode : Mode) where
     chunk-right ch a =
         all-of-among (λ (s : Placed). IsRightStatement s.source.statement) (chunk_places ch) (λ s b.
         all-among (λ (x : Placed). IsRightStatement x.source.statement) s (placed d) right
-        (subst (Among s) (sym (placed-chunks (start_context d) d.statements)) (among-right s lead (flat_map chunk_places cs) (map-among chunk_places s ch cs a b))))
+        (subst (Among s) (sym (placed-chunks (start_context d) d.statements))
+        (among-right s lead (flat_map chunk_places cs) (map-among chunk_places s ch cs a b))))
 
     lead_right : AllByRecursion (λ (s : Placed). IsRightStatement s.source.statement) lead
     lead_right =
@@ -170,7 +181,8 @@ module _ (mode : Mode) where
       entered : AllByRecursion (IsEntered mode) vs
       entered = walk-read mode all (rank mss) follow are lines heads [] all (kept all) t.slots [] seat (seat-slots all [] all seat) is.slots
 
-      printed_is : printed mode t ≡ map (printed_line mode []) (table_lines mode t.slots []) ++ flat_map (printed_table mode true) (tables_of mode all vs cs tables)
+      printed_is : printed mode t ≡ map (printed_line mode []) (table_lines mode t.slots [])
+          ++ flat_map (printed_table mode true) (tables_of mode all vs cs tables)
       printed_is =
           printed-in-order mode t (tables_of mode all vs cs tables) is.root entered (tables-numbers mode all vs cs tables)
           (tables-ascending mode all vs 0 cs tables (chunk-numbers (start_context d) d.statements))
@@ -186,7 +198,8 @@ module _ (mode : Mode) where
       -- the root's lines
       lead_printed : map (line_statement mode) (table_lines mode t.slots []) ≡ map normal_of (sorted_by (lines_before mss) lead)
       lead_printed =
-          lines-printed mode all mss [] 0 lead all t.slots seat follow are one_header lines (of_root refl refl) (lead-facts (start_context d) d.statements keyed)
+          lines-printed mode all mss [] 0 lead all t.slots seat follow are one_header lines (of_root refl refl)
+          (lead-facts (start_context d) d.statements keyed)
           (lead-part (start_context d) d.statements [] (lead-facts (start_context d) d.statements keyed) agrees) lead_right
           (own-lines (start_context d) d.statements) is.slots
 
@@ -196,30 +209,44 @@ module _ (mode : Mode) where
       chunk-printed ch a part h =
           let c : IsChunk all ch = h.is in
           let seat_here : IsSeat all ch.block (under_path ch.block all) =
-          record { is = refl; are = statements-under_path ch.block all are; one_header = path-header ch.block all one_header; spaced = seat.spaced } in
+          record {
+            is = refl;
+            are = statements-under_path ch.block all are;
+            one_header = path-header ch.block all one_header;
+            spaced =
+                seat.spaced;
+          } in
           let root : is_root h.visit ≡ false = (all-among (IsEntered mode) h.visit vs entered (table-among mode all vs ch h)).0 in
-          map-append (λ (p : Printed). p.statement) (printed_header mode true h.visit) (map (printed_line mode h.visit.path) (lines_of mode h.visit))
+          map-append (λ (p : Printed). p.statement) (printed_header mode true h.visit)
+          (map (printed_line mode h.visit.path) (lines_of mode h.visit))
           ∙ ap (λ ts. ts ++ map (λ (p : Printed). p.statement) (map (printed_line mode h.visit.path) (lines_of mode h.visit)))
-          (header-printed mode all ch h.visit c h.visit_is (mentions-right d right) heads (right-header ch.head.source.statement c.header_is c.end c.statement (chunk-right ch a).0) root)
+          (header-printed mode all ch h.visit c h.visit_is (mentions-right d right) heads
+          (right-header ch.head.source.statement c.header_is c.end c.statement (chunk-right ch a).0) root)
           ∙ ap (λ ts. normal_of ch.head ∷ ts)
           (line-statements h.visit.path (lines_of mode h.visit)
-          ∙ lines-printed mode all mss ch.block (suc c.number) ch.lines (under_path ch.block all) h.visit.slots seat_here follow are one_header lines c.block c.lines part
+          ∙ lines-printed mode all mss ch.block (suc c.number) ch.lines (under_path ch.block all) h.visit.slots seat_here follow are
+          one_header lines c.block c.lines part
           (chunk-right ch a).1 c.own h.visit_is.slots)
 
-      chunks-printed : (xs : List Chunk) → ((ch : Chunk) → Among ch xs → Among ch cs) → AllByRecursion (λ (ch : Chunk). AllPart place_path ch.lines) xs
+      chunks-printed : (xs : List Chunk) → ((ch : Chunk) → Among ch xs → Among ch cs)
+          → AllByRecursion (λ (ch : Chunk). AllPart place_path ch.lines) xs
           → (h : AllByRecursion (HasTable mode all vs) xs)
-          → map (λ (p : Printed). p.statement) (flat_map (printed_table mode true) (tables_of mode all vs xs h)) ≡ map normal_of (flat_map (ordered_chunk mss) xs)
+          → map (λ (p : Printed). p.statement) (flat_map (printed_table mode true) (tables_of mode all vs xs h))
+          ≡ map normal_of (flat_map (ordered_chunk mss) xs)
       chunks-printed [] within part h = refl
       chunks-printed (ch ∷ xs) within part h =
-          map-append (λ (p : Printed). p.statement) (printed_table mode true h.0.visit) (flat_map (printed_table mode true) (tables_of mode all vs xs h.1))
-          ∙ ap (λ ts. ts ++ map (λ (p : Printed). p.statement) (flat_map (printed_table mode true) (tables_of mode all vs xs h.1))) (chunk-printed ch (within ch (inl refl)) part.0 h.0)
+          map-append (λ (p : Printed). p.statement) (printed_table mode true h.0.visit)
+          (flat_map (printed_table mode true) (tables_of mode all vs xs h.1))
+          ∙ ap (λ ts. ts ++ map (λ (p : Printed). p.statement) (flat_map (printed_table mode true) (tables_of mode all vs xs h.1)))
+          (chunk-printed ch (within ch (inl refl)) part.0 h.0)
           ∙ ap (λ ts. map normal_of (ordered_chunk mss ch) ++ ts) (chunks-printed xs (λ c a. within c (inr a)) part.1 h.1)
           ∙ sym (map-append normal_of (ordered_chunk mss ch) (flat_map (ordered_chunk mss) xs))
 
       statements_are : statements_of mode t ≡ map normal_of (ordered mss (placed d))
       statements_are =
           ap (map (λ (p : Printed). p.statement)) printed_is
-          ∙ map-append (λ (p : Printed). p.statement) (map (printed_line mode []) (table_lines mode t.slots [])) (flat_map (printed_table mode true) (tables_of mode all vs cs tables))
+          ∙ map-append (λ (p : Printed). p.statement) (map (printed_line mode []) (table_lines mode t.slots []))
+          (flat_map (printed_table mode true) (tables_of mode all vs cs tables))
           ∙ ap (λ ts. ts ++ map (λ (p : Printed). p.statement) (flat_map (printed_table mode true) (tables_of mode all vs cs tables)))
           (line-statements [] (table_lines mode t.slots []) ∙ lead_printed)
           ∙ ap (λ ts. map normal_of (sorted_by (lines_before mss) lead) ++ ts)
@@ -233,11 +260,13 @@ module _ (mode : Mode) where
       let mss : List (List (Mention Source)) = map (λ (s : Placed). s.mentions) (placed d) in
       map (λ s. normal_statement mode (flat_map (λ m. m) mss) s s.source.statement) (ordered mss (placed d))
 
-  are-normal : (d : Document) → IsDocument d → is_accepted d ≡ true → (t : Tree) → IsTreeOf (owned_in mode) d t → statements_of mode t ≡ normal_statements d
+  are-normal : (d : Document) → IsDocument d → is_accepted d ≡ true → (t : Tree) → IsTreeOf (owned_in mode) d t → statements_of mode t
+      ≡ normal_statements d
   unfolding normal_statements
   are-normal d is_document accepted t is =
       statements_are d is_document accepted t is
-      ∙ ap (λ ms. map (λ (s : Placed). normal_statement mode ms s s.source.statement) (ordered (map (λ (s : Placed). s.mentions) (placed d)) (placed d)))
+      ∙ ap (λ ms. map (λ (s : Placed). normal_statement mode ms s s.source.statement)
+      (ordered (map (λ (s : Placed). s.mentions) (placed d)) (placed d)))
       (sym (flat_map-map (λ (m : List (Mention Source)). m) (λ (s : Placed). s.mentions) (placed d)))
 
   -- ---- an open end
@@ -249,7 +278,8 @@ module _ (mode : Mode) where
   written-last d is_document u root_is trailing_is =
       let ss = statements_of mode u in
       written (leaves_open mode is_open u) (printed mode u)
-      ∙ ap (λ (f : TableFields). if (is_exact mode && is_open) && (is_empty (shown_suffix mode [] f.decor) && is_empty (shown_raw mode u.trailing)) then open_statements ss else ss) root_is
+      ∙ ap (λ (f : TableFields). if (is_exact mode && is_open)
+      && (is_empty (shown_suffix mode [] f.decor) && is_empty (shown_raw mode u.trailing)) then open_statements ss else ss) root_is
       ∙ ap (λ r. if (is_exact mode && is_open) && (true && is_empty (shown_raw mode r)) then open_statements ss else ss) trailing_is
       ∙ same mode ss
     where
@@ -263,7 +293,8 @@ module _ (mode : Mode) where
 
       closing : (b : Bool) → has_open_end d.statements ≡ b → (xs : List Statement)
           → (if b && (true && is_empty d.final) then open_statements xs else xs) ≡ (if b then open_statements xs else xs)
-      closing true e xs = ap (λ f. if true && (true && is_empty f) then open_statements xs else xs) (open-end-final d.final d.statements is_document.0 e)
+      closing true e xs = ap (λ f. if true && (true && is_empty f) then open_statements xs
+          else xs) (open-end-final d.final d.statements is_document.0 e)
       closing false e xs = refl
 
       same : (m : Mode) (xs : List Statement)
@@ -282,7 +313,8 @@ module _ (mode : Mode) where
   unfolding normal_statements
   printed_normal d is_document accepted t is =
       let ss = normal_last mode d (normal_statements d) in
-      ap (λ (f : TableFields). made (shown_prefix mode [] f.decor) (shown_suffix mode [] f.decor) (shown_raw mode t.trailing) (written_statements mode (has_open_end d.statements) t)) is.root
+      ap (λ (f : TableFields). made (shown_prefix mode [] f.decor) (shown_suffix mode [] f.decor) (shown_raw mode t.trailing)
+      (written_statements mode (has_open_end d.statements) t)) is.root
       ∙ ap (λ r. made [] [] (shown_raw mode r) (written_statements mode (has_open_end d.statements) t)) is.trailing
       ∙ ap (made [] [] (shown_text mode d.final)) (written-are d is_document accepted t is)
       ∙ ap (λ xs. record { has_mark = false; statements = xs; final = final_of [] ss (shown_text mode d.final) }) (add-nothing ss)

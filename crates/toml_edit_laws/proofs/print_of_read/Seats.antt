@@ -28,7 +28,8 @@ use Rattle.toml_edit_laws.proofs.print_of_read.HeaderVisits.{heading-under, slot
 use Rattle.toml_edit_laws.proofs.mentions.SomeAt.{among-test}
 use Rattle.toml_edit_laws.proofs.common.Tests.{same_text-refl, true-false, and_right}
 use Rattle.toml_edit_laws.specs.KeptKeys.{under_path}
-use Rattle.toml_edit_model.specs.Roles.{Role, dotted_role, continued_role, header_role, array_role, value_role, implied_role, is_array_role, ends_path, any_role}
+use Rattle.toml_edit_model.specs.Roles.{Role, dotted_role, continued_role, header_role, array_role, value_role, implied_role, is_array_role}
+use Rattle.toml_edit_model.specs.Roles.{ends_path, any_role}
 use Rattle.toml_edit_model.specs.TableMentions.{under, kept, some_at}
 
 -- the mentions below a path of a document
@@ -38,14 +39,23 @@ pub record IsSeat (all : List (Mention Source)) (q : Path) (ms : List (Mention S
   pub one_header : HaveOneHeader ms
   pub spaced : AllByRecursion (λ m. IsSpacedSegment m.segment) all
 
-pub seat-down : (all : List (Mention Source)) (q : Path) (s : Step) (ms : List (Mention Source)) → IsSeat all q ms → IsSeat all (q ++ one s) (under s ms)
+pub seat-down : (all : List (Mention Source)) (q : Path) (s : Step) (ms : List (Mention Source)) → IsSeat all q ms
+    → IsSeat all (q ++ one s) (under s ms)
 seat-down all q s ms h =
-    record { is = ap (under s) h.is ∙ sym (path-step q s all); are = statements-under s ms h.are; one_header = under-header s ms h.one_header; spaced = h.spaced }
+    record {
+      is = ap (under s) h.is ∙ sym (path-step q s all);
+      are = statements-under s ms h.are;
+      one_header =
+          under-header s ms h.one_header;
+      spaced = h.spaced;
+    }
 
-pub seat-first : (all : List (Mention Source)) → AreOfStatements all → HaveOneHeader all → AllByRecursion (λ m. IsSpacedSegment m.segment) all → IsSeat all [] all
+pub seat-first : (all : List (Mention Source)) → AreOfStatements all → HaveOneHeader all
+    → AllByRecursion (λ m. IsSpacedSegment m.segment) all → IsSeat all [] all
 seat-first all are one_header spaced = record { is = refl; are = are; one_header = one_header; spaced = spaced }
 
-pub seat-slots : (all : List (Mention Source)) (q : Path) (ms : List (Mention Source)) → IsSeat all q ms → AllByRecursion (IsSlot ms) (kept ms)
+pub seat-slots : (all : List (Mention Source)) (q : Path) (ms : List (Mention Source)) → IsSeat all q ms
+    → AllByRecursion (IsSlot ms) (kept ms)
 seat-slots all q ms h = kept-slots ms h.are h.one_header
 
 -- and the statement that it is from
@@ -64,12 +74,15 @@ IsKeyPath false p b = p ≡ b
 
 module _ (mode : Mode) where
   -- the kept key of a slot
-  pub seat-key : (all : List (Mention Source)) (q : Path) (ms : List (Mention Source)) (m : Mention Source) (key : Key) → IsSeat all q ms → IsSlot ms m → key ≡ key_at (owned_in mode) m
+  pub seat-key : (all : List (Mention Source)) (q : Path) (ms : List (Mention Source)) (m : Mention Source) (key : Key) → IsSeat all q ms
+      → IsSlot ms m → key ≡ key_at (owned_in mode) m
       → kept_in all (to_key q m.segment.key) ≡ Some (key_segment mode key)
   seat-key all q ms m key h is key_is =
-      let spaced = subst (λ ns. AllByRecursion (λ (x : Mention Source). IsSpacedSegment x.segment) ns) (sym h.is) (path-spaced q all h.spaced) in
+      let spaced = subst (λ ns. AllByRecursion (λ (x : Mention Source). IsSpacedSegment x.segment) ns) (sym h.is)
+      (path-spaced q all h.spaced) in
       let shown : key_segment mode key ≡ m.segment =
-      ap (key_segment mode) key_is ∙ key-shown mode (statement_leaf (owned_in mode) m.source m.source.statement) m (all-among (λ (x : Mention Source). IsSpacedSegment x.segment) m ms spaced is.0) in
+      ap (key_segment mode) key_is ∙ key-shown mode (statement_leaf (owned_in mode) m.source m.source.statement) m
+      (all-among (λ (x : Mention Source). IsSpacedSegment x.segment) m ms spaced is.0) in
       sym (path-kept q (one (at_key m.segment.key)) all)
       ∙ ap (λ ns. kept_in ns (one (at_key m.segment.key))) (sym h.is)
       ∙ ap (kept_in ms) (sym is.1)
@@ -96,7 +109,8 @@ module _ (mode : Mode) where
     pub key_path_is : IsKeyPath (is_array_role role) key_path b
     pub leaf : IsLeafOf all key_path v.keys
 
-  pub seat-leaf : (all : List (Mention Source)) (q : Path) (ms : List (Mention Source)) (m : Mention Source) (ks : List Key) (key : Key) → IsSeat all q ms → IsSlot ms m
+  pub seat-leaf : (all : List (Mention Source)) (q : Path) (ms : List (Mention Source)) (m : Mention Source) (ks : List Key) (key : Key)
+      → IsSeat all q ms → IsSlot ms m
       → key ≡ key_at (owned_in mode) m → is_bracket_role m.role ≡ true → IsLeafOf all (to_key q m.segment.key) (ks ++ one key)
   seat-leaf all q ms m ks key h is key_is opens =
       record {
@@ -120,9 +134,11 @@ module _ (mode : Mode) where
       opening-ends continued_role e = absurd cc
 
   -- the header is in the slot of the first key of its path
-  pub in-slot : (all : List (Mention Source)) (k : Text) (r : Path) (n : ℕ) (h : Mention Source) (q : Path) (ks : List Key) (ms : List (Mention Source)) (ss : Slots) (P : Visit → Type 0)
+  pub in-slot : (all : List (Mention Source)) (k : Text) (r : Path) (n : ℕ) (h : Mention Source) (q : Path) (ks : List Key)
+      (ms : List (Mention Source)) (ss : Slots) (P : Visit → Type 0)
       → IsSeat all q ms → filter (is_heading n) ms ≡ one h → h.path ≡ at_key k ∷ r → AreSlotsOf (owned_in mode) ms (kept ms) ss
-      → ((m : Mention Source) (key : Key) (node : Node) → IsSlot ms m → k ≡ m.segment.key → key ≡ key_at (owned_in mode) m → IsNodeOf (owned_in mode) (under (at_key m.segment.key) ms) m node
+      → ((m : Mention Source) (key : Key) (node : Node) → IsSlot ms m → k ≡ m.segment.key → key ≡ key_at (owned_in mode) m
+      → IsNodeOf (owned_in mode) (under (at_key m.segment.key) ms) m node
       → (v : Visit) × (filter (numbered n) (node_walk node (to_key q m.segment.key) (ks ++ one key) false) ≡ one v) × P v)
       → (v : Visit) × (filter (numbered n) (slots_walk ss q ks) ≡ one v) × P v
   in-slot all k r n h q ks ms ss P seat only path slots here =
@@ -133,7 +149,8 @@ module _ (mode : Mode) where
       let slot_is = all-among (IsSlot ms) m (kept ms) (seat-slots all q ms seat) a in
       node-none mode n (under (at_key m.segment.key) ms) m node (to_key q m.segment.key) (ks ++ one key)
       (none-filtered n (under (at_key m.segment.key) ms)
-      (heading-under n (at_key m.segment.key) ms ∙ ap (under (at_key m.segment.key)) only ∙ under-there (at_key m.segment.key) (at_key k) r h path apart))
+      (heading-under n (at_key m.segment.key) ms ∙ ap (under (at_key m.segment.key)) only
+      ∙ under-there (at_key m.segment.key) (at_key k) r h path apart))
       (none-but n h ms only m slot_is.0 (λ e.
       let ends : at_key m.segment.key ∷ [] ≡ at_key k ∷ r = sym slot_is.1 ∙ e ∙ path in
       let first : at_key m.segment.key ≡ at_key k = cc in
@@ -146,7 +163,8 @@ module _ (mode : Mode) where
       mentioned true e = refl
       mentioned false e =
           let among = one-among n h ms only in
-          true-false (some_at any_role (at_key k ∷ r) ms) (subst (λ p. some_at any_role p ms ≡ true) path (among-test any_role h ms among.0 refl)) (seat.are.closed [] k r e)
+          true-false (some_at any_role (at_key k ∷ r) ms) (subst (λ p. some_at any_role p ms
+          ≡ true) path (among-test any_role h ms among.0 refl)) (seat.are.closed [] k r e)
 
 pub role-number : (n : ℕ) (m : Mention Source) → is_heading n m ≡ true → (m.source.headers == n) ≡ true
 role-number n m h = and_right (is_bracket_role m.role) (m.source.headers == n) h

@@ -59,7 +59,8 @@ insert-kept {A = A} before test tied a (b ∷ xs) = by_tests (before a b) (test 
     by_tests false true false e f g ih = rw g ih
     by_tests false false z e f g ih = rw g (ap (λ ys. if z then b ∷ ys else ys) ih)
 
-pub sorted-kept : {A : Type 0} (before : A → A → Bool) (test : A → Bool) → AreTied before test → (xs : List A) → filter test (sorted_by before xs) ≡ filter test xs
+pub sorted-kept : {A : Type 0} (before : A → A → Bool) (test : A → Bool) → AreTied before test → (xs : List A)
+    → filter test (sorted_by before xs) ≡ filter test xs
 sorted-kept before test tied [] = refl
 sorted-kept before test tied (x ∷ xs) =
     insert-kept before test tied x (sorted_by before xs)
@@ -70,7 +71,8 @@ sorted-kept before test tied (x ∷ xs) =
 none-less : {A : Type 0} (key : A → ℕ) (n : ℕ) (xs : List A) → AllByRecursion (λ y. suc n ≤ key y) xs → filter (λ y. key y == n) xs ≡ []
 none-less key n [] h = refl
 none-less key n (x ∷ xs) h =
-    let apart : (key x == n) ≡ false = (let less : suc n ≤ key x = h.0 in ne_eqb (key x) n (λ e. let same : key x ≡ n = e in absurd (omega arith))) in
+    let apart : (key x == n) ≡ false =
+    (let less : suc n ≤ key x = h.0 in ne_eqb (key x) n (λ e. let same : key x ≡ n = e in absurd (omega arith))) in
     rw apart (none-less key n xs h.1)
 
 -- where no element has the number of another list's first
@@ -121,7 +123,8 @@ ascending-same {A = A} key (x ∷ xs) (y ∷ ys) h g same =
     first_of e =
         let own : (key x == key x) ≡ true = eq-eqb (key x) (key x) refl in
         let other : (key y == key x) ≡ true = eq-eqb (key y) (key x) (sym e) in
-        let heads : x ∷ filter (λ z. key z == key x) xs ≡ y ∷ filter (λ z. key z == key x) ys = sym (rw own refl) ∙ same (key x) ∙ rw other refl in
+        let heads : x ∷ filter (λ z. key z == key x) xs ≡ y ∷ filter (λ z. key z == key x) ys = sym (rw own refl) ∙ same (key x)
+        ∙ rw other refl in
         cc
 
 -- ---- what makes nothing may be left out

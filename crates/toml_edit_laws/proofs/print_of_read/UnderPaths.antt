@@ -21,7 +21,8 @@ pub path-step : {S : Type 0} (p : Path) (s : Step) (ms : List (Mention S)) → u
 path-step [] s ms = refl
 path-step (t ∷ p) s ms = path-step p s (under t ms)
 
-pub path-lifted : {S : Type 0} (p : Path) (ms : List (Mention S)) (m : Mention S) → Among m (under_path p ms) → Among (moved m (p ++ m.path)) ms
+pub path-lifted : {S : Type 0} (p : Path) (ms : List (Mention S)) (m : Mention S) → Among m (under_path p ms)
+    → Among (moved m (p ++ m.path)) ms
 path-lifted [] ms m a = a
 path-lifted {S = S} (s ∷ p) ms m a =
     let below = path-lifted p (under s ms) m a in
@@ -37,17 +38,20 @@ pub path-header : {S : Type 0} (p : Path) (ms : List (Mention S)) → HaveOneHea
 path-header [] ms h = h
 path-header (s ∷ p) ms h = path-header p (under s ms) (under-header s ms h)
 
-pub path-spaced : (p : Path) (ms : List (Mention Source)) → AllByRecursion (λ m. IsSpacedSegment m.segment) ms → AllByRecursion (λ m. IsSpacedSegment m.segment) (under_path p ms)
+pub path-spaced : (p : Path) (ms : List (Mention Source)) → AllByRecursion (λ m. IsSpacedSegment m.segment) ms
+    → AllByRecursion (λ m. IsSpacedSegment m.segment) (under_path p ms)
 path-spaced [] ms h = h
 path-spaced (s ∷ p) ms h = path-spaced p (under s ms) (all-under (λ (m : Mention Source). IsSpacedSegment m.segment) (λ m q g. g) s ms h)
 
-pub path-follow : {S : Type 0} (rank_of : Path → ℕ) (r p : Path) (ms : List (Mention S)) → RanksFollow rank_of r ms → RanksFollow rank_of (r ++ p) (under_path p ms)
+pub path-follow : {S : Type 0} (rank_of : Path → ℕ) (r p : Path) (ms : List (Mention S)) → RanksFollow rank_of r ms
+    → RanksFollow rank_of (r ++ p) (under_path p ms)
 path-follow {S = S} rank_of r [] ms h = subst (λ q. RanksFollow rank_of q ms) (sym (append-nil r)) h
 path-follow {S = S} rank_of r (s ∷ p) ms h =
     subst (λ q. RanksFollow rank_of q (under_path p (under s ms))) (append_assoc r (one s) p)
     (path-follow rank_of (r ++ one s) p (under s ms) (under-follow rank_of r s ms h))
 
-pub path-filter : {S : Type 0} (test : S → Bool) (p : Path) (ms : List (Mention S)) → filter (λ m. test m.source) (under_path p ms) ≡ under_path p (filter (λ m. test m.source) ms)
+pub path-filter : {S : Type 0} (test : S → Bool) (p : Path) (ms : List (Mention S)) → filter (λ m. test m.source) (under_path p ms)
+    ≡ under_path p (filter (λ m. test m.source) ms)
 path-filter test [] ms = refl
 path-filter test (s ∷ p) ms = path-filter test p (under s ms) ∙ ap (under_path p) (under-filter test s ms)
 

@@ -1,5 +1,6 @@
 -- What one table of an accepted document sees, and what is told below its keys: a table's, an array's and a value's.
-use Rattle.std.proofs.Common.{◌≡◌, ◌⊎◌, ◌<◌, ℕ, refl, sym, ap, subst, ◌∙◌, inl, inr, true, false, Bool, List, [], ◌∷◌, ◌++◌, Option, Some, None}
+use Rattle.std.proofs.Common.{◌≡◌, ◌⊎◌, ◌<◌, ℕ, refl, sym, ap, subst, ◌∙◌, inl, inr, true, false, Bool, List, [], ◌∷◌, ◌++◌, Option, Some}
+use Rattle.std.proofs.Common.{None}
 use Rattle.std.specs.Prelude.{◌&&◌, ◌||◌, if◌then◌else◌, option_map}
 use Rattle.toml_edit_model.specs.Text.{Text, same_text}
 use Rattle.toml_edit_model.specs.Paths.{at_key, at_element, Path, same_path, to_key, Mention, Source}
@@ -21,7 +22,8 @@ use Rattle.toml_edit_laws.proofs.common.PathLaws.{same_path-is}
 use Rattle.toml_edit_laws.proofs.mentions.SomeAt.{some_at-under, among-test}
 use Rattle.toml_edit_laws.proofs.mentions.RoleTests.{is_through_role}
 use Rattle.toml_edit_laws.proofs.mentions.Named.{EndsIn, single-named}
-use Rattle.toml_edit_model.specs.Roles.{Role, dotted_role, implied_role, header_role, array_role, value_role, continued_role, is_header_role, is_value_role, is_array_role}
+use Rattle.toml_edit_model.specs.Roles.{Role, dotted_role, implied_role, header_role, array_role, value_role, continued_role}
+use Rattle.toml_edit_model.specs.Roles.{is_header_role, is_value_role, is_array_role}
 use Rattle.toml_edit_model.specs.TableMentions.{under, kept, some_at}
 
 -- ---- what one table sees
@@ -42,23 +44,27 @@ abbrev pub StandsAt : (Role → Bool) → Text → List (Mention Source) → Typ
 StandsAt test k ms = some_at test (at_key k ∷ []) ms ≡ true
 
 -- roles that are apart don't stand at one key
-pub apart-at : (first second : Role → Bool) (k : Text) (ms : List (Mention Source)) → Readable ms → are_apart first second ≡ true → StandsAt first k ms
+pub apart-at : (first second : Role → Bool) (k : Text) (ms : List (Mention Source)) → Readable ms → are_apart first second ≡ true
+    → StandsAt first k ms
     → StandsAt second k ms → ⊥
 apart-at first second k ms h apart a b =
     true-false (some_at second (at_key k ∷ []) ms) b (kinds-apart first second (at_key k ∷ []) ms apart h.statements.meeting a)
 
-some-among : (test : Role → Bool) (p : Path) (ms : List (Mention Source)) → some_at test p ms ≡ true → (m : Mention Source) × Among m ms × (m.path ≡ p)
+some-among : (test : Role → Bool) (p : Path) (ms : List (Mention Source)) → some_at test p ms ≡ true → (m : Mention Source) × Among m ms
+    × (m.path ≡ p)
 some-among test p [] h = absurd cc
 some-among test p (m ∷ ms) h = by_test (same_path m.path p) (test m.role) refl h (some-among test p ms)
   where
     by_test : (a b : Bool) → same_path m.path p ≡ a → ((a && b) || some_at test p ms) ≡ true
-        → (some_at test p ms ≡ true → (n : Mention Source) × Among n ms × (n.path ≡ p)) → (n : Mention Source) × Among n (m ∷ ms) × (n.path ≡ p)
+        → (some_at test p ms ≡ true → (n : Mention Source) × Among n ms × (n.path ≡ p)) → (n : Mention Source) × Among n (m ∷ ms)
+        × (n.path ≡ p)
     by_test true true e g ih = (m, inl refl, same_path-is m.path p e)
     by_test true false e g ih = let found = ih g in (found.0, inr found.1, found.2)
     by_test false b e g ih = let found = ih g in (found.0, inr found.1, found.2)
 
 -- the array of a number is mentioned
-pub numbered-among : (p : Path) (ms : List (Mention Source)) (n : ℕ) → n < count_at is_array_role p ms → (m : Mention Source) × Among m ms × (m.path ≡ p)
+pub numbered-among : (p : Path) (ms : List (Mention Source)) (n : ℕ) → n < count_at is_array_role p ms → (m : Mention Source) × Among m ms
+    × (m.path ≡ p)
 numbered-among p ms n h = some-among is_array_role p ms (count-some p ms n h)
 
 -- ---- below a table's key
@@ -90,7 +96,10 @@ module _ (ms : List (Mention Source)) (h : Readable ms) (k : Text) where
   by-way m (at_key l ∷ at_key j ∷ p) e w =
       let key : l ≡ k = cc in
       let path : m.path ≡ to_key (at_key j ∷ p) m.segment.key = cc in
-      inr (inl (subst (λ x. StandsAt is_table_role x ms) key w.0, record { above = at_key j ∷ p; path = path; way = subst (λ x. Way (at_key j ∷ p) (under (at_key x) ms)) key w.1 }))
+      inr (inl (
+        subst (λ x. StandsAt is_table_role x ms) key w.0,
+        record { above = at_key j ∷ p; path = path; way = subst (λ x. Way (at_key j ∷ p) (under (at_key x) ms)) key w.1 },
+      ))
   by-way m (at_key l ∷ at_element i ∷ p) e w =
       let key : l ≡ k = cc in
       let path : m.path ≡ at_element i ∷ to_key p m.segment.key = cc in
@@ -202,16 +211,19 @@ module _ (ms : List (Mention Source)) (h : Readable ms) (k : Text) where
       ]
 
   -- at the key itself no role stands that is apart from one there
-  pub own-apart : (first test : Role → Bool) → are_apart first test ≡ true → StandsAt first k ms → (m : Mention Source) → Among m (under (at_key k) ms)
+  pub own-apart : (first test : Role → Bool) → are_apart first test ≡ true → StandsAt first k ms → (m : Mention Source)
+      → Among m (under (at_key k) ms)
       → m.path ≡ [] → test m.role ≡ false
   own-apart first test apart stands m a e =
       false-by (test m.role) (λ t.
-      let here : some_at test [] (under (at_key k) ms) ≡ true = subst (λ p. some_at test p (under (at_key k) ms) ≡ true) e (among-test test m (under (at_key k) ms) a t) in
+      let here : some_at test [] (under (at_key k) ms) ≡ true =
+      subst (λ p. some_at test p (under (at_key k) ms) ≡ true) e (among-test test m (under (at_key k) ms) a t) in
       apart-at first test k ms h apart stands (sym (some_at-under test (at_key k) [] ms) ∙ here))
 
 -- ---- slots
 
-pub distinct-first : (ks : List (Mention Source)) (j : Mention Source) → AreDistinct ks → Among j ks → first_of_key j.segment.key ks ≡ Some j
+pub distinct-first : (ks : List (Mention Source)) (j : Mention Source) → AreDistinct ks → Among j ks → first_of_key j.segment.key ks
+    ≡ Some j
 distinct-first [] j d a = elim a [ ]
 distinct-first (i ∷ ks) j d (inl e) = subst (λ (x : Mention Source). first_of_key x.segment.key (i ∷ ks) ≡ Some x) (sym e) (here i ks)
   where
@@ -222,7 +234,8 @@ distinct-first (i ∷ ks) j d (inr a) = by_test (same_text j.segment.key i.segme
     by_test : (b : Bool) → same_text j.segment.key i.segment.key ≡ b → first_of_key j.segment.key ks ≡ Some j
         → (if b then Some i else first_of_key j.segment.key ks) ≡ Some j
     by_test true e g =
-        let none : first_of_key j.segment.key ks ≡ None = subst (λ k. first_of_key k ks ≡ None) (sym (same_text-is j.segment.key i.segment.key e)) d.0 in
+        let none : first_of_key j.segment.key ks ≡ None =
+        subst (λ k. first_of_key k ks ≡ None) (sym (same_text-is j.segment.key i.segment.key e)) d.0 in
         absurd (clash (sym none ∙ g))
       where
         clash : None ≡ Some j → ⊥
@@ -235,7 +248,8 @@ module _ (ms : List (Mention Source)) (h : Readable ms) (j : Mention Source) (a 
 
   pub kept-path : j.path ≡ at_key j.segment.key ∷ []
   kept-path =
-      single-named j.path j.segment.key (all-among (λ (m : Mention Source). EndsIn m.segment.key m.path) j ms h.table.named kept-in) (kept-is [] j ms a).single
+      single-named j.path j.segment.key (all-among (λ (m : Mention Source). EndsIn m.segment.key m.path) j ms h.table.named kept-in)
+      (kept-is [] j ms a).single
 
   pub kept-stands : (test : Role → Bool) → test j.role ≡ true → StandsAt test j.segment.key ms
   kept-stands test t = subst (λ p. some_at test p ms ≡ true) kept-path (among-test test j ms kept-in t)

@@ -1,5 +1,6 @@
 -- The facts that the mentions of a document tell, one by one, as each table sees them.
-use Rattle.std.proofs.Common.{◌≡◌, ◌⊎◌, ◌<◌, ℕ, refl, sym, ap, subst, ◌∙◌, arith, inl, inr, true, false, Bool, List, [], ◌∷◌, ◌++◌, append_assoc}
+use Rattle.std.proofs.Common.{◌≡◌, ◌⊎◌, ◌<◌, ℕ, refl, sym, ap, subst, ◌∙◌, arith, inl, inr, true, false, Bool, List, [], ◌∷◌, ◌++◌}
+use Rattle.std.proofs.Common.{append_assoc}
 use Rattle.toml_edit_model.specs.Syntax.{Statement, key_line, header}
 use Rattle.toml_edit_model.specs.Paths.{Step, Path, to_element, Mention, Source}
 use Rattle.toml_edit_model.specs.Meaning.{Fact, fact, a_table, an_array, value_facts}
@@ -40,7 +41,8 @@ Tells p ms f = Told p ms f ⊎ Numbered p ms f
 
 -- ---- one step down
 
-step-told : (p : Path) (s : Step) (q : Path) (m n : Mention Source) → m.path ≡ s ∷ q → n ≡ moved m q → mention_told (p ++ (s ∷ [])) n ≡ mention_told p m
+step-told : (p : Path) (s : Step) (q : Path) (m n : Mention Source) → m.path ≡ s ∷ q → n ≡ moved m q → mention_told (p ++ (s ∷ [])) n
+    ≡ mention_told p m
 step-told p s q m n e same =
     ap (mention_told (p ++ (s ∷ []))) same
     ∙ ap (role_told m.role m.source.statement) (append_assoc p (s ∷ []) q ∙ ap (λ x. p ++ x) (sym e))

@@ -46,12 +46,14 @@ module _ (d : Document) (grammar : IsDocument d) (accepted : is_accepted d ≡ t
   stated f (inr t) =
       let low : 0 ≤ t.number = omega arith in
       subst (λ g. Among g (facts_from (start_context d) d.statements)) (sym t.is)
-      (number-back (start_context d) d.statements [] (keyed_statements d.final d.statements grammar.0) (before_none d) each-right t.path t.number low t.within)
+      (number-back (start_context d) d.statements [] (keyed_statements d.final d.statements grammar.0) (before_none d) each-right t.path
+      t.number low t.within)
 
   -- and what is stated they tell
   told : (f : Fact) → Among f (facts_from (start_context d) d.statements) → Tells [] (all_mentions d) f
   told f a =
-      facts-forth (all_mentions d) (start_context d) d.statements [] (keyed_statements d.final d.statements grammar.0) (before_none d) each-right refl
+      facts-forth (all_mentions d) (start_context d) d.statements [] (keyed_statements d.final d.statements grammar.0) (before_none d)
+      each-right refl
       (λ g b. elim b [ ]) f a
 
   slots-mean : (form : Form) (ss : Slots) → AreSlotsOf form (all_mentions d) (kept (all_mentions d)) ss → (f : Fact)
@@ -71,8 +73,10 @@ trees_mean d grammar accepted form t is f =
     let slots = slots_facts t.slots [] in
     let facts = facts_from (start_context d) d.statements in
     let same = slots-mean d grammar accepted form t.slots is.slots f in (
-      λ c. to-contained f (fact [] a_table ∷ facts) (one-more f (fact [] a_table) slots facts same.0 (from-contained f (fact [] a_table ∷ slots) c)),
-      λ c. to-contained f (fact [] a_table ∷ slots) (one-more f (fact [] a_table) facts slots same.1 (from-contained f (fact [] a_table ∷ facts) c)),
+      λ c. to-contained f (fact [] a_table ∷ facts) (one-more f (fact [] a_table) slots facts same.0 (from-contained f (fact [] a_table
+          ∷ slots) c)),
+      λ c. to-contained f (fact [] a_table ∷ slots) (one-more f (fact [] a_table) facts slots same.1 (from-contained f (fact [] a_table
+          ∷ facts) c)),
     )
 
 -- So does a root that is taken as it is.

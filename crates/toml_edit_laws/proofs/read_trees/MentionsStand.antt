@@ -3,8 +3,12 @@ use Rattle.std.proofs.Common.{◌≡◌, sym, subst, ℕ, ◌+◌, ◌-◌, arit
 use Rattle.std.specs.Prelude.{flat_map}
 use Rattle.std.proofs.lemmas.List.{length-append}
 use Rattle.toml_edit_model.specs.Text.{Text, joined, is_empty}
-use Rattle.toml_edit_model.specs.Syntax.{Segment, Header, Statement, key_line, header, Document, value_text, segment_text, path_text, frame_text, statement_text, brackets_text, opening_brackets, closing_brackets, mark_text, document_text}
-use Rattle.toml_edit_model.specs.Paths.{Step, Path, to_key, Mention, Source, Placed, Context, header_mentions, next_start, elements_at, in_last, header_role_of, path_start, source_of, mentions_of, context_after, placed_from, start_context, all_mentions}
+use Rattle.toml_edit_model.specs.Syntax.{Segment, Header, Statement, key_line, header, Document, value_text, segment_text, path_text}
+use Rattle.toml_edit_model.specs.Syntax.{frame_text, statement_text, brackets_text, opening_brackets, closing_brackets, mark_text}
+use Rattle.toml_edit_model.specs.Syntax.{document_text}
+use Rattle.toml_edit_model.specs.Paths.{Step, Path, to_key, Mention, Source, Placed, Context, header_mentions, next_start, elements_at}
+use Rattle.toml_edit_model.specs.Paths.{in_last, header_role_of, path_start, source_of, mentions_of, context_after, placed_from}
+use Rattle.toml_edit_model.specs.Paths.{start_context, all_mentions}
 use Rattle.toml_edit_laws.specs.Standing.{Stands}
 use Rattle.toml_edit_laws.proofs.common.StandingLaws.{stands-left, stands-right, stands-whole}
 use Rattle.toml_edit_laws.proofs.common.Members.{Among, among-cases, of-filtered}
@@ -34,9 +38,11 @@ arrays-among m ns h =
 -- ---- segments
 
 header-segments : {S : Type 0} (text : Text) (source : S) (before : List Path) (role : Role) (i : ℕ) (p : Path) (ss : List Segment)
-    → Stands text i (path_text ss) → (m : Mention S) → Among m (header_mentions source before role i p ss) → SegmentStands text m.start m.segment
+    → Stands text i (path_text ss) → (m : Mention S) → Among m (header_mentions source before role i p ss)
+    → SegmentStands text m.start m.segment
 header-segments text source before role i p [] h m a = elim a [ ]
-header-segments text source before role i p (s ∷ []) h m (inl g) = subst (λ k. SegmentStands text k.start k.segment) (sym g) (segment-stands text i s h)
+header-segments text source before role i p (s ∷ []) h m (inl g) =
+    subst (λ k. SegmentStands text k.start k.segment) (sym g) (segment-stands text i s h)
 header-segments text source before role i p (s ∷ []) h m (inr a) = elim a [ ]
 header-segments text source before role i p (s ∷ r ∷ rest) h m (inl g) =
     subst (λ k. SegmentStands text k.start k.segment) (sym g)
@@ -44,7 +50,8 @@ header-segments text source before role i p (s ∷ r ∷ rest) h m (inl g) =
 header-segments text source before role i p (s ∷ r ∷ rest) h m (inr a) =
     let here : Path = to_key p s.key in
     header-segments text source before role (next_start i s) (in_last (elements_at before here) here) (r ∷ rest)
-    (stands-right text (i + length (segment_text s)) (codes ".") (path_text (r ∷ rest)) (stands-right text i (segment_text s) (codes "." ++ path_text (r ∷ rest)) h))
+    (stands-right text (i + length (segment_text s)) (codes ".") (path_text (r ∷ rest)) (stands-right text i (segment_text s) (codes "."
+    ++ path_text (r ∷ rest)) h))
     m a
 
 -- ---- statements
@@ -54,7 +61,8 @@ pub record HeaderStands (text : Text) (i : ℕ) (h : Header) : Type 0 where
   pub leading : Stands text i h.leading
   pub opening : Stands text (i + length h.leading + length (opening_brackets h.is_array)) h.opening
   pub path : Stands text (i + length h.leading + length (opening_brackets h.is_array) + length h.opening) (path_text h.path)
-  pub closing : Stands text (i + length h.leading + length (opening_brackets h.is_array) + length h.opening + length (path_text h.path)) h.closing
+  pub closing : Stands text (i + length h.leading + length (opening_brackets h.is_array) + length h.opening
+      + length (path_text h.path)) h.closing
   pub trailing : Stands text (i + length h.leading + length (brackets_text h)) h.trailing
 
 pub header-stands : (text : Text) (i : ℕ) (h : Header) (end : Text) → Stands text i (statement_text (header h end)) → HeaderStands text i h
@@ -68,7 +76,8 @@ header-stands text i h end g =
     let at_trailing = stands-right text (i + length h.leading) (brackets_text h) from_trailing at_brackets in
     let at_opening = stands-right text (i + length h.leading) (opening_brackets h.is_array) from_opening brackets in
     let at_path = stands-right text (i + length h.leading + length (opening_brackets h.is_array)) h.opening from_path at_opening in
-    let at_closing = stands-right text (i + length h.leading + length (opening_brackets h.is_array) + length h.opening) (path_text h.path) from_closing at_path in
+    let at_closing = stands-right text (i + length h.leading + length (opening_brackets h.is_array)
+    + length h.opening) (path_text h.path) from_closing at_path in
     record {
       leading = stands-left text i h.leading (brackets_text h ++ from_trailing) g;
       opening = stands-left text _ h.opening from_path at_opening;
@@ -82,12 +91,14 @@ pub record MentionStands (text : Text) (i : ℕ) (s : Segment) (source : Source)
   pub segment : SegmentStands text i s
   pub statement : Stands text source.start (statement_text source.statement)
 
-pub statement-mentions : (text : Text) (c : Context) (s : Statement) → Stands text c.start (statement_text s) → Holds (MentionStands text) (mentions_of c s)
+pub statement-mentions : (text : Text) (c : Context) (s : Statement) → Stands text c.start (statement_text s)
+    → Holds (MentionStands text) (mentions_of c s)
 statement-mentions text c (key_line f v end) h m a =
     let source = source_of c (key_line f v end) in
     let from_space = f.before_equals ++ (codes "=" ++ (f.after_equals ++ (value_text v ++ f.trailing))) in
     let frame = stands-left text c.start (frame_text f (value_text v)) end h in
-    let at_path = stands-left text _ (path_text f.path) from_space (stands-right text c.start f.leading (path_text f.path ++ from_space) frame) in
+    let at_path = stands-left text _ (path_text f.path) from_space (stands-right text c.start f.leading (path_text f.path
+    ++ from_space) frame) in
     record {
       segment = path-stands text source (c.start + path_start (key_line f v end)) c.block f.path at_path m a;
       statement =
@@ -97,7 +108,8 @@ statement-mentions text c (key_line f v end) h m a =
 statement-mentions text c (header g end) h m a =
     let source = source_of c (header g end) in
     let parts = header-stands text c.start g end h in
-    let place : c.start + length g.leading + length (opening_brackets g.is_array) + length g.opening ≡ c.start + path_start (header g end) = omega arith in
+    let place : c.start + length g.leading + length (opening_brackets g.is_array) + length g.opening ≡ c.start + path_start (header g end) =
+    omega arith in
     record {
       segment =
           header-segments text source c.arrays (header_role_of g) (c.start + path_start (header g end)) [] g.path
@@ -115,11 +127,13 @@ placed-mentions text c (s ∷ ss) h m a =
       | inl b ↦ statement-mentions text c s (stands-left text c.start (statement_text s) (joined (map statement_text ss)) h) m b
       | inr b ↦
           placed-mentions text (context_after c s) ss
-          (stands-at text _ _ (joined (map statement_text ss)) (stands-right text c.start (statement_text s) (joined (map statement_text ss)) h) (sym (after-start c s))) m b
+          (stands-at text _ _ (joined (map statement_text ss))
+          (stands-right text c.start (statement_text s) (joined (map statement_text ss)) h) (sym (after-start c s))) m b
     ]
 
 -- the statements of a document, and what follows them, stand in its text
-pub statements-stand : (d : Document) → Stands (document_text d) (length (mark_text d.has_mark)) (joined (map statement_text d.statements) ++ d.final)
+pub statements-stand : (d : Document) → Stands (document_text d) (length (mark_text d.has_mark)) (joined (map statement_text d.statements)
+    ++ d.final)
 statements-stand d =
     let text = document_text d in
     let rest = joined (map statement_text d.statements) ++ d.final in

@@ -21,7 +21,8 @@ not-both r h e = let clash : array_role ≡ value_role = sym h ∙ e in cc
 
 module _ (form : Form) where
   one-line : (s : Source) (st : Statement) (n o : Node) → IsLineNode form s st n → IsLineNode form s st o → n ≡ o
-  one-line s (key_line f v end) n o h g = one-node form v (s.start + value_start form f) f.after_equals (with_return form.mode f.trailing end) n o h g
+  one-line s (key_line f v end) n o h g =
+      one-node form v (s.start + value_start form f) f.after_equals (with_return form.mode f.trailing end) n o h g
   one-line s (header h end) n o a b = absurd a
 
   mutual

@@ -1,10 +1,13 @@
 -- What holds of the mentions of an accepted document, statement by statement.
-use Rattle.std.proofs.Common.{◌≡◌, ◌<◌, ◌≤◌, ℕ, zero, suc, ◌+◌, refl, sym, ap, subst, ◌∙◌, arith, inl, inr, true, false, Bool, List, [], ◌∷◌, ◌++◌, append_assoc, append-nil, length}
+use Rattle.std.proofs.Common.{◌≡◌, ◌<◌, ◌≤◌, ℕ, zero, suc, ◌+◌, refl, sym, ap, subst, ◌∙◌, arith, inl, inr, true, false, Bool, List, []}
+use Rattle.std.proofs.Common.{◌∷◌, ◌++◌, append_assoc, append-nil, length}
 use Rattle.std.specs.Prelude.{if◌then◌else◌, filter}
 use Rattle.std.specs.List.{AllByRecursion}
 use Rattle.std.proofs.lemmas.Grind.{flat_map-append}
 use Rattle.toml_edit_model.specs.Syntax.{Segment, Statement, key_line, header, Document, IsDocument}
-use Rattle.toml_edit_model.specs.Paths.{Step, at_key, Path, same_path, to_key, to_element, Mention, Source, Placed, Context, line_mentions, header_mentions, header_path, next_start, elements_at, in_last, passing_role, header_role_of, path_start, source_of, mentions_of, context_after, placed_from, start_context, all_mentions}
+use Rattle.toml_edit_model.specs.Paths.{Step, at_key, Path, same_path, to_key, to_element, Mention, Source, Placed, Context, line_mentions}
+use Rattle.toml_edit_model.specs.Paths.{header_mentions, header_path, next_start, elements_at, in_last, passing_role, header_role_of}
+use Rattle.toml_edit_model.specs.Paths.{path_start, source_of, mentions_of, context_after, placed_from, start_context, all_mentions}
 use Rattle.toml_edit_model.specs.Accepted.{agree, is_accepted}
 use Rattle.toml_edit_laws.specs.OneByOne.{is_right_after, all_right_after}
 use Rattle.toml_edit_laws.proofs.common.Tests.{and_left, and_right, true-false}
@@ -14,7 +17,8 @@ use Rattle.toml_edit_laws.proofs.mentions.KeyMentions.{line-shows, line-role}
 use Rattle.toml_edit_laws.proofs.clashes.ClashMentions.{is_table_role, AreOfStatements}
 use Rattle.toml_edit_laws.proofs.clashes.ClashCounts.{count_at}
 use Rattle.toml_edit_laws.proofs.clashes.ClashContext.{HasKey, AreBefore, before_none, before_next, count-both, keyed_statements}
-use Rattle.toml_edit_laws.proofs.read_trees.WaysOfPaths.{Way, way-more, way-key, way-element, HasWay, line-ways, header-ways, LastMention, header-last}
+use Rattle.toml_edit_laws.proofs.read_trees.WaysOfPaths.{Way, way-more, way-key, way-element, HasWay, line-ways, header-ways, LastMention}
+use Rattle.toml_edit_laws.proofs.read_trees.WaysOfPaths.{header-last}
 use Rattle.toml_edit_laws.proofs.mentions.Placed.{mentions_in, right-agrees}
 use Rattle.toml_edit_laws.proofs.common.PathLaws.{same_path-refl}
 use Rattle.toml_edit_laws.proofs.mentions.SomeAt.{among-test}
@@ -69,7 +73,8 @@ header-first source arrays role start p r (s ∷ rest) = (_, inl refl, refl)
 header-more : (source : Source) (arrays : List Path) (role : Role) (start : ℕ) (p : Path) (ss : List Segment) → is_made_role role ≡ false
     → HaveMore (header_mentions source arrays role start p ss)
 header-more source arrays role start p [] plain m a made = elim a [ ]
-header-more source arrays role start p (s ∷ []) plain m (inl e) made = true-false (is_made_role m.role) made (ap (λ (n : Mention Source). is_made_role n.role) e ∙ plain)
+header-more source arrays role start p (s ∷ []) plain m (inl e) made =
+    true-false (is_made_role m.role) made (ap (λ (n : Mention Source). is_made_role n.role) e ∙ plain)
 header-more source arrays role start p (s ∷ []) plain m (inr a) made = elim a [ ]
 header-more source arrays role start p (s ∷ r ∷ rest) plain m (inl e) made = by_count (elements_at arrays (to_key p s.key)) refl
   where
@@ -106,22 +111,27 @@ way-later : (ms ns : List (Mention Source)) (m : Mention Source) → HasWay ms m
 way-later ms ns m h = record { above = h.above; path = h.path; way = way-more h.above ms ns h.way }
 
 more-left : (ms ns : List (Mention Source)) (m : Mention Source) → More ms m → More (ms ++ ns) m
-more-left ms ns m h = record { mention = h.mention; among = among-left h.mention ms ns h.among; step = h.step; rest = h.rest; path = h.path }
+more-left ms ns m h =
+    record { mention = h.mention; among = among-left h.mention ms ns h.among; step = h.step; rest = h.rest; path = h.path }
 
 more-right : (ms ns : List (Mention Source)) (m : Mention Source) → More ns m → More (ms ++ ns) m
-more-right ms ns m h = record { mention = h.mention; among = among-right h.mention ms ns h.among; step = h.step; rest = h.rest; path = h.path }
+more-right ms ns m h =
+    record { mention = h.mention; among = among-right h.mention ms ns h.among; step = h.step; rest = h.rest; path = h.path }
 
-ways-both : (ms ns : List (Mention Source)) → ((m : Mention Source) → Among m ms → HasWay ms m) → ((m : Mention Source) → Among m ns → HasWay (ms ++ ns) m)
+ways-both : (ms ns : List (Mention Source)) → ((m : Mention Source) → Among m ms → HasWay ms m)
+    → ((m : Mention Source) → Among m ns → HasWay (ms ++ ns) m)
     → (m : Mention Source) → Among m (ms ++ ns) → HasWay (ms ++ ns) m
 ways-both ms ns h g m a = elim (among-cases m ms ns a) [ inl b ↦ way-later ms ns m (h m b) | inr b ↦ g m b ]
 
 more-both : (ms ns : List (Mention Source)) → HaveMore ms → HaveMore ns → HaveMore (ms ++ ns)
-more-both ms ns h g m a made = elim (among-cases m ms ns a) [ inl b ↦ more-left ms ns m (h m b made) | inr b ↦ more-right ms ns m (g m b made) ]
+more-both ms ns h g m a made =
+    elim (among-cases m ms ns a) [ inl b ↦ more-left ms ns m (h m b made) | inr b ↦ more-right ms ns m (g m b made) ]
 
 pub read_none : (d : Document) → ReadSoFar (start_context d) []
 read_none d = record { before = before_none d; block = tt; ways = λ m a. elim a [ ]; more = λ m a. elim a [ ] }
 
-pub read_next : (c : Context) (s : Statement) (ms : List (Mention Source)) → ReadSoFar c ms → HasKey s → agree may_meet ms (mentions_of c s) ≡ true
+pub read_next : (c : Context) (s : Statement) (ms : List (Mention Source)) → ReadSoFar c ms → HasKey s → agree may_meet ms (mentions_of c s)
+    ≡ true
     → ReadSoFar (context_after c s) (ms ++ mentions_of c s)
 read_next c (key_line f v end) ms h keyed agreed =
     let source = source_of c (key_line f v end) in
@@ -184,15 +194,18 @@ read_next c (header g end) ms h keyed agreed =
 
     by_array : (b : Bool) → g.is_array ≡ b → Way (if b then to_element path (elements_at c.arrays path) else path) (ms ++ ns)
     by_array true e =
-        let there = subst (λ b. elements_at (if b then path ∷ c.arrays else c.arrays) path ≡ count_at is_array_role path (ms ++ ns)) e (next.counted path) in
-        let less : elements_at c.arrays path < count_at is_array_role path (ms ++ ns) = one-more (count_at is_array_role path (ms ++ ns)) there in
+        let there = subst (λ b. elements_at (if b then path ∷ c.arrays else c.arrays) path
+        ≡ count_at is_array_role path (ms ++ ns)) e (next.counted path) in
+        let less : elements_at c.arrays path < count_at is_array_role path (ms ++ ns) =
+        one-more (count_at is_array_role path (ms ++ ns)) there in
         subst (λ p. Way (to_element p (elements_at c.arrays path)) (ms ++ ns)) (sym last.ends)
         (way-element last.above last.key (elements_at c.arrays path) (ms ++ ns) last.way
         (subst (λ p. elements_at c.arrays path < count_at is_array_role p (ms ++ ns)) last.ends less))
     by_array false e =
         let role_is : last.mention.role ≡ header_role = last.role_is ∙ ap (λ b. if b then array_role else header_role) e in
         let stands : some_at is_table_role path (ms ++ ns) ≡ true =
-        subst (λ p. some_at is_table_role p (ms ++ ns) ≡ true) last.path_is (among-test is_table_role last.mention (ms ++ ns) last.among (ap is_table_role role_is)) in
+        subst (λ p. some_at is_table_role p (ms ++ ns) ≡ true) last.path_is (among-test is_table_role last.mention (ms
+        ++ ns) last.among (ap is_table_role role_is)) in
         subst (λ p. Way p (ms ++ ns)) (sym last.ends)
         (way-key last.above last.key (ms ++ ns) last.way (subst (λ p. some_at is_table_role p (ms ++ ns) ≡ true) last.ends stands))
 
@@ -200,7 +213,8 @@ read_next c (header g end) ms h keyed agreed =
 
 pub with-one : (earlier : List Placed) (here : Placed) → mentions_in earlier ++ here.mentions ≡ mentions_in (earlier ++ (here ∷ []))
 with-one earlier here =
-    ap (λ ns. mentions_in earlier ++ ns) (sym (append-nil here.mentions)) ∙ sym (flat_map-append (λ (e : Placed). e.mentions) earlier (here ∷ []))
+    ap (λ ns. mentions_in earlier ++ ns) (sym (append-nil here.mentions))
+    ∙ sym (flat_map-append (λ (e : Placed). e.mentions) earlier (here ∷ []))
 
 -- What holds of all mentions of an accepted document.
 pub record HaveBeenRead (ms : List (Mention Source)) : Type 0 where
@@ -211,7 +225,12 @@ pub record HaveBeenRead (ms : List (Mention Source)) : Type 0 where
 read_all : (c : Context) (ss : List Statement) (earlier : List Placed) → AllByRecursion HasKey ss → ReadSoFar c (mentions_in earlier)
     → all_right_after earlier (placed_from c ss) ≡ true → HaveBeenRead (mentions_in (earlier ++ placed_from c ss))
 read_all c [] earlier keyed h right =
-    subst (λ es. HaveBeenRead (mentions_in es)) (sym (append-nil earlier)) (record { statements = h.before.statements; ways = h.ways; more = h.more })
+    subst (λ es. HaveBeenRead (mentions_in es)) (sym (append-nil earlier)) (record {
+      statements = h.before.statements;
+      ways = h.ways;
+      more =
+          h.more;
+    })
 read_all c (s ∷ ss) earlier keyed h right =
     let here : Placed = record { source = source_of c s; mentions = mentions_of c s } in
     let later = all_right_after (earlier ++ (here ∷ [])) (placed_from (context_after c s) ss) in
@@ -222,4 +241,5 @@ read_all c (s ∷ ss) earlier keyed h right =
     (and_right (is_right_after earlier here) later right))
 
 pub read_document : (d : Document) → IsDocument d → is_accepted d ≡ true → HaveBeenRead (all_mentions d)
-read_document d is h = read_all (start_context d) d.statements [] (keyed_statements d.final d.statements is.0) (read_none d) (accepted-right d h)
+read_document d is h =
+    read_all (start_context d) d.statements [] (keyed_statements d.final d.statements is.0) (read_none d) (accepted-right d h)

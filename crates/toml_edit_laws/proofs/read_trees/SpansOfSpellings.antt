@@ -3,11 +3,15 @@ use Rattle.std.proofs.Common.{refl, sym, subst, ℕ, suc, ◌+◌, inl, inr, tru
 use Rattle.toml_edit_model.specs.Mode.{Mode, with_return}
 use Rattle.toml_edit_model.specs.Text.{Text}
 use Rattle.toml_edit_model.specs.Scalars.{Date, Time, Offset, Scalar, string, integer, float, boolean, datetime}
-use Rattle.toml_edit_model.specs.Spelling.{Sign, plus, minus, unsigned, hexadecimal, octal, binary, Digits, IsDecimal, SpellsKey, SpellsInteger, IsFloat, SpellsParts, Spells, SpellsInRange}
-use Rattle.toml_edit_model.specs.Syntax.{Value, scalar, array, inline_table, Elements, no_elements, element, value_text, Statement, key_line, header}
+use Rattle.toml_edit_model.specs.Spelling.{Sign, plus, minus, unsigned, hexadecimal, octal, binary, Digits, IsDecimal, SpellsKey}
+use Rattle.toml_edit_model.specs.Spelling.{SpellsInteger, IsFloat, SpellsParts, Spells, SpellsInRange}
+use Rattle.toml_edit_model.specs.Syntax.{Value, scalar, array, inline_table, Elements, no_elements, element, value_text, Statement}
+use Rattle.toml_edit_model.specs.Syntax.{key_line, header}
 use Rattle.toml_edit_model.specs.Paths.{at_key, at_element, Mention, Source}
-use Rattle.toml_edit_model.specs.Tree.{Raw, owned, span, Key, Node, nothing, leaf, list, inline, table, tables, Items, no_items, item, Slots, no_slots, slot, HasTrueSpelling, IsWellMade, ItemsAreWellMade, SlotsAreWellMade}
-use Rattle.toml_edit_model.specs.TreeOf.{spanned_in, span_of, Entry, entries, value_start, IsValueNode, AreElementNodes, AreEntrySlots, IsLineNode, IsNodeOf, AreElementsOf, AreSlotsOf}
+use Rattle.toml_edit_model.specs.Tree.{Raw, owned, span, Key, Node, nothing, leaf, list, inline, table, tables, Items, no_items, item}
+use Rattle.toml_edit_model.specs.Tree.{Slots, no_slots, slot, HasTrueSpelling, IsWellMade, ItemsAreWellMade, SlotsAreWellMade}
+use Rattle.toml_edit_model.specs.TreeOf.{spanned_in, span_of, Entry, entries, value_start, IsValueNode, AreElementNodes, AreEntrySlots}
+use Rattle.toml_edit_model.specs.TreeOf.{IsLineNode, IsNodeOf, AreElementsOf, AreSlotsOf}
 use Rattle.toml_edit_laws.specs.ReadTrees.{IsCutAs, HasCutSpellings, ItemsHaveCutSpellings, HaveCutSpellings}
 use Rattle.toml_edit_laws.proofs.inline_tables.SlotsOfEntries.{IsMadeByKey, slot-key, slot-node, slot-rest, either-way}
 use Rattle.toml_edit_laws.proofs.values.ValueKinds.{not-value}
@@ -103,7 +107,8 @@ module _ (mode : Mode) where
     value-spans (leaf s r d) (scalar x t) i before after is = subst IsSpanned (sym is.1) (is-spanned (i + length before) t)
     value-spans (list f xs) (array es comma t) i before after is = items-spans xs es (i + length before + 1) is.1
     value-spans (inline f ss) (inline_table ps comma t) i before after is =
-        entry-spans ss (entries (spanned_in mode) ps (i + length before + 1)) (kept (entries (spanned_in mode) ps (i + length before + 1))) is.1
+        entry-spans ss (entries (spanned_in mode) ps (i + length before + 1)) (kept (entries (spanned_in mode) ps (i + length before + 1)))
+        is.1
     value-spans (leaf s r d) (array es comma t) i before after is = elim is [ ]
     value-spans (leaf s r d) (inline_table ps comma t) i before after is = elim is [ ]
     value-spans (list f xs) (scalar t u) i before after is = elim is [ ]
@@ -132,7 +137,8 @@ module _ (mode : Mode) where
     entry-spans : (ss : Slots) (ms ks : List (Mention Entry)) → AreEntrySlots (spanned_in mode) ms ks ss → HaveSpans ss
     entry-spans no_slots ms [] is = tt
     entry-spans (slot key n ss) ms (k ∷ ks) is = (
-      subst (λ (x : Key). IsSpanned x.spelling) (sym (slot-key (spanned_in mode) ms k ks key n ss is)) (is-spanned k.start k.segment.spelled),
+      subst (λ (x : Key). IsSpanned x.spelling) (sym (slot-key (spanned_in mode) ms k ks key n ss is))
+          (is-spanned k.start k.segment.spelled),
       either-way (ends_path k.role) _ _ _
           (λ x. value-spans n k.source.value k.source.start k.source.before k.source.after x)
           (λ x. made-spans n k (under (at_key k.segment.key) ms) x)
@@ -143,7 +149,8 @@ module _ (mode : Mode) where
     entry-spans (slot key n ss) ms [] is = elim is [ ]
 
   line-spans : (s : Source) (st : Statement) (n : Node) → IsLineNode (spanned_in mode) s st n → HasSpans n
-  line-spans s (key_line f v end) n is = value-spans n v (s.start + value_start (spanned_in mode) f) f.after_equals (with_return mode f.trailing end) is
+  line-spans s (key_line f v end) n is =
+      value-spans n v (s.start + value_start (spanned_in mode) f) f.after_equals (with_return mode f.trailing end) is
   line-spans s (header g end) n is = absurd is
 
   mutual
@@ -155,7 +162,8 @@ module _ (mode : Mode) where
     node-spans (inline f ss) ns m is = line-spans m.source m.source.statement (inline f ss) is.1
     node-spans nothing ns m is = absurd is
 
-    elements-spans : (xs : Items) (ns : List (Mention Source)) (i : ℕ) (more : List (Mention Source)) → AreElementsOf (spanned_in mode) ns i more xs
+    elements-spans : (xs : Items) (ns : List (Mention Source)) (i : ℕ) (more : List (Mention Source))
+        → AreElementsOf (spanned_in mode) ns i more xs
         → ItemsHaveSpans xs
     elements-spans no_items ns i [] is = tt
     elements-spans (item (table f ss) xs) ns i (a ∷ more) is =
@@ -192,11 +200,16 @@ mutual
   node-cut text (table f ss) h fits is = slots-cut text ss h fits.1 is
   node-cut text nothing h fits is = tt
 
-  items-cut : (text : Text) (xs : Items) → ItemsHaveSpans xs → ItemsFit text xs → ItemsAreWellMade (owned_items text xs) → ItemsHaveCutSpellings text xs
+  items-cut : (text : Text) (xs : Items) → ItemsHaveSpans xs → ItemsFit text xs → ItemsAreWellMade (owned_items text xs)
+      → ItemsHaveCutSpellings text xs
   items-cut text no_items h fits is = tt
   items-cut text (item n xs) h fits is = (node-cut text n h.0 fits.0 is.0, items-cut text xs h.1 fits.1 is.1)
 
-  pub slots-cut : (text : Text) (ss : Slots) → HaveSpans ss → SlotsFit text ss → SlotsAreWellMade (owned_slots text ss) → HaveCutSpellings text ss
+  pub slots-cut : (text : Text) (ss : Slots) → HaveSpans ss → SlotsFit text ss → SlotsAreWellMade (owned_slots text ss)
+      → HaveCutSpellings text ss
   slots-cut text no_slots h fits is = tt
-  slots-cut text (slot k n ss) h fits is =
-      (cut-as text (SpellsKey k.name) k.spelling (key-some k.name) h.0 fits.0.0 is.1, node-cut text n h.1 fits.1 is.2, slots-cut text ss h.2 fits.2 is.3)
+  slots-cut text (slot k n ss) h fits is = (
+    cut-as text (SpellsKey k.name) k.spelling (key-some k.name) h.0 fits.0.0 is.1,
+    node-cut text n h.1 fits.1 is.2,
+    slots-cut text ss h.2 fits.2 is.3,
+  )

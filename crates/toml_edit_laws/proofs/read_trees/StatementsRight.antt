@@ -4,8 +4,11 @@ use Rattle.std.specs.Prelude.{◌&&◌, flat_map}
 use Rattle.std.specs.List.{AllByRecursion}
 use Rattle.toml_edit_model.specs.Text.{Text, one}
 use Rattle.toml_edit_model.specs.Trivia.{IsLineEnd}
-use Rattle.toml_edit_model.specs.Syntax.{Segment, Statement, key_line, header, Document, IsSpelledSegment, IsFrame, IsValue, IsHeader, AreStatements, IsDocument, keeps_ranges, keeps_limits}
-use Rattle.toml_edit_model.specs.Paths.{Path, to_key, Mention, Source, Placed, Context, header_mentions, next_start, elements_at, in_last, header_role_of, path_start, source_of, mentions_of, context_after, placed_from, start_context, all_mentions}
+use Rattle.toml_edit_model.specs.Syntax.{Segment, Statement, key_line, header, Document, IsSpelledSegment, IsFrame, IsValue, IsHeader}
+use Rattle.toml_edit_model.specs.Syntax.{AreStatements, IsDocument, keeps_ranges, keeps_limits}
+use Rattle.toml_edit_model.specs.Paths.{Path, to_key, Mention, Source, Placed, Context, header_mentions, next_start, elements_at, in_last}
+use Rattle.toml_edit_model.specs.Paths.{header_role_of, path_start, source_of, mentions_of, context_after, placed_from, start_context}
+use Rattle.toml_edit_model.specs.Paths.{all_mentions}
 use Rattle.toml_edit_model.specs.Accepted.{has_agreeing_pairs, is_sound, is_accepted}
 use Rattle.toml_edit_laws.specs.OneByOne.{is_right_after, all_right_after}
 use Rattle.toml_edit_laws.proofs.common.Tests.{and_left, and_right}
@@ -56,7 +59,8 @@ pub record IsRightMention (s : Segment) (source : Source) : Type 0 where
 abbrev pub AreRight : List (Mention Source) → Type 0
 AreRight ms = Holds (λ i s source. IsRightMention s source) ms
 
-header-spelled : {S : Type 0} (source : S) (before : List Path) (role : Role) (i : ℕ) (p : Path) (ss : List Segment) → AllByRecursion IsSpelledSegment ss
+header-spelled : {S : Type 0} (source : S) (before : List Path) (role : Role) (i : ℕ) (p : Path) (ss : List Segment)
+    → AllByRecursion IsSpelledSegment ss
     → (m : Mention S) → Among m (header_mentions source before role i p ss) → IsSpelledSegment m.segment
 header-spelled source before role i p [] h m a = elim a [ ]
 header-spelled source before role i p (s ∷ []) h m (inl g) = subst (λ (k : Mention _). IsSpelledSegment k.segment) (sym g) h.0
@@ -72,7 +76,8 @@ statement-right c (key_line f v end) h g m a =
     record {
       key = line-spelled source (c.start + path_start (key_line f v end)) c.block f.path h.0.1.spelled m a;
       value =
-          subst (λ (x : Source). HasRightValue x.statement) (sym (line-source source (c.start + path_start (key_line f v end)) c.block f.path m a))
+          subst (λ (x : Source). HasRightValue x.statement) (sym (line-source source (c.start
+          + path_start (key_line f v end)) c.block f.path m a))
           (right-value (key_line f v end) h g);
     }
 statement-right c (header h end) is g m a =

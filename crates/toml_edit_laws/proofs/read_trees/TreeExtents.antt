@@ -6,7 +6,8 @@ use Rattle.toml_edit_model.specs.Text.{Text}
 use Rattle.toml_edit_model.specs.Syntax.{Header, Statement, key_line, header, value_text, brackets_text, statement_text, document_text}
 use Rattle.toml_edit_model.specs.Paths.{at_key, at_element, Mention, Source, all_mentions}
 use Rattle.toml_edit_model.specs.Tree.{Node, nothing, leaf, list, inline, table, tables, Items, no_items, item, Slots, no_slots, slot}
-use Rattle.toml_edit_model.specs.TreeOf.{spanned_in, value_start, brackets_from, brackets_to, header_fields, fields_of, tables_extent, IsLineNode, IsNodeOf, AreElementsOf, AreSlotsOf}
+use Rattle.toml_edit_model.specs.TreeOf.{spanned_in, value_start, brackets_from, brackets_to, header_fields, fields_of, tables_extent}
+use Rattle.toml_edit_model.specs.TreeOf.{IsLineNode, IsNodeOf, AreElementsOf, AreSlotsOf}
 use Rattle.toml_edit_laws.specs.Standing.{Stands}
 use Rattle.toml_edit_laws.specs.Extents.{ExtentLies, NodeLies, ItemsLie, SlotsLie, ExtentsLie}
 use Rattle.toml_edit_laws.proofs.common.Returns.{returned-frame, frame-returned}
@@ -27,7 +28,8 @@ module _ (mode : Mode) where
         (stands-left text (s.start + length h.leading) (brackets_text h) (h.trailing ++ end)
         (stands-right text s.start h.leading (brackets_text h ++ (h.trailing ++ end)) g))
 
-    header-lies : (s : Source) (st : Statement) → Stands text s.start (statement_text st) → ExtentLies text (header_fields (spanned_in mode) s st).extent
+    header-lies : (s : Source) (st : Statement) → Stands text s.start (statement_text st)
+        → ExtentLies text (header_fields (spanned_in mode) s st).extent
     header-lies s (key_line f v end) h = tt
     header-lies s (header h end) g = brackets-lie s h end g
 
@@ -58,14 +60,16 @@ module _ (mode : Mode) where
     fields-lie ns m value_role h = ends-lie text m.start m.segment.spelled h.segment.spelled
     fields-lie ns m continued_role h = ends-lie text m.start m.segment.spelled h.segment.spelled
 
-    line-lies : (s : Source) (st : Statement) (n : Node) → Stands text s.start (statement_text st) → IsLineNode (spanned_in mode) s st n → NodeLies text n
+    line-lies : (s : Source) (st : Statement) (n : Node) → Stands text s.start (statement_text st) → IsLineNode (spanned_in mode) s st n
+        → NodeLies text n
     line-lies s (key_line f v end) n h is =
         let parts = pair-stands mode text s.start (returned-frame mode f end) v (frame-returned mode text s.start f (value_text v) end h) in
         value_lies mode text v (s.start + value_start (spanned_in mode) f) f.after_equals (with_return mode f.trailing end) n is parts.value
     line-lies s (header h end) n g is = absurd is
 
     mutual
-      node-lies : (n : Node) (ns : List (Mention Source)) (m : Mention Source) → Holds (MentionStands text) ns → MentionStands text m.start m.segment m.source
+      node-lies : (n : Node) (ns : List (Mention Source)) (m : Mention Source) → Holds (MentionStands text) ns
+          → MentionStands text m.start m.segment m.source
           → IsNodeOf (spanned_in mode) ns m n → NodeLies text n
       node-lies (table f ss) ns m h at is = (
         subst (λ g. ExtentLies text g.extent) (sym is.1) (fields-lie ns m m.role at),
@@ -100,7 +104,8 @@ module _ (mode : Mode) where
           → AreSlotsOf (spanned_in mode) ms ks ss → SlotsLie text ss
       slots-lie no_slots ms [] h g is = tt
       slots-lie (slot key n ss) ms (k ∷ ks) h g is = (
-        node-lies n (under (at_key k.segment.key) ms) k (holds-under (MentionStands text) (at_key k.segment.key) ms h) (g k (inl refl)) is.1,
+        node-lies n (under (at_key k.segment.key) ms) k (holds-under (MentionStands text) (at_key k.segment.key) ms h) (g k (inl refl))
+            is.1,
         slots-lie ss ms ks h (λ m a. g m (inr a)) is.2,
       )
       slots-lie no_slots ms (k ∷ ks) h g is = absurd is

@@ -6,8 +6,10 @@ use Rattle.toml_edit_model.specs.Mode.{Mode, with_return}
 use Rattle.toml_edit_model.specs.Text.{Text}
 use Rattle.toml_edit_model.specs.Syntax.{Statement, key_line, header, Document, IsDocument, document_text}
 use Rattle.toml_edit_model.specs.Paths.{at_key, at_element, Mention, Source, all_mentions}
-use Rattle.toml_edit_model.specs.Tree.{unset, Node, nothing, leaf, list, inline, table, tables, Items, no_items, item, Slots, no_slots, slot, Tree}
-use Rattle.toml_edit_model.specs.TreeOf.{spanned_in, value_start, key_at, statement_leaf, header_fields, fields_of, IsLineNode, IsNodeOf, AreElementsOf, AreSlotsOf, IsTreeOf}
+use Rattle.toml_edit_model.specs.Tree.{unset, Node, nothing, leaf, list, inline, table, tables, Items, no_items, item, Slots, no_slots}
+use Rattle.toml_edit_model.specs.Tree.{slot, Tree}
+use Rattle.toml_edit_model.specs.TreeOf.{spanned_in, value_start, key_at, statement_leaf, header_fields, fields_of, IsLineNode, IsNodeOf}
+use Rattle.toml_edit_model.specs.TreeOf.{AreElementsOf, AreSlotsOf, IsTreeOf}
 use Rattle.toml_edit_laws.proofs.mentions.KeptMentions.{kept-is}
 use Rattle.toml_edit_laws.proofs.values.ValueFits.{value_fits}
 use Rattle.toml_edit_laws.proofs.read_trees.MentionsStand.{Holds, holds-under, arrays-among}
@@ -33,14 +35,18 @@ module _ (mode : Mode) where
     key-fits m h = (
       raw-fits text m.start m.segment.spelled h.segment.spelled,
       by_test (ends_path m.role),
-      (raw-fits text (m.start - length m.segment.before) m.segment.before h.segment.before, raw-fits text (m.start + length m.segment.spelled) m.segment.after h.segment.after),
+      (
+        raw-fits text (m.start - length m.segment.before) m.segment.before h.segment.before,
+        raw-fits text (m.start + length m.segment.spelled) m.segment.after h.segment.after,
+      ),
     )
       where
         by_test : (b : Bool) → DecorFits text (if b then statement_leaf (spanned_in mode) m.source m.source.statement else unset)
         by_test true = leaf-fits m.source m.source.statement h.statement
         by_test false = (tt, tt)
 
-    header-fields-fit : (s : Source) (st : Statement) → StatementFits mode text s st → DecorFits text (header_fields (spanned_in mode) s st).decor
+    header-fields-fit : (s : Source) (st : Statement) → StatementFits mode text s st
+        → DecorFits text (header_fields (spanned_in mode) s st).decor
     header-fields-fit s (key_line f v end) h = (tt, tt)
     header-fields-fit s (header g end) h = h.decor
 
@@ -53,13 +59,16 @@ module _ (mode : Mode) where
     fields-fit ns m value_role h = (tt, tt)
     fields-fit ns m continued_role h = (tt, tt)
 
-    line-node-fits : (s : Source) (st : Statement) (n : Node) → StatementFits mode text s st → IsLineNode (spanned_in mode) s st n → NodeFits text n
+    line-node-fits : (s : Source) (st : Statement) (n : Node) → StatementFits mode text s st → IsLineNode (spanned_in mode) s st n
+        → NodeFits text n
     line-node-fits s (key_line f v end) n h is =
-        value_fits mode text v (s.start + value_start (spanned_in mode) f) f.after_equals (with_return mode f.trailing end) n utf8 h.0 is h.1.stands h.1.value
+        value_fits mode text v (s.start + value_start (spanned_in mode) f) f.after_equals (with_return mode f.trailing end) n utf8 h.0 is
+        h.1.stands h.1.value
     line-node-fits s (header g end) n h is = absurd is
 
     mutual
-      node-fits : (n : Node) (ns : List (Mention Source)) (m : Mention Source) → Holds (MentionFits mode text) ns → MentionFits mode text m.start m.segment m.source
+      node-fits : (n : Node) (ns : List (Mention Source)) (m : Mention Source) → Holds (MentionFits mode text) ns
+          → MentionFits mode text m.start m.segment m.source
           → IsNodeOf (spanned_in mode) ns m n → NodeFits text n
       node-fits (table f ss) ns m h at is = (
         subst (λ g. DecorFits text g.decor) (sym is.1) (fields-fit ns m m.role at.statement),
@@ -78,7 +87,8 @@ module _ (mode : Mode) where
           let below = holds-under (MentionFits mode text) (at_element i) ns h in (
             (
               subst (λ x. DecorFits text x.decor) (sym is.0) (header-fields-fit a.source a.source.statement (g a (inl refl)).statement),
-              slots-fit ss (under (at_element i) ns) (kept (under (at_element i) ns)) below (λ k b. below k (kept-is [] k (under (at_element i) ns) b).among) is.1,
+              slots-fit ss (under (at_element i) ns) (kept (under (at_element i) ns)) below
+                  (λ k b. below k (kept-is [] k (under (at_element i) ns) b).among) is.1,
             ),
             elements-fit xs ns (suc i) more h (λ k b. g k (inr b)) is.2,
           )
@@ -98,7 +108,8 @@ module _ (mode : Mode) where
       slots-fit no_slots ms (k ∷ ks) h g is = absurd is
       slots-fit (slot key n ss) ms [] h g is = absurd is
 
-  pub tree-fits : (d : Document) (t : Tree) → IsDocument d → IsUtf8 (document_text d) → IsTreeOf (spanned_in mode) d t → TreeFits (document_text d) t
+  pub tree-fits : (d : Document) (t : Tree) → IsDocument d → IsUtf8 (document_text d) → IsTreeOf (spanned_in mode) d t
+      → TreeFits (document_text d) t
   tree-fits d t grammar utf8 is =
       let fits = document-fits mode d grammar utf8 in
       record {

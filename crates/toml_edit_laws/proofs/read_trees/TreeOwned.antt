@@ -1,21 +1,27 @@
 -- The tree of a document with spans becomes, by what they cut from its text, the tree with owned texts.
-use Rattle.std.proofs.Common.{◌≡◌, refl, sym, ◌∙◌, ap, ℕ, suc, ◌+◌, ◌-◌, arith, inl, inr, true, false, Bool, List, [], ◌∷◌, ◌++◌, length, codes, None}
+use Rattle.std.proofs.Common.{◌≡◌, refl, sym, ◌∙◌, ap, ℕ, suc, ◌+◌, ◌-◌, arith, inl, inr, true, false, Bool, List, [], ◌∷◌, ◌++◌, length}
+use Rattle.std.proofs.Common.{codes, None}
 use Rattle.std.specs.Prelude.{if◌then◌else◌}
 use Rattle.toml_edit_model.specs.Mode.{Mode, with_return}
 use Rattle.toml_edit_model.specs.Text.{Text}
-use Rattle.toml_edit_model.specs.Syntax.{Statement, key_line, header, Document, value_text, path_text, frame_text, statement_text, opening_brackets, document_text}
+use Rattle.toml_edit_model.specs.Syntax.{Statement, key_line, header, Document, value_text, path_text, frame_text, statement_text}
+use Rattle.toml_edit_model.specs.Syntax.{opening_brackets, document_text}
 use Rattle.toml_edit_model.specs.Paths.{at_key, at_element, Mention, Source, path_start, all_mentions}
-use Rattle.toml_edit_model.specs.Tree.{unset, Node, nothing, leaf, list, inline, table, tables, Items, no_items, item, Slots, no_slots, slot, Tree}
-use Rattle.toml_edit_model.specs.TreeOf.{spanned_in, owned_in, value_start, key_at, statement_leaf, bracket_end, header_fields, fields_of, tables_extent, IsLineNode, IsNodeOf, AreElementsOf, AreSlotsOf, IsTreeOf}
+use Rattle.toml_edit_model.specs.Tree.{unset, Node, nothing, leaf, list, inline, table, tables, Items, no_items, item, Slots, no_slots}
+use Rattle.toml_edit_model.specs.Tree.{slot, Tree}
+use Rattle.toml_edit_model.specs.TreeOf.{spanned_in, owned_in, value_start, key_at, statement_leaf, bracket_end, header_fields, fields_of}
+use Rattle.toml_edit_model.specs.TreeOf.{tables_extent, IsLineNode, IsNodeOf, AreElementsOf, AreSlotsOf, IsTreeOf}
 use Rattle.toml_edit_laws.specs.Standing.{Stands}
 use Rattle.toml_edit_laws.proofs.common.StandingLaws.{stands-left, cut-is}
 use Rattle.toml_edit_laws.proofs.common.Returns.{after-return, returned-frame, returned-header, frame-returned, header-returned}
 use Rattle.toml_edit_laws.proofs.mentions.KeptMentions.{kept-is}
 use Rattle.toml_edit_laws.proofs.values.ValueOwned.{stands-at, decor-cut, pair-stands, value_owned}
-use Rattle.toml_edit_laws.proofs.read_trees.MentionsStand.{Holds, holds-under, arrays-among, header-stands, MentionStands, document-mentions, final-stands}
+use Rattle.toml_edit_laws.proofs.read_trees.MentionsStand.{Holds, holds-under, arrays-among, header-stands, MentionStands}
+use Rattle.toml_edit_laws.proofs.read_trees.MentionsStand.{document-mentions, final-stands}
 use Rattle.toml_edit_model.specs.Roles.{Role, dotted_role, implied_role, header_role, array_role, value_role, continued_role, ends_path}
 use Rattle.toml_edit_model.specs.TableMentions.{under, kept, array_headers}
-use Rattle.toml_edit_model.specs.OwnedForm.{owned_raw, owned_decor, owned_key, owned_fields, owned_node, owned_items, owned_slots, owned_tree}
+use Rattle.toml_edit_model.specs.OwnedForm.{owned_raw, owned_decor, owned_key, owned_fields, owned_node, owned_items, owned_slots}
+use Rattle.toml_edit_model.specs.OwnedForm.{owned_tree}
 
 module _ (mode : Mode) where
   module _ (text : Text) where
@@ -37,14 +43,17 @@ module _ (mode : Mode) where
         decor-cut mode text path_at (path_at + length h.opening + length (path_text h.path)) h.opening h.closing
         (stands-at text _ _ h.opening parts.opening first) (stands-at text _ _ h.closing parts.closing last)
 
-    key-owned : (m : Mention Source) → MentionStands text m.start m.segment m.source → owned_key text (key_at (spanned_in mode) m) ≡ key_at (owned_in mode) m
+    key-owned : (m : Mention Source) → MentionStands text m.start m.segment m.source → owned_key text (key_at (spanned_in mode) m)
+        ≡ key_at (owned_in mode) m
     key-owned m h =
         let spelled = cut-is text m.start m.segment.spelled h.segment.spelled in
-        let dots = decor-cut mode text (m.start - length m.segment.before) (m.start + length m.segment.spelled) m.segment.before m.segment.after h.segment.before h.segment.after in
+        let dots = decor-cut mode text (m.start - length m.segment.before) (m.start
+        + length m.segment.spelled) m.segment.before m.segment.after h.segment.before h.segment.after in
         let leaf = by_test (ends_path m.role) (leaf-owned m.source m.source.statement h.statement) in
         cc
       where
-        by_test : (b : Bool) → owned_decor text (statement_leaf (spanned_in mode) m.source m.source.statement) ≡ statement_leaf (owned_in mode) m.source m.source.statement
+        by_test : (b : Bool) → owned_decor text (statement_leaf (spanned_in mode) m.source m.source.statement)
+            ≡ statement_leaf (owned_in mode) m.source m.source.statement
             → owned_decor text (if b then statement_leaf (spanned_in mode) m.source m.source.statement else unset)
             ≡ (if b then statement_leaf (owned_in mode) m.source m.source.statement else unset)
         by_test true e = e
@@ -54,8 +63,10 @@ module _ (mode : Mode) where
         → owned_fields text (header_fields (spanned_in mode) s st) ≡ header_fields (owned_in mode) s st
     header_fields-owned s (key_line f v end) h = refl
     header_fields-owned s (header h end) g =
-        let parts = header-stands text s.start (returned-header mode h end) (after-return mode end) (header-returned mode text s.start h end g) in
-        let decor = decor-cut mode text s.start (bracket_end (spanned_in mode) s h) h.leading (with_return mode h.trailing end) parts.leading parts.trailing in
+        let parts = header-stands text s.start (returned-header mode h end) (after-return mode end)
+        (header-returned mode text s.start h end g) in
+        let decor = decor-cut mode text s.start (bracket_end (spanned_in mode) s h) h.leading (with_return mode h.trailing end)
+        parts.leading parts.trailing in
         cc
 
     fields-owned : (ns : List (Mention Source)) (m : Mention Source) (r : Role) → MentionStands text m.start m.segment m.source
@@ -75,13 +86,15 @@ module _ (mode : Mode) where
         → IsLineNode (spanned_in mode) s st n → IsLineNode (owned_in mode) s st (owned_node text n)
     line-owned s (key_line f v end) n h is =
         let parts = pair-stands mode text s.start (returned-frame mode f end) v (frame-returned mode text s.start f (value_text v) end h) in
-        value_owned mode text v (s.start + value_start (spanned_in mode) f) f.after_equals (with_return mode f.trailing end) n is parts.value
+        value_owned mode text v (s.start + value_start (spanned_in mode) f) f.after_equals (with_return mode f.trailing end) n is
+        parts.value
     line-owned s (header h end) n g is = absurd is
 
     -- ---- tables
 
     mutual
-      node-owned : (n : Node) (ns : List (Mention Source)) (m : Mention Source) → Holds (MentionStands text) ns → MentionStands text m.start m.segment m.source
+      node-owned : (n : Node) (ns : List (Mention Source)) (m : Mention Source) → Holds (MentionStands text) ns
+          → MentionStands text m.start m.segment m.source
           → IsNodeOf (spanned_in mode) ns m n → IsNodeOf (owned_in mode) ns m (owned_node text n)
       node-owned (table f ss) ns m h at is = (
         is.0,
@@ -99,7 +112,8 @@ module _ (mode : Mode) where
       node-owned nothing ns m h at is = absurd is
 
       elements-owned : (xs : Items) (ns : List (Mention Source)) (i : ℕ) (more : List (Mention Source)) → Holds (MentionStands text) ns
-          → Holds (MentionStands text) more → AreElementsOf (spanned_in mode) ns i more xs → AreElementsOf (owned_in mode) ns i more (owned_items text xs)
+          → Holds (MentionStands text) more → AreElementsOf (spanned_in mode) ns i more xs
+          → AreElementsOf (owned_in mode) ns i more (owned_items text xs)
       elements-owned no_items ns i [] h g is = tt
       elements-owned (item (table f ss) xs) ns i (a ∷ more) h g is =
           let below = holds-under (MentionStands text) (at_element i) ns h in (

@@ -1,9 +1,11 @@
 -- Each mention of an accepted document stands below tables and elements that are mentioned.
-use Rattle.std.proofs.Common.{◌≡◌, ◌<◌, ◌≤◌, ℕ, zero, suc, refl, sym, ap, subst, ◌∙◌, arith, inl, inr, true, false, Bool, List, [], ◌∷◌, ◌++◌}
+use Rattle.std.proofs.Common.{◌≡◌, ◌<◌, ◌≤◌, ℕ, zero, suc, refl, sym, ap, subst, ◌∙◌, arith, inl, inr, true, false, Bool, List, [], ◌∷◌}
+use Rattle.std.proofs.Common.{◌++◌}
 use Rattle.std.specs.Prelude.{◌||◌}
 use Rattle.toml_edit_model.specs.Text.{Text, is_empty}
 use Rattle.toml_edit_model.specs.Syntax.{Segment}
-use Rattle.toml_edit_model.specs.Paths.{at_key, at_element, Path, to_key, to_element, Mention, Source, mention_of, line_mentions, header_mentions, header_path, next_start, elements_at, in_last, passing_role}
+use Rattle.toml_edit_model.specs.Paths.{at_key, at_element, Path, to_key, to_element, Mention, Source, mention_of, line_mentions}
+use Rattle.toml_edit_model.specs.Paths.{header_mentions, header_path, next_start, elements_at, in_last, passing_role}
 use Rattle.toml_edit_laws.proofs.common.Members.{Among}
 use Rattle.toml_edit_laws.proofs.clashes.ClashMentions.{is_table_role}
 use Rattle.toml_edit_laws.proofs.clashes.ClashCounts.{count_at, count-under}
@@ -25,7 +27,8 @@ Way (at_element i ∷ p) ms = ⊥
 some-more : (test : Role → Bool) (p : Path) (xs ys : List (Mention Source)) → some_at test p xs ≡ true → some_at test p (xs ++ ys) ≡ true
 some-more test p xs ys h = some_at-append test p xs ys ∙ ap (λ b. b || some_at test p ys) h
 
-pub count-more : (p : Path) (xs ys : List (Mention Source)) (i : ℕ) → i < count_at is_array_role p xs → i < count_at is_array_role p (xs ++ ys)
+pub count-more : (p : Path) (xs ys : List (Mention Source)) (i : ℕ) → i < count_at is_array_role p xs
+    → i < count_at is_array_role p (xs ++ ys)
 count-more p xs ys i h = let both = count-both is_array_role p xs ys in omega arith
 
 pub way-more : (p : Path) (xs ys : List (Mention Source)) → Way p xs → Way p (xs ++ ys)
@@ -33,7 +36,8 @@ way-more [] xs ys h = tt
 way-more (at_key k ∷ []) xs ys h = some-more is_table_role (at_key k ∷ []) xs ys h
 way-more (at_key k ∷ at_key l ∷ p) xs ys h = (
   some-more is_table_role (at_key k ∷ []) xs ys h.0,
-  subst (Way (at_key l ∷ p)) (sym (under-append (at_key k) xs ys)) (way-more (at_key l ∷ p) (under (at_key k) xs) (under (at_key k) ys) h.1),
+  subst (Way (at_key l ∷ p)) (sym (under-append (at_key k) xs ys)) (way-more (at_key l
+      ∷ p) (under (at_key k) xs) (under (at_key k) ys) h.1),
 )
 way-more (at_key k ∷ at_element i ∷ p) xs ys h = (
   count-more (at_key k ∷ []) xs ys i h.0,
@@ -43,7 +47,8 @@ way-more (at_key k ∷ at_element i ∷ p) xs ys h = (
 )
 way-more (at_element i ∷ p) xs ys h = absurd h
 
-pub way-key : (p : Path) (k : Text) (ms : List (Mention Source)) → Way p ms → some_at is_table_role (to_key p k) ms ≡ true → Way (to_key p k) ms
+pub way-key : (p : Path) (k : Text) (ms : List (Mention Source)) → Way p ms → some_at is_table_role (to_key p k) ms ≡ true
+    → Way (to_key p k) ms
 way-key [] k ms h e = e
 way-key (at_key l ∷ []) k ms h e = (h, some_at-under is_table_role (at_key l) (at_key k ∷ []) ms ∙ e)
 way-key (at_key l ∷ at_key j ∷ p) k ms h e =
@@ -51,7 +56,8 @@ way-key (at_key l ∷ at_key j ∷ p) k ms h e =
 way-key (at_key l ∷ at_element i ∷ p) k ms h e = (
   h.0,
   way-key p k (under (at_element i) (under (at_key l) ms)) h.1
-      (some_at-under is_table_role (at_element i) (to_key p k) (under (at_key l) ms) ∙ some_at-under is_table_role (at_key l) (at_element i ∷ to_key p k) ms ∙ e),
+      (some_at-under is_table_role (at_element i) (to_key p k) (under (at_key l) ms)
+      ∙ some_at-under is_table_role (at_key l) (at_element i ∷ to_key p k) ms ∙ e),
 )
 way-key (at_element i ∷ p) k ms h e = absurd h
 
@@ -59,12 +65,16 @@ pub way-element : (p : Path) (k : Text) (i : ℕ) (ms : List (Mention Source)) �
     → Way (to_element (to_key p k) i) ms
 way-element [] k i ms h e = (e, tt)
 way-element (at_key l ∷ []) k i ms h e = (h, (subst (λ n. i < n) (sym (count-under is_array_role (at_key l) (at_key k ∷ []) ms)) e, tt))
-way-element (at_key l ∷ at_key j ∷ p) k i ms h e =
-    (h.0, way-element (at_key j ∷ p) k i (under (at_key l) ms) h.1 (subst (λ n. i < n) (sym (count-under is_array_role (at_key l) (to_key (at_key j ∷ p) k) ms)) e))
+way-element (at_key l ∷ at_key j ∷ p) k i ms h e = (
+  h.0,
+  way-element (at_key j ∷ p) k i (under (at_key l) ms) h.1
+      (subst (λ n. i < n) (sym (count-under is_array_role (at_key l) (to_key (at_key j ∷ p) k) ms)) e),
+)
 way-element (at_key l ∷ at_element j ∷ p) k i ms h e = (
   h.0,
   way-element p k i (under (at_element j) (under (at_key l) ms)) h.1
-      (subst (λ n. i < n) (sym (count-under is_array_role (at_element j) (to_key p k) (under (at_key l) ms) ∙ count-under is_array_role (at_key l) (at_element j ∷ to_key p k) ms)) e),
+      (subst (λ n. i < n) (sym (count-under is_array_role (at_element j) (to_key p k) (under (at_key l) ms)
+      ∙ count-under is_array_role (at_key l) (at_element j ∷ to_key p k) ms)) e),
 )
 way-element (at_element j ∷ p) k i ms h e = absurd h
 
@@ -78,7 +88,8 @@ pub record HasWay (all : List (Mention Source)) (m : Mention Source) : Type 0 wh
 abbrev AreIn : List (Mention Source) → List (Mention Source) → Type 0
 AreIn all ms = (m : Mention Source) → Among m ms → Among m all
 
-first-way : (all : List (Mention Source)) (p : Path) (m n : Mention Source) → Way p all → n.path ≡ to_key p n.segment.key → m ≡ n → HasWay all m
+first-way : (all : List (Mention Source)) (p : Path) (m n : Mention Source) → Way p all → n.path ≡ to_key p n.segment.key → m ≡ n
+    → HasWay all m
 first-way all p m n h e same = subst (HasWay all) (sym same) (record { above = p; path = e; way = h })
 
 pub line-ways : (all : List (Mention Source)) (source : Source) (start : ℕ) (p : Path) (ss : List Segment) → Way p all
@@ -89,7 +100,8 @@ line-ways all source start p (s ∷ []) h inside m (inr a) = elim a [ ]
 line-ways all source start p (s ∷ r ∷ rest) h inside m (inl e) = first-way all p m _ h refl e
 line-ways all source start p (s ∷ r ∷ rest) h inside m (inr a) =
     line-ways all source (next_start start s) (to_key p s.key) (r ∷ rest)
-    (way-key p s.key all h (among-test is_table_role (mention_of source start (to_key p s.key) dotted_role s) all (inside _ (inl refl)) refl))
+    (way-key p s.key all h (among-test is_table_role (mention_of source start (to_key p s.key) dotted_role s) all (inside _ (inl refl))
+    refl))
     (λ n b. inside n (inr b)) m a
 
 -- the arrays have at least so many elements
@@ -99,10 +111,13 @@ AreCountedIn arrays all = (p : Path) → elements_at arrays p ≤ count_at is_ar
 pass-way : (all : List (Mention Source)) (source : Source) (start : ℕ) (p : Path) (s : Segment) (count : ℕ) → Way p all
     → count ≤ count_at is_array_role (to_key p s.key) all → Among (mention_of source start (to_key p s.key) (passing_role count) s) all
     → Way (in_last count (to_key p s.key)) all
-pass-way all source start p s zero h le a = way-key p s.key all h (among-test is_table_role (mention_of source start (to_key p s.key) implied_role s) all a refl)
-pass-way all source start p s (suc n) h le a = way-element p s.key n all h (let less : n < count_at is_array_role (to_key p s.key) all = omega arith in less)
+pass-way all source start p s zero h le a =
+    way-key p s.key all h (among-test is_table_role (mention_of source start (to_key p s.key) implied_role s) all a refl)
+pass-way all source start p s (suc n) h le a =
+    way-element p s.key n all h (let less : n < count_at is_array_role (to_key p s.key) all = omega arith in less)
 
-pub header-ways : (all : List (Mention Source)) (source : Source) (arrays : List Path) (role : Role) (start : ℕ) (p : Path) (ss : List Segment) → Way p all
+pub header-ways : (all : List (Mention Source)) (source : Source) (arrays : List Path) (role : Role) (start : ℕ) (p : Path)
+    (ss : List Segment) → Way p all
     → AreCountedIn arrays all → AreIn all (header_mentions source arrays role start p ss) → (m : Mention Source)
     → Among m (header_mentions source arrays role start p ss) → HasWay all m
 header-ways all source arrays role start p [] h counted inside m a = elim a [ ]
@@ -126,8 +141,10 @@ pub record LastMention (all : List (Mention Source)) (role : Role) (path : Path)
   pub ends : path ≡ to_key above key
   pub way : Way above all
 
-pub header-last : (all : List (Mention Source)) (source : Source) (arrays : List Path) (role : Role) (start : ℕ) (p : Path) (ss : List Segment) → is_empty ss ≡ false
-    → Way p all → AreCountedIn arrays all → AreIn all (header_mentions source arrays role start p ss) → LastMention all role (header_path arrays p ss)
+pub header-last : (all : List (Mention Source)) (source : Source) (arrays : List Path) (role : Role) (start : ℕ) (p : Path)
+    (ss : List Segment) → is_empty ss ≡ false
+    → Way p all → AreCountedIn arrays all → AreIn all (header_mentions source arrays role start p ss)
+    → LastMention all role (header_path arrays p ss)
 header-last all source arrays role start p [] some h counted inside = absurd cc
 header-last all source arrays role start p (s ∷ []) some h counted inside =
     record {

@@ -10,7 +10,18 @@ use Rattle.toml_edit_model.specs.TreeOf.{owned_in, root_fields, IsTreeOf}
 use Rattle.toml_edit_laws.proofs.common.Members.{from-contained, to-contained}
 
 pub odd : Document
-odd = record { has_mark = false; statements = key_line (record { leading = []; path = []; before_equals = []; after_equals = []; trailing = [] }) (scalar (boolean true) (codes "true")) [] ∷ []; final = [] }
+odd = record {
+  has_mark = false;
+  statements = key_line (record {
+    leading = [];
+    path = [];
+    before_equals = [];
+    after_equals = [];
+    trailing =
+        [];
+  }) (scalar (boolean true) (codes "true")) [] ∷ [];
+  final = [];
+}
 
 module _ (mode : Mode) where
   pub odd-tree : Tree

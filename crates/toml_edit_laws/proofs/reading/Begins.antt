@@ -7,7 +7,8 @@ use Rattle.std.proofs.lemmas.Bool.Decides.{nat_tests}
 use Rattle.toml_edit_model.specs.Text.{Text, is_empty}
 use Rattle.toml_edit_model.specs.Trivia.{Each}
 use Rattle.toml_edit_model.specs.Scalars.{Scalar, string, integer, float, boolean, datetime}
-use Rattle.toml_edit_model.specs.Spelling.{is_bare_byte, SpellsKey, Digits, IsDigits, digits_text, plus, minus, unsigned, hexadecimal, octal, binary, Spells, SpellsInteger, IsFloat}
+use Rattle.toml_edit_model.specs.Spelling.{is_bare_byte, SpellsKey, Digits, IsDigits, digits_text, plus, minus, unsigned, hexadecimal}
+use Rattle.toml_edit_model.specs.Spelling.{octal, binary, Spells, SpellsInteger, IsFloat}
 pub use Rattle.toml_edit_laws.proofs.common.Edges.{StartsAscii, ascii_blank, ascii_newline, ascii_trivia, ascii_line_end, ascii_final}
 use Rattle.toml_edit_laws.specs.reading.FloatReading.{is_float_byte}
 use Rattle.toml_edit_laws.proofs.reading.FloatLaws.{float_bytes, float-some}
@@ -44,7 +45,8 @@ begins_digits ((false, c) ∷ ds) (has, each) = (c, digits_text ds, refl, grind 
 begins_integer : (z : _) (t : Text) → SpellsInteger z t → Begins t
 begins_integer z t (inl (plus, ds, (is, lead, parts), value)) = (43, _, parts, refl)
 begins_integer z t (inl (minus, ds, (is, lead, parts), value)) = (45, _, parts, refl)
-begins_integer z t (inl (unsigned, ds, (is, lead, parts), value)) = let (c, cs, e, opening) = begins_digits ds is in (c, cs, parts ∙ e, opening)
+begins_integer z t (inl (unsigned, ds, (is, lead, parts), value)) = let (c, cs, e, opening) = begins_digits ds is in
+    (c, cs, parts ∙ e, opening)
 begins_integer z t (inr (hexadecimal, ds, is, value, parts)) = (48, _, parts, refl)
 begins_integer z t (inr (octal, ds, is, value, parts)) = (48, _, parts, refl)
 begins_integer z t (inr (binary, ds, is, value, parts)) = (48, _, parts, refl)

@@ -1,11 +1,14 @@
 -- The parts of the literal and of the basic form.
-use Rattle.std.proofs.Common.{◌≡◌, ℕ, ◌<◌, true, false, not, ◌==◌, [], ◌∷◌, ◌++◌, length, drop, take, Some, is_some, refl, sym, ap, ◌∙◌, inl, inr, arith, encode_utf8, take_at, drop_at, eqb-true}
+use Rattle.std.proofs.Common.{◌≡◌, ℕ, ◌<◌, true, false, not, ◌==◌, [], ◌∷◌, ◌++◌, length, drop, take, Some, is_some, refl, sym, ap, ◌∙◌}
+use Rattle.std.proofs.Common.{inl, inr, arith, encode_utf8, take_at, drop_at, eqb-true}
 use Rattle.std.proofs.lemmas.Bool.{cases_Bool}
 use Rattle.std.proofs.lemmas.Bool.Decides.{nat_tests}
 use Rattle.std.proofs.lemmas.List.{take-append-drop}
 use Rattle.toml_edit_model.specs.Text.{Text, has_byte}
 use Rattle.toml_edit_model.specs.Trivia.{is_blank, lf, crlf}
-use Rattle.toml_edit_model.specs.Spelling.{Part, plain, letter, numbered, part_text, part_value, IsPart, short_escape, hex_digits, is_plain, is_literal, one_quote, two_quotes, BlockPart, in_line, next_line, quotes, joint, block_text, block_value, IsJoint, IsBlockPart, is_dropped_part, may_follow}
+use Rattle.toml_edit_model.specs.Spelling.{Part, plain, letter, numbered, part_text, part_value, IsPart, short_escape, hex_digits, is_plain}
+use Rattle.toml_edit_model.specs.Spelling.{is_literal, one_quote, two_quotes, BlockPart, in_line, next_line, quotes, joint, block_text}
+use Rattle.toml_edit_model.specs.Spelling.{block_value, IsJoint, IsBlockPart, is_dropped_part, may_follow}
 use Rattle.toml_edit_laws.specs.reading.Runs.{first}
 use Rattle.toml_edit_laws.specs.reading.Tokens.{escape_at}
 use Rattle.toml_edit_laws.specs.reading.BlockReading.{newline_len, is_gap_byte, gap_len, literal_part_at, escaped_at, basic_part_at}
@@ -23,8 +26,10 @@ literal_apart x h = (grind (arith, nat_tests), grind (arith, nat_tests), grind (
 
 -- what reads as a part of a literal string is one
 literal_part_takes : (t v rest : Text) → literal_part_at t ≡ Some (v, rest)
-    → (p : BlockPart ℕ) × IsBlockPart (λ x. is_literal x ≡ true) (λ j. ⊥) p × (v ≡ block_value (λ x. x ∷ []) 39 p) × (t ≡ block_text (λ x. x ∷ []) 39 p ++ rest)
-    × ((q : BlockPart ℕ) (u : Text) → IsBlockPart (λ x. is_literal x ≡ true) (λ j. ⊥) q → rest ≡ block_text (λ x. x ∷ []) 39 q ++ u → may_follow (λ r. false) p q ≡ true)
+    → (p : BlockPart ℕ) × IsBlockPart (λ x. is_literal x ≡ true) (λ j. ⊥) p × (v ≡ block_value (λ x. x ∷ []) 39 p)
+    × (t ≡ block_text (λ x. x ∷ []) 39 p ++ rest)
+    × ((q : BlockPart ℕ) (u : Text) → IsBlockPart (λ x. is_literal x ≡ true) (λ j. ⊥) q → rest ≡ block_text (λ x. x ∷ []) 39 q ++ u
+    → may_follow (λ r. false) p q ≡ true)
 unfolding literal_part_at
 literal_part_takes [] v rest e = absurd cc
 literal_part_takes (x ∷ t) v rest e =
@@ -57,7 +62,8 @@ pub plain_apart : (x : ℕ) → is_plain x ≡ true → ((x == 34) ≡ false) ×
 plain_apart x h = (grind (arith, nat_tests), grind (arith, nat_tests), grind (arith, nat_tests))
 
 -- behind what a joint dropped stands nothing that it would drop
-joint_leaves : (rest : Text) → gap_len rest ≡ 0 → (q : BlockPart Part) (u : Text) → IsBlockPart IsPart IsJoint q → rest ≡ block_text part_text 34 q ++ u → not (is_dropped_part q) ≡ true
+joint_leaves : (rest : Text) → gap_len rest ≡ 0 → (q : BlockPart Part) (u : Text) → IsBlockPart IsPart IsJoint q → rest
+    ≡ block_text part_text 34 q ++ u → not (is_dropped_part q) ≡ true
 joint_leaves rest none (in_line (plain x)) u is e =
     elim (cases_Bool (is_blank x)) [
       | inl blank ↦
@@ -75,7 +81,8 @@ joint_leaves rest none (joint t) u is e = refl
 -- what reads as a part of a basic string is one
 basic_part_takes : (t v rest : Text) → basic_part_at t ≡ Some (v, rest)
     → (p : BlockPart Part) × IsBlockPart IsPart IsJoint p × (v ≡ block_value part_value 34 p) × (t ≡ block_text part_text 34 p ++ rest)
-    × ((q : BlockPart Part) (u : Text) → IsBlockPart IsPart IsJoint q → rest ≡ block_text part_text 34 q ++ u → may_follow is_dropped_part p q ≡ true)
+    × ((q : BlockPart Part) (u : Text) → IsBlockPart IsPart IsJoint q → rest ≡ block_text part_text 34 q ++ u
+    → may_follow is_dropped_part p q ≡ true)
 unfolding basic_part_at escaped_at
 basic_part_takes [] v rest e = absurd cc
 basic_part_takes (x ∷ t) v rest e =
@@ -92,8 +99,14 @@ basic_part_takes (x ∷ t) v rest e =
             | inl (feed, f) ↦
                 let both : ◌≡◌ {A = Text × Text} ([], drop n t) (v, rest) = cc in
                 let (says, after) = same_parts [] v (drop n t) rest both in
-                let (gaps, each, whole) = gap_takes t in
-                (joint (take n t), (gaps, each, whole, feed), sym says, front ∙ ap (λ (u : Text). 92 ∷ u) (sym (take-append-drop n t) ∙ ap (λ (u : Text). take n t ++ u) after), joint_leaves rest (ap gap_len (sym after) ∙ gap_rest t))
+                let (gaps, each, whole) = gap_takes t in (
+                  joint (take n t),
+                  (gaps, each, whole, feed),
+                  sym says,
+                  front
+                      ∙ ap (λ (u : Text). 92 ∷ u) (sym (take-append-drop n t) ∙ ap (λ (u : Text). take n t ++ u) after),
+                  joint_leaves rest (ap gap_len (sym after) ∙ gap_rest t),
+                )
             | inr (escape, f) ↦
                 let (y, found, same) = map_some (escape_at t) (λ y. (encode_utf8 y.0, y.1)) (v, rest) f in
                 let (says, after) = same_parts (encode_utf8 y.0) v y.1 rest same in
@@ -115,7 +128,8 @@ plain_no_gap : (x y : ℕ) → is_plain x ≡ true → not (is_blank x) ≡ true
 plain_no_gap x y h other = grind (arith, nat_tests)
 
 -- an escape is read as one behind its backslash
-escaped_again : (x : ℕ) (t v rest : Text) (e : ℕ) → is_gap_byte x (first t) ≡ false → escape_at (x ∷ t) ≡ Some (e, rest) → escaped_at (x ∷ t) ≡ Some (encode_utf8 e, rest)
+escaped_again : (x : ℕ) (t v rest : Text) (e : ℕ) → is_gap_byte x (first t) ≡ false → escape_at (x ∷ t) ≡ Some (e, rest)
+    → escaped_at (x ∷ t) ≡ Some (encode_utf8 e, rest)
 unfolding escaped_at
 escaped_again x t v rest e none found = rw (gap_off x t none, found) refl
 
@@ -153,7 +167,8 @@ basic_longer (letter x) is = omega arith
 basic_longer (numbered x digits) is = omega arith
 
 -- what is not dropped begins with no gap
-basic_stops : (t : Text) → IsJoint t → (q : BlockPart Part) (u : Text) → IsBlockPart IsPart IsJoint q → not (is_dropped_part q) ≡ true → gap_len (block_text part_text 34 q ++ u) ≡ 0
+basic_stops : (t : Text) → IsJoint t → (q : BlockPart Part) (u : Text) → IsBlockPart IsPart IsJoint q → not (is_dropped_part q) ≡ true
+    → gap_len (block_text part_text 34 q ++ u) ≡ 0
 basic_stops t join (in_line (plain x)) u is dropped = gap_off x u (plain_no_gap x (first u) is dropped)
 basic_stops t join (in_line (letter x)) u is dropped = gap_off 92 (x ∷ u) refl
 basic_stops t join (in_line (numbered x digits)) u is dropped = gap_off 92 (x ∷ (digits ++ u)) refl

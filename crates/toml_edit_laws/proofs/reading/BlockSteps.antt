@@ -1,11 +1,13 @@
 -- Quotes, newlines and gaps of a string of several lines, and the steps in which it is read.
-use Rattle.std.proofs.Common.{◌≡◌, ◌⊎◌, ℕ, zero, suc, ◌+◌, ◌<◌, ◌≤◌, true, false, ◌==◌, ◌&&◌, List, [], ◌∷◌, ◌++◌, length, drop, take, slice_index, nat_lt, Some, replicate, refl, sym, ap, ◌∙◌, inl, inr, arith, append_assoc, eqb-true, one-add}
+use Rattle.std.proofs.Common.{◌≡◌, ◌⊎◌, ℕ, zero, suc, ◌+◌, ◌<◌, ◌≤◌, true, false, ◌==◌, ◌&&◌, List, [], ◌∷◌, ◌++◌, length, drop, take}
+use Rattle.std.proofs.Common.{slice_index, nat_lt, Some, replicate, refl, sym, ap, ◌∙◌, inl, inr, arith, append_assoc, eqb-true, one-add}
 use Rattle.std.specs.List.{flat_map, AllByRecursion}
 use Rattle.std.proofs.lemmas.Bool.{cases_Bool, and_parts, ne_eqb, eq-eqb, false≢true}
 use Rattle.std.proofs.lemmas.Bool.Decides.{nat_tests}
 use Rattle.toml_edit_model.specs.Text.{Text}
 use Rattle.toml_edit_model.specs.Trivia.{is_blank, Newline, lf, crlf, newline_text}
-use Rattle.toml_edit_model.specs.Spelling.{Quotes, one_quote, two_quotes, quotes_text, JointPiece, white, line_break, joint_piece_text, IsJointPiece, three}
+use Rattle.toml_edit_model.specs.Spelling.{Quotes, one_quote, two_quotes, quotes_text, JointPiece, white, line_break, joint_piece_text}
+use Rattle.toml_edit_model.specs.Spelling.{IsJointPiece, three}
 use Rattle.toml_edit_laws.specs.reading.Runs.{first, Read}
 use Rattle.toml_edit_laws.specs.reading.Tokens.{prepend}
 use Rattle.toml_edit_laws.specs.reading.BlockReading.{run_of, newline_len, is_gap_byte, gap_len, parts_at}
@@ -154,14 +156,16 @@ gap_rest (x ∷ t) =
     ]
 
 -- gaps are found again
-pub gap_again : (gaps : List JointPiece) (u : Text) → AllByRecursion IsJointPiece gaps → gap_len u ≡ 0 → gap_len (flat_map joint_piece_text gaps ++ u) ≡ length (flat_map joint_piece_text gaps)
+pub gap_again : (gaps : List JointPiece) (u : Text) → AllByRecursion IsJointPiece gaps → gap_len u ≡ 0
+    → gap_len (flat_map joint_piece_text gaps ++ u) ≡ length (flat_map joint_piece_text gaps)
 gap_again [] u each stop = stop
 gap_again (white x ∷ gaps) u each stop =
     let on : is_gap_byte x (first (flat_map joint_piece_text gaps ++ u)) ≡ true = rw each.0 refl in
     gap_on x (flat_map joint_piece_text gaps ++ u) on ∙ ap suc (gap_again gaps u each.1 stop)
 gap_again (line_break lf ∷ gaps) u each stop = gap_on 10 (flat_map joint_piece_text gaps ++ u) refl ∙ ap suc (gap_again gaps u each.1 stop)
 gap_again (line_break crlf ∷ gaps) u each stop =
-    gap_on 13 (10 ∷ (flat_map joint_piece_text gaps ++ u)) refl ∙ ap suc (gap_on 10 (flat_map joint_piece_text gaps ++ u) refl ∙ ap suc (gap_again gaps u each.1 stop))
+    gap_on 13 (10 ∷ (flat_map joint_piece_text gaps ++ u)) refl
+    ∙ ap suc (gap_on 10 (flat_map joint_piece_text gaps ++ u) refl ∙ ap suc (gap_again gaps u each.1 stop))
 
 -- ---- small steps
 
@@ -177,7 +181,8 @@ regroup a b end rest = append_assoc a (b ++ end) rest ∙ ap (λ (x : Text). a +
 
 module _ (part_at : Text → Read Text) (c : ℕ) where
   -- quotes that close nothing
-  pub step_quotes : (q : Quotes) (n : ℕ) (t : Text) → (first t == c) ≡ false → parts_at part_at c (suc n) (quotes_text c q ++ t) ≡ prepend (quotes_text c q) (parts_at part_at c n t)
+  pub step_quotes : (q : Quotes) (n : ℕ) (t : Text) → (first t == c) ≡ false → parts_at part_at c (suc n) (quotes_text c q ++ t)
+      ≡ prepend (quotes_text c q) (parts_at part_at c n t)
   unfolding parts_at
   step_quotes one_quote n t h = rw (eq-eqb c c refl, run_of-other c t h) refl
   step_quotes two_quotes n t h = rw (eq-eqb c c refl, run_of-other c t h) refl
@@ -188,18 +193,21 @@ module _ (part_at : Text → Read Text) (c : ℕ) where
   step_close n t h = rw (eq-eqb c c refl, run_of-other c t h) refl
 
   -- the closing quotes behind quotes of the string
-  pub step_last : (q : Quotes) (n : ℕ) (t : Text) → (first t == c) ≡ false → parts_at part_at c (suc n) (quotes_text c q ++ (three c ++ t)) ≡ Some (quotes_text c q, t)
+  pub step_last : (q : Quotes) (n : ℕ) (t : Text) → (first t == c) ≡ false → parts_at part_at c (suc n) (quotes_text c q ++ (three c ++ t))
+      ≡ Some (quotes_text c q, t)
   unfolding parts_at
   step_last one_quote n t h = rw (eq-eqb c c refl, run_of-other c t h) refl
   step_last two_quotes n t h = rw (eq-eqb c c refl, run_of-other c t h) refl
 
   -- a newline
-  pub step_line : (m : Newline) (n : ℕ) (t : Text) → (10 == c) ≡ false → (13 == c) ≡ false → parts_at part_at c (suc n) (newline_text m ++ t) ≡ prepend (newline_text m) (parts_at part_at c n t)
+  pub step_line : (m : Newline) (n : ℕ) (t : Text) → (10 == c) ≡ false → (13 == c) ≡ false
+      → parts_at part_at c (suc n) (newline_text m ++ t) ≡ prepend (newline_text m) (parts_at part_at c n t)
   unfolding parts_at newline_len
   step_line lf n t feed return = rw feed refl
   step_line crlf n t feed return = rw return refl
 
   -- a part of a line
-  pub step_part : (n : ℕ) (t v u : Text) → (first t == c) ≡ false → newline_len t ≡ 0 → part_at t ≡ Some (v, u) → parts_at part_at c (suc n) t ≡ prepend v (parts_at part_at c n u)
+  pub step_part : (n : ℕ) (t v u : Text) → (first t == c) ≡ false → newline_len t ≡ 0 → part_at t ≡ Some (v, u)
+      → parts_at part_at c (suc n) t ≡ prepend v (parts_at part_at c n u)
   unfolding parts_at
   step_part n t v u h line found = rw (run_of-other c t h, line, found) refl

@@ -1,15 +1,20 @@
 -- What is read as a date-time is spelled so, and what is spelled is read again.
-use Rattle.std.proofs.Common.{◌≡◌, ℕ, not, ◌/◌, ◌%◌, ◌<◌, ◌≤◌, Bool, true, false, ◌&&◌, ◌==◌, List, [], ◌∷◌, ◌++◌, drop, get_or, Option, Some, None, refl, sym, ap, subst, ◌∙◌, inl, inr, arith, append-nil}
+use Rattle.std.proofs.Common.{◌≡◌, ℕ, not, ◌/◌, ◌%◌, ◌<◌, ◌≤◌, Bool, true, false, ◌&&◌, ◌==◌, List, [], ◌∷◌, ◌++◌, drop, get_or, Option}
+use Rattle.std.proofs.Common.{Some, None, refl, sym, ap, subst, ◌∙◌, inl, inr, arith, append-nil}
 use Rattle.std.specs.Prelude.{ℤ}
 use Rattle.std.specs.List.{list_all, AllByRecursion}
 use Rattle.std.specs.Char.{is_digit}
 use Rattle.std.proofs.lemmas.Bool.{and_parts, false≢true}
 use Rattle.std.proofs.lemmas.Bool.Decides.{nat_tests}
 use Rattle.toml_edit_model.specs.Scalars.{Date, Time, Offset, Datetime, zulu, shift, datetime, is_real_date, is_real_time}
-use Rattle.toml_edit_model.specs.Spelling.{Sign, plus, minus, unsigned, sign_text, digit, date_text, clock_text, SpellsOffset, SpellsTime, SpellsParts, SpellsDatetime, is_date_time_mark, is_real_offset, is_in_range, SpellsInteger, truth_text, Digits, digits_text, IsDigits, Base, hexadecimal, octal, binary, base_number, base_prefix}
+use Rattle.toml_edit_model.specs.Spelling.{Sign, plus, minus, unsigned, sign_text, digit, date_text, clock_text, SpellsOffset, SpellsTime}
+use Rattle.toml_edit_model.specs.Spelling.{SpellsParts, SpellsDatetime, is_date_time_mark, is_real_offset, is_in_range, SpellsInteger}
+use Rattle.toml_edit_model.specs.Spelling.{truth_text, Digits, digits_text, IsDigits, Base, hexadecimal, octal, binary, base_number}
+use Rattle.toml_edit_model.specs.Spelling.{base_prefix}
 use Rattle.toml_edit_model.specs.Trivia.{Each}
 use Rattle.toml_edit_laws.specs.reading.Tokens.{whole}
-use Rattle.toml_edit_laws.specs.reading.DatetimeReading.{Parts, OffsetParts, starts_datetime, date_at, time_at, offset_at, after_time, after_date, parts_of, parts_datetime, datetime_of, are_real}
+use Rattle.toml_edit_laws.specs.reading.DatetimeReading.{Parts, OffsetParts, starts_datetime, date_at, time_at, offset_at, after_time}
+use Rattle.toml_edit_laws.specs.reading.DatetimeReading.{after_date, parts_of, parts_datetime, datetime_of, are_real}
 use Rattle.toml_edit_laws.specs.reading.Runs.{Read}
 use Rattle.toml_edit_laws.proofs.reading.Steps.{chosen}
 use Rattle.toml_edit_laws.proofs.common.OptionSteps.{bind_some, map_some, guard_read}
@@ -23,8 +28,10 @@ use Rattle.toml_edit_laws.proofs.spellings.OffsetLaws.{digit-ascii, clock-is}
 pub range_is : (o : Offset) (d : Date) (mark : ℕ) (time text : List ℕ) → SpellsOffset o text
     → is_real_offset o (date_text d ++ mark ∷ time ++ text) ≡ own_range o text
 range_is zulu d mark time text spells = refl
-range_is (shift z) d mark time text (plus, h, m, some, lh, lm, value, same) = rw same (rw (clock-is d mark 43 time (clock_text h m) refl) refl)
-range_is (shift z) d mark time text (minus, h, m, some, lh, lm, value, same) = rw same (rw (clock-is d mark 45 time (clock_text h m) refl) refl)
+range_is (shift z) d mark time text (plus, h, m, some, lh, lm, value, same) =
+    rw same (rw (clock-is d mark 43 time (clock_text h m) refl) refl)
+range_is (shift z) d mark time text (minus, h, m, some, lh, lm, value, same) =
+    rw same (rw (clock-is d mark 45 time (clock_text h m) refl) refl)
 range_is (shift z) d mark time text (unsigned, h, m, some, lh, lm, value, same) = absurd (some refl)
 
 -- ---- reading
@@ -41,25 +48,43 @@ whole_takes (Some (b, c ∷ rest)) a e = absurd cc
 abbrev TakesParts : List ℕ → Parts → Type 0
 TakesParts t p = SpellsDatetime (parts_datetime p) t × (is_in_range (datetime (parts_datetime p)) t ≡ are_real p)
 
-time_parts_take : (t : List ℕ) (time : Time) → time_at t ≡ Some (time, []) → TakesParts t (record { date = None; time = Some time; offset = None })
+time_parts_take : (t : List ℕ) (time : Time) → time_at t ≡ Some (time, [])
+    → TakesParts t (record { date = None; time = Some time; offset = None })
 time_parts_take t time e =
     let (text, spells, same) = time_takes t time [] e in
     (subst (SpellsTime time) (sym (same ∙ append-nil text)) spells, refl)
 
-date_parts_take : (t : List ℕ) (date : Date) → date_at t ≡ Some (date, []) → TakesParts t (record { date = Some date; time = None; offset = None })
+date_parts_take : (t : List ℕ) (date : Date) → date_at t ≡ Some (date, [])
+    → TakesParts t (record { date = Some date; time = None; offset = None })
 date_parts_take t date e = (date_takes t date [] e, refl)
 
 -- with a time, and nothing behind it
-timed_take : (t : List ℕ) (date : Date) (mark : ℕ) (time : Time) (more : List ℕ) → date_at t ≡ Some (date, mark ∷ more) → is_date_time_mark mark ≡ true → time_at more ≡ Some (time, [])
+timed_take : (t : List ℕ) (date : Date) (mark : ℕ) (time : Time) (more : List ℕ) → date_at t ≡ Some (date, mark ∷ more)
+    → is_date_time_mark mark ≡ true → time_at more ≡ Some (time, [])
     → TakesParts t (record { date = Some date; time = Some time; offset = None })
 timed_take t date mark time more found marked read =
     let (ly, lm, ld, front) = date_takes t date (mark ∷ more) found in
-    let (text, spells, back) = time_takes more time [] read in
-    ((date_text date, text, [], mark, (ly, lm, ld, refl), marked, spells, refl, front ∙ ap (λ (x : List ℕ). date_text date ++ mark ∷ x) back), refl)
+    let (text, spells, back) = time_takes more time [] read in (
+      (
+        date_text date,
+        text,
+        [],
+        mark,
+        (ly, lm, ld, refl),
+        marked,
+        spells,
+        refl,
+        front
+            ∙ ap (λ (x : List ℕ). date_text date ++ mark ∷ x) back,
+      ),
+      refl,
+    )
 
 -- with a time and an offset
-offset_take : (t : List ℕ) (date : Date) (mark : ℕ) (time : Time) (offset : OffsetParts) (more rest : List ℕ) → date_at t ≡ Some (date, mark ∷ more) → is_date_time_mark mark ≡ true
-    → time_at more ≡ Some (time, rest) → offset_at rest ≡ Some (offset, []) → TakesParts t (record { date = Some date; time = Some time; offset = Some offset })
+offset_take : (t : List ℕ) (date : Date) (mark : ℕ) (time : Time) (offset : OffsetParts) (more rest : List ℕ) → date_at t
+    ≡ Some (date, mark ∷ more) → is_date_time_mark mark ≡ true
+    → time_at more ≡ Some (time, rest) → offset_at rest ≡ Some (offset, [])
+    → TakesParts t (record { date = Some date; time = Some time; offset = Some offset })
 offset_take t date mark time offset more rest found marked read last =
     let (ly, lm, ld, front) = date_takes t date (mark ∷ more) found in
     let (text, spells, back) = time_takes more time rest read in
@@ -73,12 +98,15 @@ offset_take t date mark time offset more rest found marked read last =
     )
 
 -- what follows a time
-after_time_takes : (t : List ℕ) (date : Date) (mark : ℕ) (time : Time) (more rest : List ℕ) (p : Parts) → date_at t ≡ Some (date, mark ∷ more) → is_date_time_mark mark ≡ true
+after_time_takes : (t : List ℕ) (date : Date) (mark : ℕ) (time : Time) (more rest : List ℕ) (p : Parts) → date_at t
+    ≡ Some (date, mark ∷ more) → is_date_time_mark mark ≡ true
     → time_at more ≡ Some (time, rest) → after_time date time rest ≡ Some p → TakesParts t p
-after_time_takes t date mark time more [] p found marked read e = subst (TakesParts t) (some_same _ p e) (timed_take t date mark time more found marked read)
+after_time_takes t date mark time more [] p found marked read e =
+    subst (TakesParts t) (some_same _ p e) (timed_take t date mark time more found marked read)
 after_time_takes t date mark time more (c ∷ cs) p found marked read e =
     let (offset, last, same) = map_some (whole (offset_at (c ∷ cs))) _ p e in
-    subst (TakesParts t) same (offset_take t date mark time offset more (c ∷ cs) found marked read (whole_takes (offset_at (c ∷ cs)) offset last))
+    subst (TakesParts t) same (offset_take t date mark time offset more (c
+    ∷ cs) found marked read (whole_takes (offset_at (c ∷ cs)) offset last))
 
 -- what follows a date
 after_takes : (t rest : List ℕ) (date : Date) (p : Parts) → date_at t ≡ Some (date, rest) → after_date date rest ≡ Some p → TakesParts t p
@@ -122,7 +150,8 @@ abbrev ReadsParts : List ℕ → Option Date → Option Time → Option Offset �
 ReadsParts t date time offset =
     (p : Parts) × (parts_of t ≡ Some p) × (parts_datetime p ≡ record { date = date; time = time; offset = offset })
 
-read_timed : (d : Date) (time : Time) (mark : ℕ) (text rest : List ℕ) → d.year < 10000 → d.month < 100 → d.day < 100 → is_date_time_mark mark ≡ true
+read_timed : (d : Date) (time : Time) (mark : ℕ) (text rest : List ℕ) → d.year < 10000 → d.month < 100 → d.day < 100
+    → is_date_time_mark mark ≡ true
     → SpellsTime time text → EndsTime rest → parts_of (date_text d ++ mark ∷ text ++ rest) ≡ after_time d time rest
 unfolding parts_of after_date
 read_timed d time mark text rest ly lm ld marked spells ends =
@@ -142,7 +171,8 @@ offset_after d time o (c ∷ cs) spells = rw (offset_again o (c ∷ cs) spells) 
 time_third : (time : Time) (t : List ℕ) → SpellsTime time t → (get_or t 2 0 == 58) ≡ true
 time_third time t (hour, minute, more, seconds, same) = rw same refl
 
-parts_again : (date : Option Date) (time : Option Time) (offset : Option Offset) (t : List ℕ) → SpellsParts date time offset t → ReadsParts t date time offset
+parts_again : (date : Option Date) (time : Option Time) (offset : Option Offset) (t : List ℕ) → SpellsParts date time offset t
+    → ReadsParts t date time offset
 unfolding parts_of after_date
 parts_again (Some d) None None t (ly, lm, ld, same) =
     (record { date = Some d; time = None; offset = None }, rw same (rw (date_apart d.year ly) (rw (date_again d [] ly lm ld) refl)), refl)
@@ -156,7 +186,8 @@ parts_again (Some d) (Some time) None t (first, second, third, mark, (ly, lm, ld
 )
 parts_again (Some d) (Some time) (Some o) t (first, second, third, mark, (ly, lm, ld, front), marked, spells, last, whole_text) = (
   record { date = Some d; time = Some time; offset = Some (offset_parts o (own_range o third)) },
-  rw (whole_text, front) (read_timed d time mark second third ly lm ld marked spells (offset_ends o third last) ∙ offset_after d time o third last),
+  rw (whole_text, front) (read_timed d time mark second third ly lm ld marked spells (offset_ends o third last)
+      ∙ offset_after d time o third last),
   refl,
 )
 parts_again (Some d) None (Some o) t spells = absurd spells
@@ -173,13 +204,24 @@ datetime_again t d spells =
 
 begins_date : (d : Date) (rest : List ℕ) → d.year < 10000 → starts_datetime (date_text d ++ rest) ≡ true
 begins_date d rest h =
-    rw (digit-ascii (d.year / 100 / 10) (omega arith), digit-ascii (d.year / 100 % 10) (omega arith), digit-ascii (d.year % 100 / 10) (omega arith), digit-ascii (d.year % 100 % 10) (omega arith)) refl
+    rw (
+      digit-ascii (d.year / 100 / 10) (omega arith),
+      digit-ascii (d.year / 100 % 10) (omega arith),
+      digit-ascii (d.year % 100 / 10) (omega arith),
+      digit-ascii (d.year % 100 % 10) (omega arith),
+    ) refl
 
 begins_time : (time : Time) (t : List ℕ) → SpellsTime time t → starts_datetime t ≡ true
 begins_time time t (hour, minute, more, seconds, same) =
-    rw same (rw (digit-ascii (time.hour / 10) (omega arith), digit-ascii (time.hour % 10) (omega arith), digit-ascii (time.minute / 10) (omega arith), digit-ascii (time.minute % 10) (omega arith)) refl)
+    rw same (rw (
+      digit-ascii (time.hour / 10) (omega arith),
+      digit-ascii (time.hour % 10) (omega arith),
+      digit-ascii (time.minute / 10) (omega arith),
+      digit-ascii (time.minute % 10) (omega arith),
+    ) refl)
 
-begins_by : (date : Option Date) (time : Option Time) (offset : Option Offset) (t : List ℕ) → SpellsParts date time offset t → starts_datetime t ≡ true
+begins_by : (date : Option Date) (time : Option Time) (offset : Option Offset) (t : List ℕ) → SpellsParts date time offset t
+    → starts_datetime t ≡ true
 begins_by (Some d) None None t (ly, lm, ld, same) = rw same (begins_date d [] ly)
 begins_by None (Some time) None t spells = begins_time time t spells
 begins_by (Some d) (Some time) offset t (first, second, third, mark, (ly, lm, ld, front), marked, spells, last, whole_text) =
@@ -225,11 +267,13 @@ prefixed_bytes binary ds is = is_digits_joined 2 ds (omega arith) is
 
 -- behind its first byte an integer has no `-` and no colon
 integer_bytes : (z : ℤ) (t : List ℕ) → SpellsInteger z t → Each is_joined (drop 1 t)
-integer_bytes z t (inl (s, ds, (is, lead, same), value)) = rw same (decimal_bytes s (digits_text ds) (is_digits_joined 10 ds (omega arith) is))
+integer_bytes z t (inl (s, ds, (is, lead, same), value)) =
+    rw same (decimal_bytes s (digits_text ds) (is_digits_joined 10 ds (omega arith) is))
 integer_bytes z t (inr (b, ds, is, value, same)) = rw same (prefixed_bytes b ds is)
 
 -- a date-time has one
-no_both_bytes : (a b c d e : ℕ) (more : Bool) → starts_datetime (a ∷ b ∷ c ∷ d ∷ e ∷ []) ≡ true → (is_joined b && (is_joined c && (is_joined d && (is_joined e && more)))) ≡ true → ⊥
+no_both_bytes : (a b c d e : ℕ) (more : Bool) → starts_datetime (a ∷ b ∷ c ∷ d ∷ e ∷ []) ≡ true
+    → (is_joined b && (is_joined c && (is_joined d && (is_joined e && more)))) ≡ true → ⊥
 no_both_bytes a b c d e more begins joined = grind (arith, nat_tests)
 
 no_both : (t : List ℕ) → starts_datetime t ≡ true → Each is_joined (drop 1 t) → ⊥

@@ -1,5 +1,6 @@
 -- A field that was read is spelled so, and one that is spelled is read again.
-use Rattle.std.proofs.Common.{◌≡◌, ℕ, ◌+◌, ◌-◌, ◌*◌, ◌/◌, ◌%◌, ◌<◌, ◌≤◌, true, ◌&&◌, ◌==◌, List, [], ◌∷◌, ◌++◌, Option, Some, refl, ap, subst, ◌∙◌, arith, eqb-true}
+use Rattle.std.proofs.Common.{◌≡◌, ℕ, ◌+◌, ◌-◌, ◌*◌, ◌/◌, ◌%◌, ◌<◌, ◌≤◌, true, ◌&&◌, ◌==◌, List, [], ◌∷◌, ◌++◌, Option, Some, refl, ap}
+use Rattle.std.proofs.Common.{subst, ◌∙◌, arith, eqb-true}
 use Rattle.std.specs.Prelude.{option_and_then}
 use Rattle.std.specs.Char.{is_ascii_digit}
 use Rattle.std.proofs.lemmas.Bool.{and_parts}
@@ -51,7 +52,8 @@ byte_takes c (x ∷ more) rest e =
     let here = eqb-true x c same in cc
 
 -- a byte and two digits
-marked_takes : (c : ℕ) (t : List ℕ) (n : ℕ) (rest : List ℕ) → option_and_then two_at (after_byte c t) ≡ Some (n, rest) → (n < 100) × (t ≡ c ∷ two_digits n ++ rest)
+marked_takes : (c : ℕ) (t : List ℕ) (n : ℕ) (rest : List ℕ) → option_and_then two_at (after_byte c t) ≡ Some (n, rest) → (n < 100)
+    × (t ≡ c ∷ two_digits n ++ rest)
 marked_takes c t n rest e =
     let (more, found, read) = bind_some (after_byte c t) two_at (n, rest) e in
     let (small, same) = two_takes more n rest read in
@@ -74,7 +76,8 @@ date_joined d rest c y m e t r1 r2 r3 r4 (lc, ly, lm, le) e1 e2 e3 e4 whole =
     let day = ap (λ (x : Date). x.day) same in
     let high : d.year / 100 ≡ c = omega arith in
     let low : d.year % 100 ≡ y = omega arith in
-    let text : t ≡ two_digits (d.year / 100) ++ two_digits (d.year % 100) ++ 45 ∷ two_digits d.month ++ 45 ∷ two_digits d.day ++ rest = rw (high, low, ← month, ← day, ← tail) cc in
+    let text : t ≡ two_digits (d.year / 100) ++ two_digits (d.year % 100) ++ 45 ∷ two_digits d.month ++ 45 ∷ two_digits d.day ++ rest =
+    rw (high, low, ← month, ← day, ← tail) cc in
     (omega arith, omega arith, omega arith, text)
 
 pub date_takes : (t : List ℕ) (d : Date) (rest : List ℕ) → date_at t ≡ Some (d, rest)
@@ -89,7 +92,12 @@ date_takes t d rest e =
     let (small2, text2) = two_takes century.1 year.0 year.1 found2 in
     let (small3, text3) = marked_takes 45 year.1 month.0 month.1 found3 in
     let (small4, text4) = marked_takes 45 month.1 day.0 day.1 found4 in
-    date_joined d rest century.0 year.0 month.0 day.0 t century.1 year.1 month.1 day.1 (small1, small2, small3, small4) text1 text2 text3 text4 e4
+    date_joined d rest century.0 year.0 month.0 day.0 t century.1 year.1 month.1 day.1 (
+      small1,
+      small2,
+      small3,
+      small4,
+    ) text1 text2 text3 text4 e4
 
 pub date_again : (d : Date) (rest : List ℕ) → d.year < 10000 → d.month < 100 → d.day < 100 → date_at (date_text d ++ rest) ≡ Some (d, rest)
 unfolding date_at
@@ -113,7 +121,8 @@ clock_joined h m a b t r1 r2 rest (la, lb) e1 e2 whole =
     let (eh, em) = same_parts a h b m same in
     (omega arith, omega arith, rw (← eh, ← em, ← tail) cc)
 
-pub clock_takes : (t : List ℕ) (h m : ℕ) (rest : List ℕ) → clock_at t ≡ Some ((h, m), rest) → (h < 100) × (m < 100) × (t ≡ clock_text h m ++ rest)
+pub clock_takes : (t : List ℕ) (h m : ℕ) (rest : List ℕ) → clock_at t ≡ Some ((h, m), rest) → (h < 100) × (m < 100)
+    × (t ≡ clock_text h m ++ rest)
 unfolding clock_at
 clock_takes t h m rest e =
     let (hour, found1, e1) = bind_some (two_at t) _ ((h, m), rest) e in

@@ -8,7 +8,8 @@ use Rattle.std.proofs.lemmas.Str.{IsCharBoundary-past_char}
 use Rattle.toml_edit_model.specs.Text.{Text}
 use Rattle.toml_edit_laws.specs.reading.Runs.{first}
 
-pub bom_boundary : (s : Text) → IsUtf8 s → ((first s == 0xEF && slice_index s 1 == 0xBB) && slice_index s 2 == 0xBF) ≡ true → IsCharBoundary s 3
+pub bom_boundary : (s : Text) → IsUtf8 s → ((first s == 0xEF && slice_index s 1 == 0xBB) && slice_index s 2 == 0xBF) ≡ true
+    → IsCharBoundary s 3
 unfolding encode
 bom_boundary [] utf8 h = absurd (false≢true h)
 bom_boundary (a ∷ []) utf8 h = absurd (grind (arith, nat_tests))

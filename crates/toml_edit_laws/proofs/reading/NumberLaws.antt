@@ -1,5 +1,6 @@
 -- What reads as an integer is one, and an integer is read again.
-use Rattle.std.proofs.Common.{◌≡◌, ℕ, suc, ◌+◌, ◌*◌, ◌<◌, ◌≤◌, Bool, true, false, ◌==◌, ◌&&◌, List, [], ◌∷◌, ◌++◌, length, map, get_or, drop, nat_lt, Some, None, refl, sym, ap, subst, ◌∙◌, inl, inr, arith, eqb-true}
+use Rattle.std.proofs.Common.{◌≡◌, ℕ, suc, ◌+◌, ◌*◌, ◌<◌, ◌≤◌, Bool, true, false, ◌==◌, ◌&&◌, List, [], ◌∷◌, ◌++◌, length, map, get_or}
+use Rattle.std.proofs.Common.{drop, nat_lt, Some, None, refl, sym, ap, subst, ◌∙◌, inl, inr, arith, eqb-true}
 use Rattle.std.specs.Prelude.{ℤ, pos}
 use Rattle.std.specs.List.{AllByRecursion}
 use Rattle.std.specs.Char.{is_digit, digit_value}
@@ -8,7 +9,8 @@ use Rattle.std.proofs.lemmas.Bool.{and_parts, ne_eqb, eq-eqb, false≢true, lt-l
 use Rattle.std.proofs.lemmas.Bool.Decides.{nat_tests}
 use Rattle.std.proofs.lemmas.List.{length-append}
 use Rattle.toml_edit_model.specs.Trivia.{Each}
-use Rattle.toml_edit_model.specs.Spelling.{Digits, digit_text, digits_text, IsDigits, number, HasNoLeadingZero, Sign, plus, minus, unsigned, signed, Base, hexadecimal, octal, binary, base_number, SpellsInteger}
+use Rattle.toml_edit_model.specs.Spelling.{Digits, digit_text, digits_text, IsDigits, number, HasNoLeadingZero, Sign, plus, minus, unsigned}
+use Rattle.toml_edit_model.specs.Spelling.{signed, Base, hexadecimal, octal, binary, base_number, SpellsInteger}
 use Rattle.toml_edit_laws.specs.reading.Runs.{first, is_word_byte}
 use Rattle.toml_edit_laws.specs.reading.Tokens.{digits_at, natural_of, leads_with_zero, decimal_of, prefixed_of, integer_of}
 use Rattle.toml_edit_laws.proofs.reading.Steps.{chosen, starts}
@@ -30,7 +32,8 @@ abbrev TakesDigits : ℕ → Bool → ℕ → List ℕ → ℕ → Type 0
 TakesDigits base after_digit n text m = (ds : Digits) × After base after_digit ds × (text ≡ digits_text ds) × (m ≡ value_after base n ds)
 
 -- one digit more at the front
-digits_more : (base : ℕ) (after_digit : Bool) (n c m : ℕ) (cs : List ℕ) → is_digit c base ≡ true → TakesDigits base true (n * base + digit_value c) cs m → TakesDigits base after_digit n (c ∷ cs) m
+digits_more : (base : ℕ) (after_digit : Bool) (n c m : ℕ) (cs : List ℕ) → is_digit c base ≡ true
+    → TakesDigits base true (n * base + digit_value c) cs m → TakesDigits base after_digit n (c ∷ cs) m
 digits_more base true n c m cs h (ds, each, parts, value) = ((false, c) ∷ ds, (h, each), ap (λ (x : List ℕ). c ∷ x) parts, value)
 digits_more base false n c m cs h (ds, each, parts, value) = ((false, c) ∷ ds, (refl, (h, each)), ap (λ (x : List ℕ). c ∷ x) parts, value)
 
@@ -41,7 +44,8 @@ digits_under base n m cs ((false, d) ∷ ds, (first, each), parts, value) = ((tr
 digits_under base n m cs ((true, d) ∷ ds, (first, each), parts, value) = absurd (false≢true (sym first))
 
 -- what reads as digits is digits
-digits_takes : (base : ℕ) (after_digit : Bool) (n m : ℕ) (text : List ℕ) → digits_at base after_digit n text ≡ Some m → TakesDigits base after_digit n text m
+digits_takes : (base : ℕ) (after_digit : Bool) (n m : ℕ) (text : List ℕ) → digits_at base after_digit n text ≡ Some m
+    → TakesDigits base after_digit n text m
 unfolding digits_at
 digits_takes base true n m [] e = ([], tt, refl, cc)
 digits_takes base false n m [] e = absurd cc
@@ -52,7 +56,8 @@ digits_takes base after_digit n m (c ∷ cs) e =
           let (both, g) = guard_read (after_digit && c == 95) (digits_at base false n cs) m f in
           let (after, under) = and_parts after_digit (c == 95) both in
           let more = digits_under base n m cs (digits_takes base false n m cs g) in
-          subst (λ (b : Bool). TakesDigits base b n (c ∷ cs) m) (sym after) (subst (λ (x : ℕ). TakesDigits base true n (x ∷ cs) m) (sym (eqb-true c 95 under)) more)
+          subst (λ (b : Bool). TakesDigits base b n (c ∷ cs) m) (sym after)
+          (subst (λ (x : ℕ). TakesDigits base true n (x ∷ cs) m) (sym (eqb-true c 95 under)) more)
     ]
 
 -- an underscore is no digit
@@ -60,7 +65,8 @@ under_apart : (base : ℕ) → base ≤ 16 → is_digit 95 base ≡ false
 under_apart base h = grind (arith, nat_tests)
 
 -- digits behind a digit are read again
-digits_again : (base : ℕ) (n : ℕ) (ds : Digits) → base ≤ 16 → After base true ds → digits_at base true n (digits_text ds) ≡ Some (value_after base n ds)
+digits_again : (base : ℕ) (n : ℕ) (ds : Digits) → base ≤ 16 → After base true ds → digits_at base true n (digits_text ds)
+    ≡ Some (value_after base n ds)
 unfolding digits_at
 digits_again base n [] h each = refl
 digits_again base n ((false, d) ∷ ds) h each = rw each.0 (digits_again base (n * base + digit_value d) ds h each.1)
@@ -86,7 +92,8 @@ zero_takes [] r is h = absurd is
 zero_takes (d ∷ []) r is h = tt
 zero_takes ((true, c) ∷ e ∷ ds) r (first, each) h = absurd (false≢true (sym first))
 zero_takes ((false, c) ∷ e ∷ ds) r is h = λ same.
-    let long : nat_lt 1 (suc (length (digit_text e ++ digits_text ds))) ≡ true = lt-ltb _ _ (omega (arith, length-append (digit_text e) (digits_text ds), digit_some e)) in
+    let long : nat_lt 1 (suc (length (digit_text e ++ digits_text ds))) ≡ true =
+    lt-ltb _ _ (omega (arith, length-append (digit_text e) (digits_text ds), digit_some e)) in
     false≢true (sym h ∙ rw (eq-eqb c 48 same, long) refl)
 
 -- and the other way round
@@ -115,7 +122,8 @@ decimal_takes s text z e =
     ]
 
 -- decimal digits are read again
-decimal_again : (s : Sign) (ds : Digits) → IsDigits 10 ds → HasNoLeadingZero ds → decimal_of s (digits_text ds) ≡ Some (signed s (number 10 ds))
+decimal_again : (s : Sign) (ds : Digits) → IsDigits 10 ds → HasNoLeadingZero ds → decimal_of s (digits_text ds)
+    ≡ Some (signed s (number 10 ds))
 unfolding decimal_of
 decimal_again s ds is lead = rw (zero_again ds 10 is lead, digits_start 10 ds (omega arith) is) refl
 
@@ -138,7 +146,8 @@ base_small octal = omega arith
 base_small binary = omega arith
 
 -- digits of a base are read again
-prefixed_again : (b : Base) (ds : Digits) → IsDigits (base_number b) ds → prefixed_of b (digits_text ds) ≡ Some (pos (number (base_number b) ds))
+prefixed_again : (b : Base) (ds : Digits) → IsDigits (base_number b) ds → prefixed_of b (digits_text ds)
+    ≡ Some (pos (number (base_number b) ds))
 unfolding prefixed_of
 prefixed_again b ds is = rw (digits_start (base_number b) ds (base_small b) is) refl
 
@@ -149,7 +158,8 @@ base_letter octal = 0x6F
 base_letter binary = 0x62
 
 -- a word that begins with 0 and the letter of a base
-starts_base : (word : List ℕ) (b : Base) → (first word == 0x30 && get_or word 1 0 == base_letter b) ≡ true → word ≡ 0x30 ∷ base_letter b ∷ drop 2 word
+starts_base : (word : List ℕ) (b : Base) → (first word == 0x30 && get_or word 1 0 == base_letter b) ≡ true → word ≡ 0x30 ∷ base_letter b
+    ∷ drop 2 word
 starts_base [] b h = absurd cc
 starts_base (x ∷ []) hexadecimal h = absurd (grind (arith, nat_tests))
 starts_base (x ∷ []) octal h = absurd (grind (arith, nat_tests))
@@ -159,7 +169,8 @@ starts_base (x ∷ y ∷ rest) b h =
     ap (λ (c : ℕ). c ∷ y ∷ rest) (eqb-true x 0x30 zero_first) ∙ ap (λ (c : ℕ). 0x30 ∷ c ∷ rest) (eqb-true y (base_letter b) letter_next)
 
 -- a word with a prefix is an integer
-base_integer : (b : Base) (word : List ℕ) (z : ℤ) → (first word == 0x30 && get_or word 1 0 == base_letter b) ≡ true → prefixed_of b (drop 2 word) ≡ Some z → SpellsInteger z word
+base_integer : (b : Base) (word : List ℕ) (z : ℤ) → (first word == 0x30 && get_or word 1 0 == base_letter b) ≡ true
+    → prefixed_of b (drop 2 word) ≡ Some z → SpellsInteger z word
 base_integer hexadecimal word z h e =
     let (ds, is, value, parts) = prefixed_takes hexadecimal (drop 2 word) z e in
     inr (hexadecimal, ds, is, value, starts_base word hexadecimal h ∙ ap (λ (x : List ℕ). 0x30 ∷ 0x78 ∷ x) parts)
@@ -203,14 +214,21 @@ digit_not c k is below = grind (arith, nat_tests)
 
 -- what plain digits begin with
 abbrev Plain : List ℕ → Type 0
-Plain t = ((first t == 48 && get_or t 1 0 == 120) ≡ false) × ((first t == 48 && get_or t 1 0 == 111) ≡ false) × ((first t == 48 && get_or t 1 0 == 98) ≡ false)
+Plain t = ((first t == 48 && get_or t 1 0 == 120) ≡ false) × ((first t == 48 && get_or t 1 0 == 111) ≡ false)
+    × ((first t == 48 && get_or t 1 0 == 98) ≡ false)
     × ((first t == 43) ≡ false) × ((first t == 45) ≡ false)
 
 -- decimal digits begin with no prefix and no sign
 plain_digits : (ds : Digits) → IsDigits 10 ds → HasNoLeadingZero ds → Plain (digits_text ds)
 plain_digits [] is lead = absurd is
 plain_digits ((true, c) ∷ ds) (has, each) lead = absurd (false≢true (sym has))
-plain_digits ((false, c) ∷ []) (has, each) lead = (grind (arith, nat_tests), grind (arith, nat_tests), grind (arith, nat_tests), digit_not c 43 each.0 (omega arith), digit_not c 45 each.0 (omega arith))
+plain_digits ((false, c) ∷ []) (has, each) lead = (
+  grind (arith, nat_tests),
+  grind (arith, nat_tests),
+  grind (arith, nat_tests),
+  digit_not c 43 each.0 (omega arith),
+  digit_not c 45 each.0 (omega arith),
+)
 plain_digits ((false, c) ∷ e ∷ ds) (has, each) lead =
     let none : (c == 48) ≡ false = ne_eqb c 48 lead in
     (rw none refl, rw none refl, rw none refl, digit_not c 43 each.0 (omega arith), digit_not c 45 each.0 (omega arith))
@@ -219,11 +237,13 @@ plain_digits ((false, c) ∷ e ∷ ds) (has, each) lead =
 pub integer_again : (word : List ℕ) (z : ℤ) → SpellsInteger z word → integer_of word ≡ Some z
 unfolding integer_of
 integer_again word z (inl (plus, ds, (is, lead, parts), value)) = ap integer_of parts ∙ decimal_again plus ds is lead ∙ ap Some (sym value)
-integer_again word z (inl (minus, ds, (is, lead, parts), value)) = ap integer_of parts ∙ decimal_again minus ds is lead ∙ ap Some (sym value)
+integer_again word z (inl (minus, ds, (is, lead, parts), value)) = ap integer_of parts ∙ decimal_again minus ds is lead
+    ∙ ap Some (sym value)
 integer_again word z (inl (unsigned, ds, (is, lead, parts), value)) =
     let (a, b, c, d, e) = plain_digits ds is lead in
     ap integer_of parts ∙ rw (a, b, c, d, e) (decimal_again unsigned ds is lead) ∙ ap Some (sym value)
-integer_again word z (inr (hexadecimal, ds, is, value, parts)) = ap integer_of parts ∙ prefixed_again hexadecimal ds is ∙ ap Some (sym value)
+integer_again word z (inr (hexadecimal, ds, is, value, parts)) = ap integer_of parts ∙ prefixed_again hexadecimal ds is
+    ∙ ap Some (sym value)
 integer_again word z (inr (octal, ds, is, value, parts)) = ap integer_of parts ∙ prefixed_again octal ds is ∙ ap Some (sym value)
 integer_again word z (inr (binary, ds, is, value, parts)) = ap integer_of parts ∙ prefixed_again binary ds is ∙ ap Some (sym value)
 
@@ -267,7 +287,8 @@ begins_digits ((false, c) ∷ ds) (has, each) = (c, digits_text ds, refl, digit_
 pub integer_begins : (word : List ℕ) (z : ℤ) → SpellsInteger z word → BeginsNumber word
 integer_begins word z (inl (plus, ds, (is, lead, parts), value)) = (43, _, parts, refl, omega arith)
 integer_begins word z (inl (minus, ds, (is, lead, parts), value)) = (45, _, parts, refl, omega arith)
-integer_begins word z (inl (unsigned, ds, (is, lead, parts), value)) = let (c, cs, e, w, l) = begins_digits ds is in (c, cs, parts ∙ e, w, l)
+integer_begins word z (inl (unsigned, ds, (is, lead, parts), value)) = let (c, cs, e, w, l) = begins_digits ds is in
+    (c, cs, parts ∙ e, w, l)
 integer_begins word z (inr (hexadecimal, ds, is, value, parts)) = (48, _, parts, refl, omega arith)
 integer_begins word z (inr (octal, ds, is, value, parts)) = (48, _, parts, refl, omega arith)
 integer_begins word z (inr (binary, ds, is, value, parts)) = (48, _, parts, refl, omega arith)

@@ -1,5 +1,6 @@
 -- An offset that was read is spelled so, and one that is spelled is read again.
-use Rattle.std.proofs.Common.{◌≡◌, ◌≢◌, ℕ, ◌+◌, ◌*◌, ◌<◌, Bool, true, ◌&&◌, ◌==◌, nat_lt, List, [], ◌∷◌, ◌++◌, take, drop, Some, refl, sym, ap, subst, ◌∙◌, inl, inr, eqb-true}
+use Rattle.std.proofs.Common.{◌≡◌, ◌≢◌, ℕ, ◌+◌, ◌*◌, ◌<◌, Bool, true, ◌&&◌, ◌==◌, nat_lt, List, [], ◌∷◌, ◌++◌, take, drop, Some, refl, sym}
+use Rattle.std.proofs.Common.{ap, subst, ◌∙◌, inl, inr, eqb-true}
 use Rattle.std.specs.Prelude.{ℤ, pos, neg_ℤ}
 use Rattle.std.specs.Str.Parse.{digits_value}
 use Rattle.std.proofs.lemmas.Bool.{or_cases}
@@ -38,15 +39,25 @@ zulu_takes c more h =
       | inr small ↦ (122 ∷ [], inr refl, ap (λ (x : ℕ). x ∷ more) (eqb-true c 122 small), refl)
     ]
 
-plus_takes : (t : List ℕ) (h m : ℕ) (rest : List ℕ) → clock_at t ≡ Some ((h, m), rest) → TakesOffset (43 ∷ t) (shift_parts (pos (60 * h + m)) h m) rest
+plus_takes : (t : List ℕ) (h m : ℕ) (rest : List ℕ) → clock_at t ≡ Some ((h, m), rest)
+    → TakesOffset (43 ∷ t) (shift_parts (pos (60 * h + m)) h m) rest
 plus_takes t h m rest e =
-    let (lh, lm, text) = clock_takes t h m rest e in
-    (43 ∷ clock_text h m, (plus, h, m, (λ x. cc), lh, lm, refl, refl), ap (λ (x : List ℕ). 43 ∷ x) text, sym (clock_range 43 h m (pos (60 * h + m)) lh lm))
+    let (lh, lm, text) = clock_takes t h m rest e in (
+      43 ∷ clock_text h m,
+      (plus, h, m, (λ x. cc), lh, lm, refl, refl),
+      ap (λ (x : List ℕ). 43 ∷ x) text,
+      sym (clock_range 43 h m (pos (60 * h + m)) lh lm),
+    )
 
-minus_takes : (t : List ℕ) (h m : ℕ) (rest : List ℕ) → clock_at t ≡ Some ((h, m), rest) → TakesOffset (45 ∷ t) (shift_parts (neg_ℤ (pos (60 * h + m))) h m) rest
+minus_takes : (t : List ℕ) (h m : ℕ) (rest : List ℕ) → clock_at t ≡ Some ((h, m), rest)
+    → TakesOffset (45 ∷ t) (shift_parts (neg_ℤ (pos (60 * h + m))) h m) rest
 minus_takes t h m rest e =
-    let (lh, lm, text) = clock_takes t h m rest e in
-    (45 ∷ clock_text h m, (minus, h, m, (λ x. cc), lh, lm, refl, refl), ap (λ (x : List ℕ). 45 ∷ x) text, sym (clock_range 45 h m (neg_ℤ (pos (60 * h + m))) lh lm))
+    let (lh, lm, text) = clock_takes t h m rest e in (
+      45 ∷ clock_text h m,
+      (minus, h, m, (λ x. cc), lh, lm, refl, refl),
+      ap (λ (x : List ℕ). 45 ∷ x) text,
+      sym (clock_range 45 h m (neg_ℤ (pos (60 * h + m))) lh lm),
+    )
 
 -- along equations of what was read
 takes_along : (t : List ℕ) (o p : OffsetParts) (r rest : List ℕ) → o ≡ p → r ≡ rest → TakesOffset t o r → TakesOffset t p rest
@@ -57,17 +68,20 @@ unfolding offset_at
 offset_takes [] o rest e = absurd cc
 offset_takes (c ∷ more) o rest e =
     elim (chosen (is_zulu c) _ _ (Some (o, rest)) e) [
-      | inl (z, f) ↦ let (same, tail) = some_pair_parts (record { offset = zulu; is_real = true }) o more rest f in takes_along (c ∷ more) (record { offset = zulu; is_real = true }) o more rest same tail (zulu_takes c more z)
+      | inl (z, f) ↦ let (same, tail) = some_pair_parts (record { offset = zulu; is_real = true }) o more rest f in
+          takes_along (c ∷ more) (record { offset = zulu; is_real = true }) o more rest same tail (zulu_takes c more z)
       | inr (_, f) ↦ elim (chosen (c == 43) _ _ (Some (o, rest)) f) [
         | inl (p, g) ↦
             let (clock, found, same) = map_some (clock_at more) _ (o, rest) g in
             let (eo, tail) = same_parts (shift_parts (pos (60 * clock.0.0 + clock.0.1)) clock.0.0 clock.0.1) o clock.1 rest same in
-            subst (λ (x : ℕ). TakesOffset (x ∷ more) o rest) (sym (eqb-true c 43 p)) (takes_along (43 ∷ more) _ o clock.1 rest eo tail (plus_takes more clock.0.0 clock.0.1 clock.1 found))
+            subst (λ (x : ℕ). TakesOffset (x ∷ more) o rest) (sym (eqb-true c 43 p)) (takes_along (43
+            ∷ more) _ o clock.1 rest eo tail (plus_takes more clock.0.0 clock.0.1 clock.1 found))
         | inr (_, g) ↦
             let (m, h) = guard_read (c == 45) _ (o, rest) g in
             let (clock, found, same) = map_some (clock_at more) _ (o, rest) h in
             let (eo, tail) = same_parts (shift_parts (neg_ℤ (pos (60 * clock.0.0 + clock.0.1))) clock.0.0 clock.0.1) o clock.1 rest same in
-            subst (λ (x : ℕ). TakesOffset (x ∷ more) o rest) (sym (eqb-true c 45 m)) (takes_along (45 ∷ more) _ o clock.1 rest eo tail (minus_takes more clock.0.0 clock.0.1 clock.1 found))
+            subst (λ (x : ℕ). TakesOffset (x ∷ more) o rest) (sym (eqb-true c 45 m)) (takes_along (45
+            ∷ more) _ o clock.1 rest eo tail (minus_takes more clock.0.0 clock.0.1 clock.1 found))
       ]
     ]
 
@@ -84,7 +98,8 @@ shift_again plus h m some lh lm = rw (clock_again h m [] lh lm) refl
 shift_again minus h m some lh lm = rw (clock_again h m [] lh lm) refl
 shift_again unsigned h m some lh lm = absurd (some refl)
 
-pub sign_range : (s : Sign) (h m : ℕ) (z : ℤ) → s ≢ unsigned → h < 100 → m < 100 → own_range (shift z) (sign_text s ++ clock_text h m) ≡ (nat_lt h 24 && nat_lt m 60)
+pub sign_range : (s : Sign) (h m : ℕ) (z : ℤ) → s ≢ unsigned → h < 100 → m < 100 → own_range (shift z) (sign_text s ++ clock_text h m)
+    ≡ (nat_lt h 24 && nat_lt m 60)
 sign_range plus h m z some lh lm = clock_range 43 h m z lh lm
 sign_range minus h m z some lh lm = clock_range 45 h m z lh lm
 sign_range unsigned h m z some lh lm = absurd (some refl)
@@ -94,7 +109,8 @@ unfolding offset_at
 offset_again zulu text (inl e) = rw e refl
 offset_again zulu text (inr e) = rw e refl
 offset_again (shift z) text (s, h, m, some, lh, lm, value, same) =
-    rw (same, value) (shift_again s h m some lh lm ∙ ap (λ (b : Bool). Some (offset_parts (shift (signed s (60 * h + m))) b, [])) (sym (sign_range s h m (signed s (60 * h + m)) some lh lm)))
+    rw (same, value) (shift_again s h m some lh lm ∙ ap (λ (b : Bool). Some (offset_parts (shift (signed s (60 * h + m))) b, []))
+    (sym (sign_range s h m (signed s (60 * h + m)) some lh lm)))
 
 -- an offset ends a time
 sign_ends : (s : Sign) (h m : ℕ) → s ≢ unsigned → EndsTime (sign_text s ++ clock_text h m)
@@ -110,5 +126,6 @@ offset_ends (shift z) text (s, h, m, some, lh, lm, value, same) = rw same (sign_
 -- A text spells at most one offset: that which is read from it.
 pub one-offset : OneOffset
 one-offset o p t h g =
-    let both : Some (offset_parts o (own_range o t), []) ≡ Some (offset_parts p (own_range p t), []) = sym (offset_again o t h) ∙ offset_again p t g in
+    let both : Some (offset_parts o (own_range o t), []) ≡ Some (offset_parts p (own_range p t), []) = sym (offset_again o t h)
+    ∙ offset_again p t g in
     ap (λ (q : OffsetParts). q.offset) (some_pair_parts (offset_parts o (own_range o t)) (offset_parts p (own_range p t)) [] [] both).0

@@ -1,5 +1,6 @@
 -- Runs of bytes: where they end, and how they are found again.
-use Rattle.std.proofs.Common.{◌≡◌, ℕ, zero, suc, ◌<◌, Bool, true, false, List, [], ◌∷◌, ◌++◌, length, get_or, IsUtf8, refl, sym, subst, ◌∙◌, inl, inr, arith, add-one, one-add, take_at, drop_at}
+use Rattle.std.proofs.Common.{◌≡◌, ℕ, zero, suc, ◌<◌, Bool, true, false, List, [], ◌∷◌, ◌++◌, length, get_or, IsUtf8, refl, sym, subst, ◌∙◌}
+use Rattle.std.proofs.Common.{inl, inr, arith, add-one, one-add, take_at, drop_at}
 use Rattle.std.proofs.lemmas.Bool.{cases_lt, cases_Bool, and_parts}
 use Rattle.std.proofs.lemmas.List.{get_or_past}
 use Rattle.std.proofs.lemmas.List.Folds.{length-prefix_len}
@@ -14,13 +15,16 @@ use Rattle.toml_edit_laws.specs.reading.Runs.{first, split_while}
 pub within_from_byte : (xs : List ℕ) (i : ℕ) → 0 < get_or xs i 0 → i < length xs
 within_from_byte xs i h = elim (cases_lt i (length xs)) [ inl within ↦ within | inr past ↦ absurd (omega (arith, get_or_past xs i 0 past)) ]
 
-after_ascii_run : (p : ℕ → Bool) (bs : List ℕ) (n : ℕ) → prefix_len p bs ≡ n → IsUtf8 bs → ((c : ℕ) → p c ≡ true → c < 128) → IsCharBoundary bs n
+after_ascii_run : (p : ℕ → Bool) (bs : List ℕ) (n : ℕ) → prefix_len p bs ≡ n → IsUtf8 bs → ((c : ℕ) → p c ≡ true → c < 128)
+    → IsCharBoundary bs n
 after_ascii_run p bs zero e utf8 ascii = IsCharBoundary-start bs utf8
 after_ascii_run p bs (suc k) e utf8 ascii =
-    rw (← add-one) (IsCharBoundary-after_ascii bs k utf8 (omega (arith, prefix_len-le-length p bs)) (ascii _ (prefix_len_passes p bs k 0 (omega arith))))
+    rw (← add-one) (IsCharBoundary-after_ascii bs k utf8 (omega (arith, prefix_len-le-length p bs))
+    (ascii _ (prefix_len_passes p bs k 0 (omega arith))))
 
 -- a run of ASCII bytes ends where a character does
-pub IsCharBoundary-ascii_run : (p : ℕ → Bool) (bs : List ℕ) → IsUtf8 bs → ((c : ℕ) → p c ≡ true → c < 128) → IsCharBoundary bs (prefix_len p bs)
+pub IsCharBoundary-ascii_run : (p : ℕ → Bool) (bs : List ℕ) → IsUtf8 bs → ((c : ℕ) → p c ≡ true → c < 128)
+    → IsCharBoundary bs (prefix_len p bs)
 IsCharBoundary-ascii_run p bs = after_ascii_run p bs _ refl
 
 -- and so does a run that only an ASCII byte stops

@@ -1,5 +1,6 @@
 -- Tests that were passed, and the front of a text.
-use Rattle.std.proofs.Common.{◌≡◌, ℕ, ◌<◌, Bool, true, false, cond, ◌==◌, List, [], ◌∷◌, ◌++◌, ◌⊎◌, drop, Some, None, refl, sym, ap, inl, inr, arith, eqb-true}
+use Rattle.std.proofs.Common.{◌≡◌, ℕ, ◌<◌, Bool, true, false, cond, ◌==◌, List, [], ◌∷◌, ◌++◌, ◌⊎◌, drop, Some, None, refl, sym, ap, inl}
+use Rattle.std.proofs.Common.{inr, arith, eqb-true}
 use Rattle.std.specs.List.{prefix_len}
 use Rattle.std.proofs.lemmas.List.{take-append-drop}
 use Rattle.toml_edit_laws.specs.reading.Runs.{first, split_while}

@@ -1,5 +1,7 @@
 -- What reads as a string of one line is one, and such a string is read again.
-use Rattle.std.proofs.Common.{◌⊎◌, ◌≡◌, ℕ, zero, suc, ◌<◌, true, ◌==◌, ◌&&◌, List, [], ◌∷◌, ◌++◌, length, drop, take, Option, Some, None, is_some, unwrap_or, refl, sym, ap, subst, ◌∙◌, inl, inr, arith, append_assoc, encode_utf8, take_at, drop_at, eqb-true, nat_lt, nat_le}
+use Rattle.std.proofs.Common.{◌⊎◌, ◌≡◌, ℕ, zero, suc, ◌<◌, true, ◌==◌, ◌&&◌, List, [], ◌∷◌, ◌++◌, length, drop, take, Option, Some, None}
+use Rattle.std.proofs.Common.{is_some, unwrap_or, refl, sym, ap, subst, ◌∙◌, inl, inr, arith, append_assoc, encode_utf8, take_at, drop_at}
+use Rattle.std.proofs.Common.{eqb-true, nat_lt, nat_le}
 use Rattle.std.specs.Prelude.{option_map}
 use Rattle.std.specs.List.{prefix_len, flat_map, AllByRecursion, list_all}
 use Rattle.std.specs.Char.{is_digit}
@@ -8,7 +10,8 @@ use Rattle.std.proofs.lemmas.Bool.{and_parts, leb-true, le-leb, ltb-true, lt-ltb
 use Rattle.std.proofs.lemmas.Bool.Decides.{nat_tests}
 use Rattle.std.proofs.lemmas.List.{take-append-drop, length-append, length-take-le}
 use Rattle.toml_edit_model.specs.Trivia.{Each}
-use Rattle.toml_edit_model.specs.Spelling.{SpellsBasic, SpellsLiteral, Part, plain, letter, numbered, part_text, part_value, IsPart, short_escape, hex_digits, is_scalar_value, is_plain, is_literal}
+use Rattle.toml_edit_model.specs.Spelling.{SpellsBasic, SpellsLiteral, Part, plain, letter, numbered, part_text, part_value, IsPart}
+use Rattle.toml_edit_model.specs.Spelling.{short_escape, hex_digits, is_scalar_value, is_plain, is_literal}
 use Rattle.toml_edit_laws.specs.reading.Runs.{first, Read}
 use Rattle.toml_edit_laws.specs.reading.Tokens.{prepend, hex_at, escape_at, literal_at, basic_at, string_at}
 use Rattle.toml_edit_laws.proofs.reading.RunLaws.{Each-run, prefix_len-run}
@@ -24,13 +27,15 @@ literal_takes text v rest e =
     let n = prefix_len is_literal text in
     let (stop, same) = guard_some (first (drop n text) == 39) (take n text, drop 1 (drop n text)) (v, rest) e in
     let (value, after) = same_parts (take n text) v (drop 1 (drop n text)) rest same in
-    let whole : text ≡ take n text ++ (39 ∷ drop 1 (drop n text)) = sym (take-append-drop n text) ∙ ap (λ (t : List ℕ). take n text ++ t) (starts (drop n text) 39 stop (omega arith)) in
+    let whole : text ≡ take n text ++ (39 ∷ drop 1 (drop n text)) = sym (take-append-drop n text)
+    ∙ ap (λ (t : List ℕ). take n text ++ t) (starts (drop n text) 39 stop (omega arith)) in
     (subst (Each is_literal) value (Each-run is_literal text), whole ∙ rw (value, after) refl)
 
 -- a literal string is read again
 pub literal_again : (v rest : List ℕ) → Each is_literal v → literal_at (v ++ 39 ∷ rest) ≡ Some (v, rest)
 unfolding literal_at
-literal_again v rest h = rw (prefix_len-run is_literal v (39 ∷ rest) h refl, take_at v (39 ∷ rest) _ refl, drop_at v (39 ∷ rest) _ refl) refl
+literal_again v rest h =
+    rw (prefix_len-run is_literal v (39 ∷ rest) h refl, take_at v (39 ∷ rest) _ refl, drop_at v (39 ∷ rest) _ refl) refl
 
 -- ---- escapes
 
@@ -47,12 +52,18 @@ escape_takes (x ∷ xs) rest c e =
       | inl (long, h) ↦
           let n = hex_digits x in
           let (tests, same) = guard_some _ (digits_value 16 (take n xs), drop n xs) (c, rest) h in
-          let (digits, scalar) = and_parts (nat_le n (length xs) && list_all (λ d. is_digit d 16) (take n xs)) (is_scalar_value (digits_value 16 (take n xs))) tests in
+          let (digits, scalar) =
+          and_parts (nat_le n (length xs) && list_all (λ d. is_digit d 16) (take n xs)) (is_scalar_value (digits_value 16 (take n xs)))
+          tests in
           let (room, each) = and_parts (nat_le n (length xs)) (list_all (λ d. is_digit d 16) (take n xs)) digits in
           let len : length (take n xs) ≡ n = length-take-le n xs (leb-true _ _ room) in
           let some : 0 < length (take n xs) = omega (arith, ltb-true _ _ long) in
-          let (value, after) = same_parts (digits_value 16 (take n xs)) c (drop n xs) rest same in
-          (numbered x (take n xs), (some, len, each, scalar), ap encode_utf8 (sym value), ap (λ (t : List ℕ). 92 ∷ x ∷ t) (sym (take-append-drop n xs) ∙ ap (λ (t : List ℕ). take n xs ++ t) after))
+          let (value, after) = same_parts (digits_value 16 (take n xs)) c (drop n xs) rest same in (
+            numbered x (take n xs),
+            (some, len, each, scalar),
+            ap encode_utf8 (sym value),
+            ap (λ (t : List ℕ). 92 ∷ x ∷ t) (sym (take-append-drop n xs) ∙ ap (λ (t : List ℕ). take n xs ++ t) after),
+          )
       | inr (short, h) ↦
           let (d, known, same) = map_some (short_escape x) (λ d. (d, xs)) (c, rest) h in
           let (value, after) = same_parts d c xs rest same in
@@ -71,30 +82,47 @@ known : (o : Option ℕ) → is_some o ≡ true → o ≡ Some (unwrap_or o 0)
 known None h = absurd (false≢true h)
 known (Some x) h = refl
 
-pub letter_again : (c : ℕ) (rest : List ℕ) → is_some (short_escape c) ≡ true → escape_at (c ∷ rest) ≡ Some (unwrap_or (short_escape c) 0, rest)
+pub letter_again : (c : ℕ) (rest : List ℕ) → is_some (short_escape c) ≡ true → escape_at (c ∷ rest)
+    ≡ Some (unwrap_or (short_escape c) 0, rest)
 unfolding escape_at
 letter_again c rest h = rw (letters_apart c h) (ap (option_map (λ d. (d, rest))) (known (short_escape c) h))
 
 -- an escape by digits is read again
-pub numbered_again : (c : ℕ) (digits rest : List ℕ) → IsPart (numbered c digits) → escape_at (c ∷ (digits ++ rest)) ≡ Some (digits_value 16 digits, rest)
+pub numbered_again : (c : ℕ) (digits rest : List ℕ) → IsPart (numbered c digits) → escape_at (c ∷ (digits ++ rest))
+    ≡ Some (digits_value 16 digits, rest)
 unfolding escape_at hex_at
 numbered_again c digits rest (some, len, each, scalar) =
     let room : nat_le (hex_digits c) (length (digits ++ rest)) ≡ true = le-leb _ _ (omega (arith, len, length-append digits rest)) in
-    rw (hex_some c (length digits) some len, room, take_at digits rest (hex_digits c) len, drop_at digits rest (hex_digits c) len, each, scalar) refl
+    rw (
+      hex_some c (length digits) some len,
+      room,
+      take_at digits rest (hex_digits c) len,
+      drop_at digits rest (hex_digits c) len,
+      each,
+      scalar,
+    ) refl
 
 -- ---- basic strings
 
 -- the parts up to the closing quote
 abbrev pub TakesParts : List ℕ → List ℕ → List ℕ → Type 0
-TakesParts text v rest = (parts : List Part) × AllByRecursion IsPart parts × (v ≡ flat_map part_value parts) × (text ≡ flat_map part_text parts ++ 34 ∷ rest)
+TakesParts text v rest = (parts : List Part) × AllByRecursion IsPart parts × (v ≡ flat_map part_value parts)
+    × (text ≡ flat_map part_text parts ++ 34 ∷ rest)
 
 -- one part more at the front
-takes_more : (p : Part) (text v rest u bytes : List ℕ) → IsPart p → bytes ≡ part_value p → text ≡ part_text p ++ u → TakesParts u v rest → TakesParts text (bytes ++ v) rest
-takes_more p text v rest u bytes h same front (parts, each, value, whole) =
-    (p ∷ parts, (h, each), rw (same, value) refl, front ∙ ap (λ (t : List ℕ). part_text p ++ t) whole ∙ sym (append_assoc (part_text p) (flat_map part_text parts) (34 ∷ rest)))
+takes_more : (p : Part) (text v rest u bytes : List ℕ) → IsPart p → bytes ≡ part_value p → text ≡ part_text p ++ u → TakesParts u v rest
+    → TakesParts text (bytes ++ v) rest
+takes_more p text v rest u bytes h same front (parts, each, value, whole) = (
+  p ∷ parts,
+  (h, each),
+  rw (same, value) refl,
+  front ∙ ap (λ (t : List ℕ). part_text p ++ t) whole
+      ∙ sym (append_assoc (part_text p) (flat_map part_text parts) (34 ∷ rest)),
+)
 
 -- what stood before was read before it
-pub prepend_some : (bytes : List ℕ) (r : Read (List ℕ)) (v rest : List ℕ) → prepend bytes r ≡ Some (v, rest) → (u : List ℕ) × (r ≡ Some (u, rest)) × (bytes ++ u ≡ v)
+pub prepend_some : (bytes : List ℕ) (r : Read (List ℕ)) (v rest : List ℕ) → prepend bytes r ≡ Some (v, rest) → (u : List ℕ)
+    × (r ≡ Some (u, rest)) × (bytes ++ u ≡ v)
 prepend_some bytes r v rest e =
     let (p, found, same) = map_some r (λ (p : List ℕ × List ℕ). (bytes ++ p.0, p.1)) (v, rest) e in
     let (value, after) = same_parts (bytes ++ p.0) v p.1 rest same in
@@ -109,7 +137,8 @@ basic_takes (suc n) (c ∷ cs) v rest e =
     elim (chosen (is_plain c) (prepend (c ∷ []) (basic_at n cs)) _ (Some (v, rest)) e) [
       | inl (itself, h) ↦
           let (u, found, value) = prepend_some (c ∷ []) (basic_at n cs) v rest h in
-          subst (λ (x : List ℕ). TakesParts (c ∷ cs) x rest) value (takes_more (plain c) (c ∷ cs) u rest cs (c ∷ []) itself refl refl (basic_takes n cs u rest found))
+          subst (λ (x : List ℕ). TakesParts (c ∷ cs) x rest) value (takes_more (plain c) (c ∷ cs) u rest cs (c
+          ∷ []) itself refl refl (basic_takes n cs u rest found))
       | inr (other, h) ↦ elim (chosen (c == 34) (Some ([], cs)) _ (Some (v, rest)) h) [
         | inl (quote, same) ↦
             let both : ◌≡◌ {A = List ℕ × List ℕ} ([], cs) (v, rest) = cc in
@@ -121,7 +150,8 @@ basic_takes (suc n) (c ∷ cs) v rest e =
             let (p, valid, means, stands) = escape_takes cs x.1 x.0 (found ∙ refl) in
             let (u, later, value) = prepend_some (encode_utf8 x.0) (basic_at n x.1) v rest more in
             let front : c ∷ cs ≡ part_text p ++ x.1 = ap (λ (y : ℕ). y ∷ cs) (eqb-true c 92 escape) ∙ stands in
-            subst (λ (y : List ℕ). TakesParts (c ∷ cs) y rest) value (takes_more p (c ∷ cs) u rest x.1 (encode_utf8 x.0) valid means front (basic_takes n x.1 u rest later))
+            subst (λ (y : List ℕ). TakesParts (c ∷ cs) y rest) value (takes_more p (c
+            ∷ cs) u rest x.1 (encode_utf8 x.0) valid means front (basic_takes n x.1 u rest later))
       ]
     ]
 
@@ -131,12 +161,14 @@ unfolding basic_at
 basic_plain n c cs h = rw h
 
 -- an escape is taken as its character
-basic_escape : (n : ℕ) (text rest : List ℕ) (c : ℕ) → escape_at text ≡ Some (c, rest) → basic_at (suc n) (92 ∷ text) ≡ prepend (encode_utf8 c) (basic_at n rest)
+basic_escape : (n : ℕ) (text rest : List ℕ) (c : ℕ) → escape_at text ≡ Some (c, rest) → basic_at (suc n) (92 ∷ text)
+    ≡ prepend (encode_utf8 c) (basic_at n rest)
 unfolding basic_at
 basic_escape n text rest c e = rw e refl
 
 -- a basic string is read again
-pub basic_again : (parts : List Part) (rest : List ℕ) (n : ℕ) → AllByRecursion IsPart parts → length (flat_map part_text parts ++ 34 ∷ rest) < n
+pub basic_again : (parts : List Part) (rest : List ℕ) (n : ℕ) → AllByRecursion IsPart parts
+    → length (flat_map part_text parts ++ 34 ∷ rest) < n
     → basic_at n (flat_map part_text parts ++ 34 ∷ rest) ≡ Some (flat_map part_value parts, rest)
 unfolding basic_at
 basic_again parts rest zero each room = absurd (omega arith)
@@ -144,13 +176,16 @@ basic_again [] rest (suc n) each room = refl
 basic_again (plain c ∷ parts) rest (suc n) each room =
     basic_plain n c (flat_map part_text parts ++ 34 ∷ rest) each.0 ∙ ap (prepend (c ∷ [])) (basic_again parts rest n each.1 (omega arith))
 basic_again (letter c ∷ parts) rest (suc n) each room =
-    basic_escape n _ _ _ (letter_again c (flat_map part_text parts ++ 34 ∷ rest) each.0) ∙ ap (prepend (encode_utf8 (unwrap_or (short_escape c) 0))) (basic_again parts rest n each.1 (omega arith))
+    basic_escape n _ _ _ (letter_again c (flat_map part_text parts ++ 34 ∷ rest) each.0)
+    ∙ ap (prepend (encode_utf8 (unwrap_or (short_escape c) 0))) (basic_again parts rest n each.1 (omega arith))
 basic_again (numbered c digits ∷ parts) rest (suc n) each room =
     let later = flat_map part_text parts ++ 34 ∷ rest in
-    let grouped : (digits ++ flat_map part_text parts) ++ 34 ∷ rest ≡ digits ++ later = append_assoc digits (flat_map part_text parts) (34 ∷ rest) in
+    let grouped : (digits ++ flat_map part_text parts) ++ 34 ∷ rest ≡ digits ++ later =
+    append_assoc digits (flat_map part_text parts) (34 ∷ rest) in
     let fits : length later < n = omega (arith, ap length grouped, length-append digits later) in
     ap (λ (t : List ℕ). basic_at (suc n) (92 ∷ c ∷ t)) grouped
-    ∙ basic_escape n _ _ _ (numbered_again c digits later each.0) ∙ ap (prepend (encode_utf8 (digits_value 16 digits))) (basic_again parts rest n each.1 fits)
+    ∙ basic_escape n _ _ _ (numbered_again c digits later each.0)
+    ∙ ap (prepend (encode_utf8 (digits_value 16 digits))) (basic_again parts rest n each.1 fits)
 
 -- ---- strings of one line
 
@@ -164,12 +199,20 @@ string_takes [] v rest e = absurd cc
 string_takes (c ∷ cs) v rest e =
     elim (chosen (c == 39) (literal_at cs) _ (Some (v, rest)) e) [
       | inl (quote, h) ↦
-          let (each, parts) = literal_takes cs v rest h in
-          (39 ∷ v ++ 39 ∷ [], inr (each, refl), ap (λ (x : ℕ). x ∷ cs) (eqb-true c 39 quote) ∙ ap (λ (x : List ℕ). 39 ∷ x) (parts ∙ sym (append_assoc v (39 ∷ []) rest)))
+          let (each, parts) = literal_takes cs v rest h in (
+            39 ∷ v ++ 39 ∷ [],
+            inr (each, refl),
+            ap (λ (x : ℕ). x ∷ cs) (eqb-true c 39 quote)
+                ∙ ap (λ (x : List ℕ). 39 ∷ x) (parts ∙ sym (append_assoc v (39 ∷ []) rest)),
+          )
       | inr (other, h) ↦
           let (quote, g) = guard_read (c == 34) (basic_at (suc (length cs)) cs) (v, rest) h in
-          let (parts, each, value, whole) = basic_takes (suc (length cs)) cs v rest g in
-          (34 ∷ flat_map part_text parts ++ 34 ∷ [], inl (parts, each, value, refl), ap (λ (x : ℕ). x ∷ cs) (eqb-true c 34 quote) ∙ ap (λ (x : List ℕ). 34 ∷ x) (whole ∙ sym (append_assoc (flat_map part_text parts) (34 ∷ []) rest)))
+          let (parts, each, value, whole) = basic_takes (suc (length cs)) cs v rest g in (
+            34 ∷ flat_map part_text parts ++ 34 ∷ [],
+            inl (parts, each, value, refl),
+            ap (λ (x : ℕ). x ∷ cs) (eqb-true c 34 quote)
+                ∙ ap (λ (x : List ℕ). 34 ∷ x) (whole ∙ sym (append_assoc (flat_map part_text parts) (34 ∷ []) rest)),
+          )
     ]
 
 -- a string is read again
@@ -178,7 +221,8 @@ unfolding string_at
 string_again v t rest (inl (parts, each, value, whole)) =
     let body = flat_map part_text parts in
     let grouped : (body ++ 34 ∷ []) ++ rest ≡ body ++ 34 ∷ rest = append_assoc body (34 ∷ []) rest in
-    let at : string_at (34 ∷ ((body ++ 34 ∷ []) ++ rest)) ≡ basic_at (suc (length ((body ++ 34 ∷ []) ++ rest))) ((body ++ 34 ∷ []) ++ rest) = refl in
+    let at : string_at (34 ∷ ((body ++ 34 ∷ []) ++ rest))
+    ≡ basic_at (suc (length ((body ++ 34 ∷ []) ++ rest))) ((body ++ 34 ∷ []) ++ rest) = refl in
     ap (λ (x : List ℕ). string_at (x ++ rest)) whole ∙ at ∙ ap (λ (x : List ℕ). basic_at (suc (length x)) x) grouped
     ∙ basic_again parts rest (suc (length (body ++ 34 ∷ rest))) each (omega arith) ∙ ap (λ (x : List ℕ). Some (x, rest)) (sym value)
 string_again v t rest (inr (each, whole)) =

@@ -1,5 +1,6 @@
 -- What reads as a key or a scalar is one, and each is read again.
-use Rattle.std.proofs.Common.{◌≡◌, ℕ, ◌<◌, Bool, true, false, not, cond, ◌==◌, List, [], ◌∷◌, ◌++◌, ◌⊎◌, length, drop, take, Option, Some, None, is_some, refl, sym, ap, subst, ◌∙◌, inl, inr, arith, take_at, drop_at, codes}
+use Rattle.std.proofs.Common.{◌≡◌, ℕ, ◌<◌, Bool, true, false, not, cond, ◌==◌, List, [], ◌∷◌, ◌++◌, ◌⊎◌, length, drop, take, Option, Some}
+use Rattle.std.proofs.Common.{None, is_some, refl, sym, ap, subst, ◌∙◌, inl, inr, arith, take_at, drop_at, codes}
 use Rattle.std.specs.Prelude.{option_map, ℤ, bytes_eq}
 use Rattle.std.specs.List.{prefix_len, list_all}
 use Rattle.std.proofs.lemmas.Bool.{and_parts, false_from_ne_true}
@@ -9,7 +10,8 @@ use Rattle.std.specs.Cmp.Lexicographic.{bytes_decides}
 use Rattle.toml_edit_model.specs.Text.{Text, is_empty}
 use Rattle.toml_edit_model.specs.Trivia.{Each}
 use Rattle.toml_edit_model.specs.Scalars.{Datetime, Scalar, string, integer, float, boolean, datetime}
-use Rattle.toml_edit_model.specs.Spelling.{SpellsKey, Spells, SpellsString, SpellsInteger, IsFloat, SpellsDatetime, truth_text, is_bare_byte, SpellsMultilineBasic, SpellsMultilineLiteral}
+use Rattle.toml_edit_model.specs.Spelling.{SpellsKey, Spells, SpellsString, SpellsInteger, IsFloat, SpellsDatetime, truth_text}
+use Rattle.toml_edit_model.specs.Spelling.{is_bare_byte, SpellsMultilineBasic, SpellsMultilineLiteral}
 use Rattle.toml_edit_laws.specs.reading.FloatReading.{is_float_text}
 use Rattle.toml_edit_laws.specs.reading.DatetimeReading.{datetime_of}
 use Rattle.toml_edit_laws.specs.reading.BlockReading.{block_at, opens_block, ends_block}
@@ -74,7 +76,13 @@ bare_first (c ∷ cs) rest each some = (and_parts (is_bare_byte c) (list_all is_
 pub key_again : (k spelled rest : Text) → SpellsKey k spelled → ends_key rest ≡ true → key_at (spelled ++ rest) ≡ Some (k, rest)
 unfolding key_at
 key_again k t rest (inl ((each, some), same)) stop =
-    rw (bare_first t rest each some, prefix_len-run is_bare_byte t rest each (fails_from_not _ stop), take_at t rest _ refl, drop_at t rest _ refl, same) refl
+    rw (
+      bare_first t rest each some,
+      prefix_len-run is_bare_byte t rest each (fails_from_not _ stop),
+      take_at t rest _ refl,
+      drop_at t rest _ refl,
+      same,
+    ) refl
 key_again k t rest (inr spells) stop = rw (not_in_quote is_bare_byte k t rest refl refl spells) (string_again k t rest spells)
 
 -- ---- words
@@ -121,19 +129,20 @@ word_takes word s e =
         | inl (same, h) ↦
             let value : boolean false ≡ s = cc in
             subst (λ (x : Scalar). Spells x word) value ((bytes_decides word (codes "false")).0 same)
-        | inr (neither, e2) ↦ elim (chosen (is_some (integer_of word)) (option_map (λ (z : ℤ). integer z) (integer_of word)) _ (Some s) e2) [
-          | inl (number, h) ↦
-              let (z, found, value) = map_some (integer_of word) (λ (z : ℤ). integer z) s h in
-              subst (λ (x : Scalar). Spells x word) value (integer_takes word z found)
-          | inr (none, e3) ↦ elim (chosen (is_float_text word) (Some (float word)) _ (Some s) e3) [
-            | inl (is, h) ↦
-                let value : float word ≡ s = cc in
-                subst (λ (x : Scalar). Spells x word) value (float_takes word is, refl)
-            | inr (no_point, h) ↦
-                let (d, found, value) = map_some (datetime_of word) (λ (d : Datetime). datetime d) s h in
-                subst (λ (x : Scalar). Spells x word) value (datetime_takes word d found)
-          ]
-        ]
+        | inr (neither, e2) ↦
+            elim (chosen (is_some (integer_of word)) (option_map (λ (z : ℤ). integer z) (integer_of word)) _ (Some s) e2) [
+              | inl (number, h) ↦
+                  let (z, found, value) = map_some (integer_of word) (λ (z : ℤ). integer z) s h in
+                  subst (λ (x : Scalar). Spells x word) value (integer_takes word z found)
+              | inr (none, e3) ↦ elim (chosen (is_float_text word) (Some (float word)) _ (Some s) e3) [
+                | inl (is, h) ↦
+                    let value : float word ≡ s = cc in
+                    subst (λ (x : Scalar). Spells x word) value (float_takes word is, refl)
+                | inr (no_point, h) ↦
+                    let (d, found, value) = map_some (datetime_of word) (λ (d : Datetime). datetime d) s h in
+                    subst (λ (x : Scalar). Spells x word) value (datetime_takes word d found)
+              ]
+            ]
       ]
     ]
 
@@ -175,7 +184,8 @@ pub scalar-some : (s : Scalar) (t : Text) → Spells s t → t ≡ [] → ⊥
 scalar-some s t is none = let (c, cs, begins, opening) = scalar_begins s t is in absurd cc
 
 -- what reads as a string is one
-any_string_takes : (t v rest : Text) → cond (opens_block t) (block_at t) (string_at t) ≡ Some (v, rest) → (spelled : Text) × SpellsString v spelled × (t ≡ spelled ++ rest)
+any_string_takes : (t v rest : Text) → cond (opens_block t) (block_at t) (string_at t) ≡ Some (v, rest) → (spelled : Text)
+    × SpellsString v spelled × (t ≡ spelled ++ rest)
 any_string_takes t v rest e =
     elim (chosen (opens_block t) (block_at t) (string_at t) (Some (v, rest)) e) [
       | inl (opens, h) ↦ let (spelled, spells, parts) = block_takes t rest v h in (spelled, inr spells, parts)
@@ -187,14 +197,16 @@ pub scalar_takes : (t rest : Text) (s : Scalar) → scalar_at t ≡ Some (s, res
 unfolding scalar_at
 scalar_takes text rest s e =
     let n = word_len text in
-    elim (chosen (is_word_byte (first text)) (option_map (λ (w : Scalar). (w, drop n text)) (word_scalar (take n text))) _ (Some (s, rest)) e) [
+    elim (chosen (is_word_byte (first text)) (option_map (λ (w : Scalar). (w, drop n text)) (word_scalar (take n text))) _ (Some (s, rest))
+    e) [
       | inl (word, h) ↦
           let (w, found, same) = map_some (word_scalar (take n text)) (λ (w : Scalar). (w, drop n text)) (s, rest) h in
           let (value, after) = same_parts w s (drop n text) rest same in
           let spells = subst (λ (x : Scalar). Spells x (take n text)) value (word_takes (take n text) w found) in
           (take n text, spells, sym (take-append-drop n text) ∙ ap (λ (x : Text). take n text ++ x) after)
       | inr (other, h) ↦
-          let (p, found, same) = map_some (cond (opens_block text) (block_at text) (string_at text)) (λ (p : Text × Text). (string p.0, p.1)) (s, rest) h in
+          let (p, found, same) =
+          map_some (cond (opens_block text) (block_at text) (string_at text)) (λ (p : Text × Text). (string p.0, p.1)) (s, rest) h in
           let (value, after) = same_parts (string p.0) s p.1 rest same in
           let (t, spells, parts) = any_string_takes text p.0 p.1 found in
           let spelled = subst (λ (x : Scalar). Spells x t) value spells in
@@ -215,23 +227,32 @@ single_stops = scalar_stops (λ c. c == 39) refl (λ c h. grind (arith, nat_test
 
 -- a string of several lines begins no word
 block_no_word : (v t rest : Text) → SpellsMultilineBasic v t ⊎ SpellsMultilineLiteral v t → is_word_byte (first (t ++ rest)) ≡ false
-block_no_word v t rest (inl (first_line, parts, each, follows, newline, value, whole)) = ap (λ (x : Text). is_word_byte (first (x ++ rest))) whole
-block_no_word v t rest (inr (first_line, parts, each, follows, newline, value, whole)) = ap (λ (x : Text). is_word_byte (first (x ++ rest))) whole
+block_no_word v t rest (inl (first_line, parts, each, follows, newline, value, whole)) =
+    ap (λ (x : Text). is_word_byte (first (x ++ rest))) whole
+block_no_word v t rest (inr (first_line, parts, each, follows, newline, value, whole)) =
+    ap (λ (x : Text). is_word_byte (first (x ++ rest))) whole
 
 block_ends : (t : Text) → ends_scalar t ≡ true → ends_block t ≡ true
 block_ends t stop = rw (double_stops t stop, single_stops t stop) refl
 
 -- a scalar is read again in front of a byte that ends it
-pub scalar_again : (s : Scalar) (spelled rest : Text) → Spells s spelled → ends_scalar rest ≡ true → scalar_at (spelled ++ rest) ≡ Some (s, rest)
+pub scalar_again : (s : Scalar) (spelled rest : Text) → Spells s spelled → ends_scalar rest ≡ true → scalar_at (spelled ++ rest)
+    ≡ Some (s, rest)
 unfolding scalar_at
 scalar_again (boolean b) t rest is stop =
-    word_again (boolean b) t rest (run_word t rest (rw is (truth_each b)) (scalar-some (boolean b) t is) stop) (ap word_scalar is ∙ truth_word b)
+    word_again (boolean b) t rest (run_word t rest (rw is (truth_each b)) (scalar-some (boolean b) t is) stop) (ap word_scalar is
+    ∙ truth_word b)
 scalar_again (integer z) t rest is stop =
     word_again (integer z) t rest (run_word t rest (integer_each t z is) (scalar-some (integer z) t is) stop) (number_word t z is)
 scalar_again (float x) t rest (is, same) stop =
-    word_again (float x) t rest (run_word t rest (float_each t is) (float-some t is) stop) (float_word t is ∙ ap (λ (y : Text). Some (float y)) (sym same))
+    word_again (float x) t rest (run_word t rest (float_each t is) (float-some t is) stop) (float_word t is
+    ∙ ap (λ (y : Text). Some (float y)) (sym same))
 scalar_again (datetime d) t rest is stop = word_again (datetime d) t rest (datetime_word d t rest is stop) (date_word t d is)
 scalar_again (string v) t rest (inl line) stop =
-    rw (not_in_quote is_word_byte v t rest refl refl line, line-opens_none v t rest line (block_ends rest stop), string_again v t rest line) refl
+    rw (
+      not_in_quote is_word_byte v t rest refl refl line,
+      line-opens_none v t rest line (block_ends rest stop),
+      string_again v t rest line,
+    ) refl
 scalar_again (string v) t rest (inr block) stop =
     rw (block_no_word v t rest block, block-opens_before v t rest block, block_again v t rest block (block_ends rest stop)) refl

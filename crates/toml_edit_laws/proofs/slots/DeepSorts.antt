@@ -1,5 +1,6 @@
 -- Sorts that go into tables, where the tables inside come in turn, place by place.
-use Rattle.std.proofs.Common.{◌≡◌, ℕ, zero, suc, ◌<◌, ◌≤◌, Bool, true, false, List, [], ◌∷◌, length, get_or, set, refl, sym, ap, subst, inl, inr, arith}
+use Rattle.std.proofs.Common.{◌≡◌, ℕ, zero, suc, ◌<◌, ◌≤◌, Bool, true, false, List, [], ◌∷◌, length, get_or, set, refl, sym, ap, subst, inl}
+use Rattle.std.proofs.Common.{inr, arith}
 use Rattle.std.proofs.lemmas.Bool.{cases_Bool}
 use Rattle.toml_edit_model.specs.Tree.{InlineFields, TableFields, Node, nothing, leaf, list, inline, table, tables, Slots, no_slots, slot}
 use Rattle.toml_edit_model.specs.Slots.{Slot}
@@ -9,11 +10,13 @@ use Rattle.toml_edit_model.specs.Sorting.{ReordersItem, ReordersItems}
 -- ---- what stays as it is
 
 module _ (enters : Node → Bool) (R : List (Slot Node) → List (Slot Node) → Type 0) (rests : (es : List (Slot Node)) → R es es) where
-  table_either : (b : Bool) (f : TableFields) (ss : Slots) → b ≡ enters (table f ss) → ReordersItems enters R (slot_list ss) ss → ReordersItem enters R (table f ss) (table f ss)
+  table_either : (b : Bool) (f : TableFields) (ss : Slots) → b ≡ enters (table f ss) → ReordersItems enters R (slot_list ss) ss
+      → ReordersItem enters R (table f ss) (table f ss)
   table_either true f ss e q = rw (← e) (ss, slot_list ss, refl, rests (slot_list ss), q)
   table_either false f ss e q = rw (← e) refl
 
-  inline_either : (b : Bool) (f : InlineFields) (ss : Slots) → b ≡ enters (inline f ss) → ReordersItems enters R (slot_list ss) ss → ReordersItem enters R (inline f ss) (inline f ss)
+  inline_either : (b : Bool) (f : InlineFields) (ss : Slots) → b ≡ enters (inline f ss) → ReordersItems enters R (slot_list ss) ss
+      → ReordersItem enters R (inline f ss) (inline f ss)
   inline_either true f ss e q = rw (← e) (ss, slot_list ss, refl, rests (slot_list ss), q)
   inline_either false f ss e q = rw (← e) refl
 
@@ -36,17 +39,20 @@ module _ (enters : Node → Bool) (R : List (Slot Node) → List (Slot Node) →
 
 -- ---- one relation for another that follows from it
 
-module _ (enters : Node → Bool) (R S : List (Slot Node) → List (Slot Node) → Type 0) (follows : (es fs : List (Slot Node)) → R es fs → S es fs) where
+module _ (enters : Node → Bool) (R S : List (Slot Node) → List (Slot Node) → Type 0) (follows : (es fs : List (Slot Node)) → R es fs
+    → S es fs) where
   mutual
     pub item-weaker : (before n : Node) → ReordersItem enters R before n → ReordersItem enters S before n
     item-weaker before (table f ss) r =
         elim (cases_Bool (enters before)) [
-          | inl yes_in ↦ let (old, mid, is, s, items) = rw yes_in at r in rw yes_in (old, mid, is, follows (slot_list old) mid s, items-weaker mid ss items)
+          | inl yes_in ↦ let (old, mid, is, s, items) = rw yes_in at r in
+              rw yes_in (old, mid, is, follows (slot_list old) mid s, items-weaker mid ss items)
           | inr not_in ↦ let is = rw not_in at r in rw not_in is
         ]
     item-weaker before (inline f ss) r =
         elim (cases_Bool (enters before)) [
-          | inl yes_in ↦ let (old, mid, is, s, items) = rw yes_in at r in rw yes_in (old, mid, is, follows (slot_list old) mid s, items-weaker mid ss items)
+          | inl yes_in ↦ let (old, mid, is, s, items) = rw yes_in at r in
+              rw yes_in (old, mid, is, follows (slot_list old) mid s, items-weaker mid ss items)
           | inr not_in ↦ let is = rw not_in at r in rw not_in is
         ]
     item-weaker before (leaf s spelling d) r = r
@@ -98,7 +104,8 @@ module _ (Q : Node → Node → Type 0) where
   turned-same (suc n) (s ∷ mid) [] t d = absurd t
   turned-same (suc n) (s ∷ mid) (e ∷ es) t d = turned-same n mid es t.2 d
 
-turned-weaker : (P Q : Node → Node → Type 0) → ((x y : Node) → Q x y → P x y) → (n : ℕ) (mid es : List (Slot Node)) → Turned Q n mid es → Turned P n mid es
+turned-weaker : (P Q : Node → Node → Type 0) → ((x y : Node) → Q x y → P x y) → (n : ℕ) (mid es : List (Slot Node)) → Turned Q n mid es
+    → Turned P n mid es
 turned-weaker P Q w zero mid es t = t
 turned-weaker P Q w (suc n) [] [] t = tt
 turned-weaker P Q w (suc n) [] (e ∷ es) t = t
@@ -107,7 +114,8 @@ turned-weaker P Q w (suc n) (s ∷ mid) (e ∷ es) t = (t.0, w s.item e.item t.1
 
 module _ (enters : Node → Bool) (R : List (Slot Node) → List (Slot Node) → Type 0) where
   -- past the last place all are changed
-  pub all-turned : (n : ℕ) (mid es : List (Slot Node)) → Turned (ReordersItem enters R) n mid es → length es ≤ n → ReordersItems enters R mid (slots_from es)
+  pub all-turned : (n : ℕ) (mid es : List (Slot Node)) → Turned (ReordersItem enters R) n mid es → length es ≤ n
+      → ReordersItems enters R mid (slots_from es)
   all-turned zero mid [] t l = t
   all-turned zero mid (e ∷ es) t l = absurd (omega (arith, l))
   all-turned (suc n) [] [] t l = refl
@@ -116,7 +124,8 @@ module _ (enters : Node → Bool) (R : List (Slot Node) → List (Slot Node) →
   all-turned (suc n) (s ∷ mid) (e ∷ es) t l = (s, mid, refl, t.0, t.1, all-turned n mid es t.2 (omega (arith, l)))
 
   -- at any place, where what is not changed counts as changed too
-  pub some-turned : ((es : List (Slot Node)) → R es es) → (n : ℕ) (mid es : List (Slot Node)) → Turned (ReordersItem enters R) n mid es → ReordersItems enters R mid (slots_from es)
+  pub some-turned : ((es : List (Slot Node)) → R es es) → (n : ℕ) (mid es : List (Slot Node)) → Turned (ReordersItem enters R) n mid es
+      → ReordersItems enters R mid (slots_from es)
   some-turned rests zero mid es t = subst (λ m. ReordersItems enters R m (slots_from es)) (sym t) (list-stays enters R rests es)
   some-turned rests (suc n) [] [] t = refl
   some-turned rests (suc n) [] (e ∷ es) t = absurd t
@@ -124,9 +133,12 @@ module _ (enters : Node → Bool) (R : List (Slot Node) → List (Slot Node) →
   some-turned rests (suc n) (s ∷ mid) (e ∷ es) t = (s, mid, refl, t.0, t.1, some-turned rests n mid es t.2)
 
 -- a sort that stopped at a place leaves the same slots at every level
-pub stopped : (enters : Node → Bool) (R S : List (Slot Node) → List (Slot Node) → Type 0) → ((es fs : List (Slot Node)) → R es fs → S es fs) → ((es : List (Slot Node)) → S es es)
-    → (n : ℕ) (mid es : List (Slot Node)) → Turned (ReordersItem enters R) n mid es → n < length es → (d : Slot Node) (y : Node) → ReordersItem enters S (get_or es n d).item y
+pub stopped : (enters : Node → Bool) (R S : List (Slot Node) → List (Slot Node) → Type 0) → ((es fs : List (Slot Node)) → R es fs → S es fs)
+    → ((es : List (Slot Node)) → S es es)
+    → (n : ℕ) (mid es : List (Slot Node)) → Turned (ReordersItem enters R) n mid es → n < length es → (d : Slot Node) (y : Node)
+    → ReordersItem enters S (get_or es n d).item y
     → ReordersItems enters S mid (slots_from (set es n (record { key = (get_or es n d).key; item = y })))
 stopped enters R S follows rests n mid es t l d y q =
     some-turned enters S rests (suc n) mid (set es n (record { key = (get_or es n d).key; item = y }))
-    (turn (ReordersItem enters S) n mid es (turned-weaker (ReordersItem enters S) (ReordersItem enters R) (item-weaker enters R S follows) n mid es t) l d y q)
+    (turn (ReordersItem enters S) n mid es (turned-weaker (ReordersItem enters S) (ReordersItem enters R) (item-weaker enters R S follows) n
+    mid es t) l d y q)

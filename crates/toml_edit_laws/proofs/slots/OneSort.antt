@@ -1,5 +1,6 @@
 -- By a lawful order there is one sort: a list that is stable and in order is the only one.
-use Rattle.std.proofs.Common.{◌≡◌, suc, ◌+◌, Bool, true, false, cond, List, [], ◌∷◌, filter, map, IsSortedBy, refl, sym, ap, ◌∙◌, inl, inr, arith}
+use Rattle.std.proofs.Common.{◌≡◌, suc, ◌+◌, Bool, true, false, cond, List, [], ◌∷◌, filter, map, IsSortedBy, refl, sym, ap, ◌∙◌, inl, inr}
+use Rattle.std.proofs.Common.{arith}
 use Rattle.std.proofs.lemmas.Bool.{cases_Bool, false≢true}
 use Rattle.std.specs.Cmp.{IsStrictWeakOrder}
 use Rattle.std.specs.List.{AllByRecursion}
@@ -9,14 +10,18 @@ use Rattle.toml_edit_model.specs.Slots.{Slot}
 use Rattle.toml_edit_model.specs.Lists.{slot_list, slots_from}
 use Rattle.toml_edit_model.specs.Sorting.{IsSortOf, name_lt, ReordersItem, ReordersItems, IsDeepSort, sorted_item, sorted_slots}
 use Rattle.toml_edit_laws.proofs.slots.Lists.{slot_list-from, slots_from-list}
-use Rattle.toml_edit_laws.proofs.slots.Sorts.{name_lt-lawful, Rises, tail_rises, both_false, sorted-sorts, settled, in_order, sorted_slots-map}
+use Rattle.toml_edit_laws.proofs.slots.Sorts.{name_lt-lawful, Rises, tail_rises, both_false, sorted-sorts, settled, in_order}
+use Rattle.toml_edit_laws.proofs.slots.Sorts.{sorted_slots-map}
 
 module _ {X : Type 0} (lt : X → X → Bool) (o : IsStrictWeakOrder lt) where
   sorted-rises' : (xs : List X) → IsSortedBy lt xs → Rises lt xs
   sorted-rises' [] s = tt
   sorted-rises' (x ∷ []) s = tt
-  sorted-rises' (x ∷ y ∷ ys) s =
-      (s 0 x (omega arith) (omega arith), sorted-rises' (y ∷ ys) (λ k d low high. let e : suc k + 1 ≡ suc (k + 1) = omega arith in rw e at (s (suc k) d (omega arith) (omega arith))))
+  sorted-rises' (x ∷ y ∷ ys) s = (
+    s 0 x (omega arith) (omega arith),
+    sorted-rises' (y ∷ ys) (λ k d low high. let e : suc k + 1 ≡ suc (k + 1) = omega arith in
+        rw e at (s (suc k) d (omega arith) (omega arith))),
+  )
 
   -- nothing is less than itself, nor than the first of a list in order
   itself : (x : X) → lt x x ≡ false
@@ -42,7 +47,8 @@ module _ {X : Type 0} (lt : X → X → Bool) (o : IsStrictWeakOrder lt) where
   is_some_list (z ∷ zs) = true
 
   -- where a filter keeps something, an element passes, and has what all have
-  found : (p : X → Bool) (P : X → Type 0) (xs : List X) → is_some_list (filter p xs) ≡ true → AllByRecursion P xs → (x : X) × (p x ≡ true) × P x
+  found : (p : X → Bool) (P : X → Type 0) (xs : List X) → is_some_list (filter p xs) ≡ true → AllByRecursion P xs → (x : X) × (p x ≡ true)
+      × P x
   found p P [] e a = absurd (false≢true e)
   found p P (x ∷ xs) e a =
       elim (cases_Bool (p x)) [
@@ -51,10 +57,12 @@ module _ {X : Type 0} (lt : X → X → Bool) (o : IsStrictWeakOrder lt) where
       ]
 
   -- the first of one list is no greater than that of another with the same ties
-  first_fits : (y : X) (ys : List X) (z : X) (zs : List X) → Rises lt (z ∷ zs) → filter (ties lt y) (y ∷ ys) ≡ filter (ties lt y) (z ∷ zs) → lt y z ≡ false
+  first_fits : (y : X) (ys : List X) (z : X) (zs : List X) → Rises lt (z ∷ zs) → filter (ties lt y) (y ∷ ys) ≡ filter (ties lt y) (z ∷ zs)
+      → lt y z ≡ false
   first_fits y ys z zs s e =
       let kept : is_some_list (filter (ties lt y) (y ∷ ys)) ≡ true = rw (tie_itself y) refl in
-      let (w, tied_w, below_w) = found (ties lt y) (λ w. lt w z ≡ false) (z ∷ zs) (sym (ap is_some_list e) ∙ kept) (itself z, no_less z zs s) in
+      let (w, tied_w, below_w) =
+      found (ties lt y) (λ w. lt w z ≡ false) (z ∷ zs) (sym (ap is_some_list e) ∙ kept) (itself z, no_less z zs s) in
       o.chain y w z (both_false lt o (lt y w) (lt w y) tied_w).0 below_w
 
   abbrev first_or : X → List X → X
@@ -84,29 +92,34 @@ module _ {X : Type 0} (lt : X → X → Bool) (o : IsStrictWeakOrder lt) where
       λ i. same i ∷ rest i
 
   pub one_sort : (xs ys zs : List X) → IsSortOf lt xs ys → IsSortOf lt xs zs → ys ≡ zs
-  one_sort xs ys zs s t = same_sorted ys zs (sorted-rises' ys (s.sorted o)) (sorted-rises' zs (t.sorted o)) (λ w. s.stable o w ∙ sym (t.stable o w))
+  one_sort xs ys zs s t =
+      same_sorted ys zs (sorted-rises' ys (s.sorted o)) (sorted-rises' zs (t.sorted o)) (λ w. s.stable o w ∙ sym (t.stable o w))
 
 -- ---- the sort by key text is the function
 
 module _ (enters : Node → Bool) where
   -- the two branches of a sorted table and inline table
-  entered_table : (f : TableFields) (old : Slots) → enters (table f old) ≡ true → sorted_item enters (table f old) ≡ table f (slots_from (sorted_slots enters old))
+  entered_table : (f : TableFields) (old : Slots) → enters (table f old) ≡ true → sorted_item enters (table f old)
+      ≡ table f (slots_from (sorted_slots enters old))
   entered_table f old e = rw e refl
 
   passed_table : (f : TableFields) (old : Slots) → enters (table f old) ≡ false → sorted_item enters (table f old) ≡ table f old
   passed_table f old e = rw e refl
 
-  entered_inline : (f : InlineFields) (old : Slots) → enters (inline f old) ≡ true → sorted_item enters (inline f old) ≡ inline f (slots_from (sorted_slots enters old))
+  entered_inline : (f : InlineFields) (old : Slots) → enters (inline f old) ≡ true → sorted_item enters (inline f old)
+      ≡ inline f (slots_from (sorted_slots enters old))
   entered_inline f old e = rw e refl
 
   passed_inline : (f : InlineFields) (old : Slots) → enters (inline f old) ≡ false → sorted_item enters (inline f old) ≡ inline f old
   passed_inline f old e = rw e refl
 
   -- slots whose list is that of the settled ones
-  slots_are : (old ss : Slots) (mid : List (Slot Node)) → IsSortOf name_lt (slot_list old) mid → slot_list ss ≡ map (settled enters) mid → ss ≡ slots_from (sorted_slots enters old)
+  slots_are : (old ss : Slots) (mid : List (Slot Node)) → IsSortOf name_lt (slot_list old) mid → slot_list ss ≡ map (settled enters) mid
+      → ss ≡ slots_from (sorted_slots enters old)
   slots_are old ss mid s e =
       sym (slots_from-list ss)
-      ∙ ap slots_from (e ∙ ap (map (settled enters)) (one_sort name_lt name_lt-lawful (slot_list old) mid (in_order enters (slot_list old)) s (sorted-sorts name_lt (slot_list old)))
+      ∙ ap slots_from (e ∙ ap (map (settled enters)) (one_sort name_lt name_lt-lawful (slot_list old) mid (in_order enters (slot_list old))
+      s (sorted-sorts name_lt (slot_list old)))
       ∙ sym (sorted_slots-map enters old))
 
   mutual
@@ -115,7 +128,8 @@ module _ (enters : Node → Bool) where
         elim (cases_Bool (enters before)) [
           | inl yes_in ↦
               let (old, mid, is, s, items) = rw yes_in at r in
-              ap (table f) (slots_are old ss mid s (items_are mid ss items)) ∙ sym (entered_table f old (ap enters (sym is) ∙ yes_in)) ∙ ap (sorted_item enters) (sym is)
+              ap (table f) (slots_are old ss mid s (items_are mid ss items)) ∙ sym (entered_table f old (ap enters (sym is) ∙ yes_in))
+              ∙ ap (sorted_item enters) (sym is)
           | inr not_in ↦
               let is = rw not_in at r in sym (passed_table f ss (ap enters (sym is) ∙ not_in)) ∙ ap (sorted_item enters) (sym is)
         ]
@@ -123,7 +137,8 @@ module _ (enters : Node → Bool) where
         elim (cases_Bool (enters before)) [
           | inl yes_in ↦
               let (old, mid, is, s, items) = rw yes_in at r in
-              ap (inline f) (slots_are old ss mid s (items_are mid ss items)) ∙ sym (entered_inline f old (ap enters (sym is) ∙ yes_in)) ∙ ap (sorted_item enters) (sym is)
+              ap (inline f) (slots_are old ss mid s (items_are mid ss items)) ∙ sym (entered_inline f old (ap enters (sym is) ∙ yes_in))
+              ∙ ap (sorted_item enters) (sym is)
           | inr not_in ↦
               let is = rw not_in at r in sym (passed_inline f ss (ap enters (sym is) ∙ not_in)) ∙ ap (sorted_item enters) (sym is)
         ]
@@ -132,13 +147,15 @@ module _ (enters : Node → Bool) where
     item_is before (tables e xs) r = ap (sorted_item enters) (sym r)
     item_is before nothing r = ap (sorted_item enters) (sym r)
 
-    items_are : (mid : List (Slot Node)) (ss : Slots) → ReordersItems enters (IsSortOf name_lt) mid ss → slot_list ss ≡ map (settled enters) mid
+    items_are : (mid : List (Slot Node)) (ss : Slots) → ReordersItems enters (IsSortOf name_lt) mid ss → slot_list ss
+        ≡ map (settled enters) mid
     items_are mid no_slots r = ap (map (settled enters)) (sym r)
     items_are mid (slot k n ss) r =
         (λ i. record { key = sym r.3 i; item = item_is r.0.item n r.4 i } ∷ items_are r.1 ss r.5 i) ∙ ap (map (settled enters)) (sym r.2)
 
   -- what a sort by key text leaves is what the function gives
-  pub sorted_slots-only : (before after : List (Slot Node)) → IsDeepSort enters name_lt before after → after ≡ sorted_slots enters (slots_from before)
+  pub sorted_slots-only : (before after : List (Slot Node)) → IsDeepSort enters name_lt before after → after
+      ≡ sorted_slots enters (slots_from before)
   sorted_slots-only before after r =
       sym (slot_list-from after)
       ∙ items_are r.0 (slots_from after) r.2

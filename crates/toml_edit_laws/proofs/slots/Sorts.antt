@@ -1,8 +1,10 @@
 -- The orders of sorts are lawful, and the sort by key text as a function is one by the relation.
-use Rattle.std.proofs.Common.{◌≡◌, ◌⊎◌, ℕ, zero, suc, ◌+◌, Bool, true, false, not, ◌&&◌, cond, if◌then◌else◌, List, [], ◌∷◌, map, filter, length, get_or, inl, inr, ◌<◌, IsPermutation, IsSortedBy, refl, sym, ap, ◌∙◌, arith}
+use Rattle.std.proofs.Common.{◌≡◌, ◌⊎◌, ℕ, zero, suc, ◌+◌, Bool, true, false, not, ◌&&◌, cond, if◌then◌else◌, List, [], ◌∷◌, map, filter}
+use Rattle.std.proofs.Common.{length, get_or, inl, inr, ◌<◌, IsPermutation, IsSortedBy, refl, sym, ap, ◌∙◌, arith}
 use Rattle.std.proofs.lemmas.Bool.{cases_Bool, false≢true}
 use Rattle.std.proofs.lemmas.List.MinMax.{ranks_by}
-use Rattle.std.proofs.lemmas.List.Sorted.{IsPermutation-refl, IsPermutation-trans, IsPermutation-cons, IsPermutation-swap, IsPermutation-map}
+use Rattle.std.proofs.lemmas.List.Sorted.{IsPermutation-refl, IsPermutation-trans, IsPermutation-cons, IsPermutation-swap}
+use Rattle.std.proofs.lemmas.List.Sorted.{IsPermutation-map}
 use Rattle.std.specs.List.{AllByRecursion}
 use Rattle.std.specs.List.Sorted.{IsStableBy, ties}
 use Rattle.std.specs.Cmp.{IsStrictWeakOrder}
@@ -11,7 +13,8 @@ use Rattle.toml_edit_model.specs.Order.{insert_by, sorted_by}
 use Rattle.toml_edit_model.specs.Tree.{InlineFields, TableFields, Node, nothing, leaf, list, inline, table, tables, Slots, no_slots, slot}
 use Rattle.toml_edit_model.specs.Slots.{Slot, on_item}
 use Rattle.toml_edit_model.specs.Lists.{slot_list, slots_from}
-use Rattle.toml_edit_model.specs.Sorting.{IsSortOf, others_first, name_lt, ReordersItem, ReordersItems, IsDeepSort, sorted_item, sorted_slots}
+use Rattle.toml_edit_model.specs.Sorting.{IsSortOf, others_first, name_lt, ReordersItem, ReordersItems, IsDeepSort, sorted_item}
+use Rattle.toml_edit_model.specs.Sorting.{sorted_slots}
 
 -- the order of keys
 pub name_lt-lawful : {T : Type 0} → IsStrictWeakOrder (name_lt {T = T})
@@ -25,7 +28,8 @@ module _ {X : Type 0} (test : X → Bool) (lt : X → X → Bool) (o : IsStrictW
   both_way false true m n h e = refl
   both_way false false m n h e = refl
 
-  all_way : (b c d : Bool) (m n k : Bool) → (m ≡ false → n ≡ false → k ≡ false) → (if b then c && m else c) ≡ false → (if c then d && n else d) ≡ false
+  all_way : (b c d : Bool) (m n k : Bool) → (m ≡ false → n ≡ false → k ≡ false) → (if b then c && m else c) ≡ false
+      → (if c then d && n else d) ≡ false
       → (if b then d && k else d) ≡ false
   all_way true true true m n k h e f = h e f
   all_way true c false m n k h e f = refl
@@ -47,7 +51,8 @@ module _ {X : Type 0} (lt : X → X → Bool) where
   abbrev fits : X → X → Bool
   fits x y = not (lt y x)
 
-  insert_either : (b : Bool) (x y : X) (ys zs : List X) → IsPermutation (x ∷ ys) zs → IsPermutation (x ∷ y ∷ ys) (if b then x ∷ y ∷ ys else y ∷ zs)
+  insert_either : (b : Bool) (x y : X) (ys zs : List X) → IsPermutation (x ∷ ys) zs
+      → IsPermutation (x ∷ y ∷ ys) (if b then x ∷ y ∷ ys else y ∷ zs)
   insert_either true x y ys zs p = IsPermutation-refl (x ∷ y ∷ ys)
   insert_either false x y ys zs p = IsPermutation-trans (x ∷ y ∷ ys) (y ∷ x ∷ ys) (y ∷ zs)
       (IsPermutation-swap (x ∷ y ∷ ys) (y ∷ x ∷ ys) 0 1 (omega arith) (omega arith) refl) (IsPermutation-cons y (x ∷ ys) zs p)
@@ -75,7 +80,8 @@ module _ {X : Type 0} (lt : X → X → Bool) where
       let e : suc k + 1 ≡ suc (k + 1) = omega arith in rw e (rises-sorted (y ∷ ys) r.1 k d (omega arith) (omega arith))
 
   module _ (o : IsStrictWeakOrder lt) where
-    onto : (b : Bool) (y x z : X) (xs zs : List X) → lt x y ≡ false → lt z y ≡ false → Rises (if b then x ∷ xs else z ∷ zs) → Rises (y ∷ (if b then x ∷ xs else z ∷ zs))
+    onto : (b : Bool) (y x z : X) (xs zs : List X) → lt x y ≡ false → lt z y ≡ false → Rises (if b then x ∷ xs else z ∷ zs)
+        → Rises (y ∷ (if b then x ∷ xs else z ∷ zs))
     onto true y x z xs zs e f r = (e, r)
     onto false y x z xs zs e f r = (f, r)
 
@@ -87,7 +93,8 @@ module _ {X : Type 0} (lt : X → X → Bool) where
     tail_rises y [] r = tt
     tail_rises y (z ∷ ys) r = r.1
 
-    rises_either : (b : Bool) (x y : X) (ys : List X) → b ≡ fits x y → Rises (y ∷ ys) → Rises (insert_by fits x ys) → Rises (if b then x ∷ y ∷ ys else y ∷ insert_by fits x ys)
+    rises_either : (b : Bool) (x y : X) (ys : List X) → b ≡ fits x y → Rises (y ∷ ys) → Rises (insert_by fits x ys)
+        → Rises (if b then x ∷ y ∷ ys else y ∷ insert_by fits x ys)
     rises_either true x y ys e r s = (falls (lt y x) e, r)
       where
         falls : (c : Bool) → true ≡ not c → c ≡ false
@@ -117,13 +124,15 @@ module _ {X : Type 0} (lt : X → X → Bool) where
     tied z x y e f = o.chain y z x (both_false (lt z y) (lt y z) f).1 (both_false (lt z x) (lt x z) e).0
 
     -- two elements of which one at most passes change places in a filter
-    cross : (b c : Bool) (x y : X) (l : List X) → (b ≡ true → c ≡ true → ⊥) → cond c (y ∷ cond b (x ∷ l) l) (cond b (x ∷ l) l) ≡ cond b (x ∷ cond c (y ∷ l) l) (cond c (y ∷ l) l)
+    cross : (b c : Bool) (x y : X) (l : List X) → (b ≡ true → c ≡ true → ⊥) → cond c (y ∷ cond b (x ∷ l) l) (cond b (x ∷ l) l)
+        ≡ cond b (x ∷ cond c (y ∷ l) l) (cond c (y ∷ l) l)
     cross true true x y l n = absurd (n refl refl)
     cross true false x y l n = refl
     cross false true x y l n = refl
     cross false false x y l n = refl
 
-    stable_either : (b : Bool) (z x y : X) (ys : List X) → b ≡ fits x y → filter (ties lt z) (insert_by fits x ys) ≡ filter (ties lt z) (x ∷ ys)
+    stable_either : (b : Bool) (z x y : X) (ys : List X) → b ≡ fits x y → filter (ties lt z) (insert_by fits x ys)
+        ≡ filter (ties lt z) (x ∷ ys)
         → filter (ties lt z) (if b then x ∷ y ∷ ys else y ∷ insert_by fits x ys) ≡ filter (ties lt z) (x ∷ y ∷ ys)
     stable_either true z x y ys e h = refl
     stable_either false z x y ys e h =
@@ -143,7 +152,12 @@ module _ {X : Type 0} (lt : X → X → Bool) where
     sorted-stable (x ∷ xs) z = insert-stable x (sorted_by fits xs) z ∙ ap (λ l. cond (ties lt z x) (x ∷ l) l) (sorted-stable xs z)
 
   pub sorted-sorts : (xs : List X) → IsSortOf lt xs (sorted_by fits xs)
-  sorted-sorts xs = record { permutation = sorted-permutes xs; stable = λ o. sorted-stable o xs; sorted = λ o. rises-sorted (sorted_by fits xs) (sorted-rises o xs) }
+  sorted-sorts xs = record {
+    permutation = sorted-permutes xs;
+    stable = λ o. sorted-stable o xs;
+    sorted =
+        λ o. rises-sorted (sorted_by fits xs) (sorted-rises o xs);
+  }
 
 -- ---- along a view: a sort of what is there is a sort of what is seen
 
@@ -204,11 +218,16 @@ module _ {X Y : Type 0} (h : X → Y) (lt : Y → Y → Bool) where
         λ i. not (same_bool (lt z w) (lt x w) (λ f. o.chain x z w q.1 f) (λ f. o.chain z x w q.0 f) i)
         && not (same_bool (lt w z) (lt w x) (λ f. o.chain w z x f q.0) (λ f. o.chain w x z f q.1) i)
 
-    stable_seen : (xs ys : List X) → IsStableBy seen_lt xs ys → (z : Y) → filter (λ x. ties lt z (h x)) ys ≡ filter (λ x. ties lt z (h x)) xs
+    stable_seen : (xs ys : List X) → IsStableBy seen_lt xs ys → (z : Y) → filter (λ x. ties lt z (h x)) ys
+        ≡ filter (λ x. ties lt z (h x)) xs
     stable_seen xs ys s z =
         elim (passes (λ x. ties lt z (h x)) ys) [
           | inl some ↦ at some.0 some.1
-          | inr none_left ↦ elim (passes (λ x. ties lt z (h x)) xs) [ inl some ↦ at some.0 some.1 | inr none_before ↦ none_left ∙ sym none_before ]
+          | inr none_left ↦ elim (passes (λ x. ties lt z (h x)) xs) [
+            | inl some ↦ at some.0 some.1
+            | inr none_before ↦ none_left
+                ∙ sym none_before
+          ]
         ]
       where
         at : (y : X) → ties lt z (h y) ≡ true → filter (λ x. ties lt z (h x)) ys ≡ filter (λ x. ties lt z (h x)) xs
@@ -219,7 +238,8 @@ module _ {X Y : Type 0} (h : X → Y) (lt : Y → Y → Bool) where
   sorts-seen xs ys s =
       record {
         permutation = IsPermutation-map h xs ys s.permutation;
-        stable = λ o z. filter_seen (ties lt z) ys ∙ ap (map h) (stable_seen o xs ys (s.stable (seen-lawful o)) z) ∙ sym (filter_seen (ties lt z) xs);
+        stable = λ o z. filter_seen (ties lt z) ys ∙ ap (map h) (stable_seen o xs ys (s.stable (seen-lawful o)) z)
+            ∙ sym (filter_seen (ties lt z) xs);
         sorted = λ o. sorted_seen o ys (s.sorted (seen-lawful o));
       }
 
@@ -233,10 +253,12 @@ module _ (enters : Node → Bool) where
   abbrev pub in_order : List (Slot Node) → List (Slot Node)
   in_order = sorted_by (fits name_lt)
 
-  insert-settled : (s : Slot Node) (es : List (Slot Node)) → insert_by (fits name_lt) (settled s) (map settled es) ≡ map settled (insert_by (fits name_lt) s es)
+  insert-settled : (s : Slot Node) (es : List (Slot Node)) → insert_by (fits name_lt) (settled s) (map settled es)
+      ≡ map settled (insert_by (fits name_lt) s es)
   insert-settled s [] = refl
   insert-settled s (r ∷ es) =
-      ap (λ l. if fits name_lt s r then settled s ∷ settled r ∷ map settled es else settled r ∷ l) (insert-settled s es) ∙ either (fits name_lt s r)
+      ap (λ l. if fits name_lt s r then settled s ∷ settled r ∷ map settled es else settled r ∷ l) (insert-settled s es)
+      ∙ either (fits name_lt s r)
     where
       either : (b : Bool) → (if b then settled s ∷ settled r ∷ map settled es else settled r ∷ map settled (insert_by (fits name_lt) s es))
           ≡ map settled (if b then s ∷ r ∷ es else r ∷ insert_by (fits name_lt) s es)
@@ -253,7 +275,8 @@ module _ (enters : Node → Bool) where
   abbrev Settles : List (Slot Node) → Type 0
   Settles es = AllByRecursion (λ s. ReordersItem enters (IsSortOf name_lt) s.item (sorted_item enters s.item)) es
 
-  insert-settles : (s : Slot Node) (es : List (Slot Node)) → ReordersItem enters (IsSortOf name_lt) s.item (sorted_item enters s.item) → Settles es → Settles (insert_by (fits name_lt) s es)
+  insert-settles : (s : Slot Node) (es : List (Slot Node)) → ReordersItem enters (IsSortOf name_lt) s.item (sorted_item enters s.item)
+      → Settles es → Settles (insert_by (fits name_lt) s es)
   insert-settles s [] p q = (p, tt)
   insert-settles s (r ∷ es) p q = either (fits name_lt s r) (insert-settles s es p q.1)
     where
@@ -270,7 +293,8 @@ module _ (enters : Node → Bool) where
   settles-items (s ∷ es) q = (s, es, refl, refl, q.0, settles-items es q.1)
 
   -- the slots sorted are in order, and their items settled
-  sorted-items : (ss : Slots) → Settles (slot_list ss) → ReordersItems enters (IsSortOf name_lt) (in_order (slot_list ss)) (slots_from (sorted_slots enters ss))
+  sorted-items : (ss : Slots) → Settles (slot_list ss)
+      → ReordersItems enters (IsSortOf name_lt) (in_order (slot_list ss)) (slots_from (sorted_slots enters ss))
   sorted-items ss q = rw (sorted_slots-map ss) (settles-items (in_order (slot_list ss)) (in_order-settles (slot_list ss) q))
 
   table_either : (b : Bool) (f : TableFields) (ss : Slots) → b ≡ enters (table f ss) → Settles (slot_list ss)

@@ -1,5 +1,6 @@
 -- What is written for a date and time with real parts spells it, in range.
-use Rattle.std.proofs.Common.{◌≡◌, refl, sym, ◌∙◌, ap, subst, ℕ, zero, suc, ◌+◌, ◌*◌, ◌/◌, ◌%◌, ◌^◌, ◌<◌, ◌≤◌, Bool, true, false, [], ◌∷◌, ◌++◌, take, arith, inl}
+use Rattle.std.proofs.Common.{◌≡◌, refl, sym, ◌∙◌, ap, subst, ℕ, zero, suc, ◌+◌, ◌*◌, ◌/◌, ◌%◌, ◌^◌, ◌<◌, ◌≤◌, Bool, true, false, [], ◌∷◌}
+use Rattle.std.proofs.Common.{◌++◌, take, arith, inl}
 use Rattle.std.specs.Prelude.{◌&&◌, ◌||◌, ◌==◌, nat_lt, nat_le, pos, negsuc, Option, Some, None, if◌then◌else◌}
 use Rattle.std.specs.Char.{is_ascii_digit}
 use Rattle.std.specs.Str.Parse.{digits_value_after}
@@ -7,9 +8,12 @@ use Rattle.std.proofs.Math.Nat.{pow-suc, div-lt_iff_lt-mul}
 use Rattle.std.proofs.lemmas.Bool.{lt-ltb, ltb-true, leb-true, eqb-true}
 use Rattle.toml_edit_model.specs.Text.{Text}
 use Rattle.toml_edit_model.specs.Trivia.{Each}
-use Rattle.toml_edit_model.specs.Scalars.{Date, Time, Offset, zulu, shift, Datetime, datetime, is_leap_year, days_in_month, is_real_date, is_absent_or_below, has_second_for, is_real_time, is_absent_or}
-use Rattle.toml_edit_model.specs.Spelling.{plus, minus, signed, digit, date_text, SpellsDate, SpellsFraction, SpellsSeconds, SpellsTime, SpellsOffset, SpellsOffsetPart, is_real_offset, SpellsInRange}
-use Rattle.toml_edit_model.specs.DefaultSpelling.{fraction_digits, nanosecond_spelling, seconds_spelling, time_spelling, offset_spelling, part_spelling, datetime_spelling}
+use Rattle.toml_edit_model.specs.Scalars.{Date, Time, Offset, zulu, shift, Datetime, datetime, is_leap_year, days_in_month, is_real_date}
+use Rattle.toml_edit_model.specs.Scalars.{is_absent_or_below, has_second_for, is_real_time, is_absent_or}
+use Rattle.toml_edit_model.specs.Spelling.{plus, minus, signed, digit, date_text, SpellsDate, SpellsFraction, SpellsSeconds, SpellsTime}
+use Rattle.toml_edit_model.specs.Spelling.{SpellsOffset, SpellsOffsetPart, is_real_offset, SpellsInRange}
+use Rattle.toml_edit_model.specs.DefaultSpelling.{fraction_digits, nanosecond_spelling, seconds_spelling, time_spelling, offset_spelling}
+use Rattle.toml_edit_model.specs.DefaultSpelling.{part_spelling, datetime_spelling}
 use Rattle.toml_edit_model.specs.Tree.{is_real_shift, has_real_parts}
 use Rattle.toml_edit_laws.proofs.common.Tests.{and_left, and_right, and_both, append-nil}
 use Rattle.toml_edit_laws.proofs.spellings.OffsetLaws.{digit-value, digit-ascii, offset-real}
@@ -78,12 +82,14 @@ fraction-value (suc places) count m n h small =
     (rw (pow-suc 10 places)
     (place-value (10 ^ places) m n _
     (by_test (n % 10 ^ places == 0) refl
-    (fraction-value places count (m * 10 + n / 10 ^ places) (n % 10 ^ places) (omega arith) (rest-below (10 ^ places) n (pow-some places))))))
+    (fraction-value places count (m * 10 + n / 10 ^ places) (n % 10 ^ places) (omega arith)
+    (rest-below (10 ^ places) n (pow-some places))))))
   where
     by_test : (b : Bool) → (n % 10 ^ places == 0) ≡ b
         → digits_value_after 10 (m * 10 + n / 10 ^ places) (take places (fraction_digits places (n % 10 ^ places) ++ zeros count))
         ≡ (m * 10 + n / 10 ^ places) * 10 ^ places + n % 10 ^ places
-        → digits_value_after 10 (m * 10 + n / 10 ^ places) (take places ((if b then [] else fraction_digits places (n % 10 ^ places)) ++ zeros count))
+        → digits_value_after 10 (m * 10 + n / 10 ^ places) (take places ((if b then [] else fraction_digits places (n % 10 ^ places))
+        ++ zeros count))
         ≡ (m * 10 + n / 10 ^ places) * 10 ^ places + n % 10 ^ places
     by_test true e more =
         let none : n % 10 ^ places ≡ 0 = eqb-true (n % 10 ^ places) 0 e in
@@ -95,10 +101,12 @@ fraction-digits : (places n : ℕ) → n < 10 ^ places → Each is_ascii_digit (
 fraction-digits zero n small = refl
 fraction-digits (suc places) n small =
     let below : n < 10 ^ places * 10 = subst (λ w. n < w) (pow-suc 10 places) small in
-    and_both (is_ascii_digit (digit (n / 10 ^ places))) _ (digit-ascii (n / 10 ^ places) (place-below (10 ^ places) n (pow-some places) below))
+    and_both (is_ascii_digit (digit (n / 10 ^ places))) _
+    (digit-ascii (n / 10 ^ places) (place-below (10 ^ places) n (pow-some places) below))
     (by_test (n % 10 ^ places == 0) (fraction-digits places (n % 10 ^ places) (rest-below (10 ^ places) n (pow-some places))))
   where
-    by_test : (b : Bool) → Each is_ascii_digit (fraction_digits places (n % 10 ^ places)) → Each is_ascii_digit (if b then [] else fraction_digits places (n % 10 ^ places))
+    by_test : (b : Bool) → Each is_ascii_digit (fraction_digits places (n % 10 ^ places))
+        → Each is_ascii_digit (if b then [] else fraction_digits places (n % 10 ^ places))
     by_test true more = refl
     by_test false more = more
 
@@ -180,7 +188,8 @@ offset-ranged d t (Some (shift (negsuc n))) h g =
 
 -- part by part
 by-parts : (date : Option Date) (time : Option Time) (offset : Option Offset) → has_real_parts date time offset ≡ true
-    → SpellsInRange (datetime (record { date = date; time = time; offset = offset })) (datetime_spelling (record { date = date; time = time; offset = offset }))
+    → SpellsInRange (datetime (record { date = date; time = time; offset = offset }))
+    (datetime_spelling (record { date = date; time = time; offset = offset }))
 by-parts (Some d) None None h = (date-spells d h, and_both (is_real_date d && true) true (and_both (is_real_date d) true h refl) refl)
 by-parts None (Some t) None h =
     subst (SpellsInRange (datetime (record { date = None; time = Some t; offset = None }))) (sym (append-nil (time_spelling t)))
@@ -190,7 +199,17 @@ by-parts (Some d) (Some t) o h =
     let date = and_left (is_real_date d) _ both in
     let time = and_right (is_real_date d) _ both in
     let shifted = and_right (is_real_date d && is_real_time t) _ h in (
-      (date_text d, time_spelling t, part_spelling offset_spelling o, 0x54, date-spells d date, refl, time-spells t time, part-spells o shifted, refl),
+      (
+        date_text d,
+        time_spelling t,
+        part_spelling offset_spelling o,
+        0x54,
+        date-spells d date,
+        refl,
+        time-spells t time,
+        part-spells o shifted,
+        refl,
+      ),
       and_both (is_real_date d && is_real_time t) _ both (offset-ranged d t o time shifted),
     )
 by-parts None None o h = cc

@@ -28,7 +28,8 @@ pub default_truth_spells : (b : Bool) → SpellsInRange (boolean b) (default_spe
 default_truth_spells b = (refl, refl)
 
 -- a date or time that exists
-pub default_datetime_spells : (d : Datetime) → has_real_parts d.date d.time d.offset ≡ true → SpellsInRange (datetime d) (default_spelling (datetime d))
+pub default_datetime_spells : (d : Datetime) → has_real_parts d.date d.time d.offset ≡ true
+    → SpellsInRange (datetime d) (default_spelling (datetime d))
 default_datetime_spells d h = datetime-spells d h
 
 -- any real scalar

@@ -9,8 +9,12 @@ use Rattle.std.proofs.lemmas.Bool.Decides.{nat_tests}
 use Rattle.std.proofs.lemmas.Str.{encode_ascii}
 use Rattle.toml_edit_model.specs.Text.{Text, line_feed, quote, apostrophe, backslash, is_empty, one, has_byte, newline}
 use Rattle.toml_edit_model.specs.Trivia.{is_visible, lf}
-use Rattle.toml_edit_model.specs.Spelling.{is_plain, is_scalar_value, Part, plain, letter, numbered, part_text, part_value, IsPart, SpellsBasic, SpellsLiteral, BlockPart, in_line, next_line, quotes, joint, block_text, block_value, IsBlockPart, IsJoint, is_dropped_part, each_may_follow, three, SpellsMultilineBasic, SpellsString, SpellsKey}
-use Rattle.toml_edit_model.specs.DefaultSpelling.{capital_digit, numbered_escape, escaped_byte, escaped, is_plain_in_basic, is_plain_in_literal, is_bare_key, between, string_spelling, key_spelling}
+use Rattle.toml_edit_model.specs.Spelling.{is_plain, is_scalar_value, Part, plain, letter, numbered, part_text, part_value, IsPart}
+use Rattle.toml_edit_model.specs.Spelling.{SpellsBasic, SpellsLiteral, BlockPart, in_line, next_line, quotes, joint, block_text}
+use Rattle.toml_edit_model.specs.Spelling.{block_value, IsBlockPart, IsJoint, is_dropped_part, each_may_follow, three, SpellsMultilineBasic}
+use Rattle.toml_edit_model.specs.Spelling.{SpellsString, SpellsKey}
+use Rattle.toml_edit_model.specs.DefaultSpelling.{capital_digit, numbered_escape, escaped_byte, escaped, is_plain_in_basic}
+use Rattle.toml_edit_model.specs.DefaultSpelling.{is_plain_in_literal, is_bare_key, between, string_spelling, key_spelling}
 use Rattle.toml_edit_laws.proofs.common.Tests.{and_left, and_right, and_both, not-true}
 
 -- what holds on both sides of a test holds of the choice
@@ -80,13 +84,19 @@ escapes-known c k t e h = subst (λ b. Escapes b t) (sym (eqb-true c k e)) h
 -- what is written for a byte in one line
 escapes : (c : ℕ) → Escapes c (escaped_byte false c)
 escapes c =
-    choose (Escapes c) (c == backslash) _ _ (λ e. escapes-known c backslash _ e (escapes-letter backslash backslash refl (encode_ascii backslash (omega arith)))) (λ h.
-    choose (Escapes c) (c == quote) _ _ (λ e. escapes-known c quote _ e (escapes-letter quote quote refl (encode_ascii quote (omega arith)))) (λ g.
+    choose (Escapes c) (c == backslash) _ _ (λ e. escapes-known c backslash _ e
+    (escapes-letter backslash backslash refl (encode_ascii backslash (omega arith)))) (λ h.
+    choose (Escapes c) (c == quote) _ _ (λ e. escapes-known c quote _ e
+    (escapes-letter quote quote refl (encode_ascii quote (omega arith)))) (λ g.
     choose (Escapes c) (is_visible c) _ _ (λ v. escapes-plain c (visible-plain c h g v)) (λ v.
-    choose (Escapes c) (c == 0x08) _ _ (λ e. escapes-known c 0x08 _ e (escapes-letter 0x08 0x62 refl (encode_ascii 0x08 (omega arith)))) (λ n.
-    choose (Escapes c) (c == 0x0C) _ _ (λ e. escapes-known c 0x0C _ e (escapes-letter 0x0C 0x66 refl (encode_ascii 0x0C (omega arith)))) (λ n.
-    choose (Escapes c) (c == 0x0D) _ _ (λ e. escapes-known c 0x0D _ e (escapes-letter 0x0D 0x72 refl (encode_ascii 0x0D (omega arith)))) (λ n.
-    choose (Escapes c) (c == line_feed) _ _ (λ e. escapes-known c line_feed _ e (escapes-letter line_feed 0x6E refl (encode_ascii line_feed (omega arith)))) (λ n.
+    choose (Escapes c) (c == 0x08) _ _ (λ e. escapes-known c 0x08 _ e (escapes-letter 0x08 0x62 refl (encode_ascii 0x08 (omega arith))))
+    (λ n.
+    choose (Escapes c) (c == 0x0C) _ _ (λ e. escapes-known c 0x0C _ e (escapes-letter 0x0C 0x66 refl (encode_ascii 0x0C (omega arith))))
+    (λ n.
+    choose (Escapes c) (c == 0x0D) _ _ (λ e. escapes-known c 0x0D _ e (escapes-letter 0x0D 0x72 refl (encode_ascii 0x0D (omega arith))))
+    (λ n.
+    choose (Escapes c) (c == line_feed) _ _ (λ e. escapes-known c line_feed _ e
+    (escapes-letter line_feed 0x6E refl (encode_ascii line_feed (omega arith)))) (λ n.
     escapes-numbered c (control-ascii c v))))))))
 
 -- ---- one line

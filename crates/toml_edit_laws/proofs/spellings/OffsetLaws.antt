@@ -1,5 +1,6 @@
 -- The clock of an offset stands behind the date, the mark, the time and the sign; and dates and times that are in range are real.
-use Rattle.std.proofs.Common.{◌≡◌, refl, sym, ◌∙◌, ap, subst, ℕ, zero, suc, ◌+◌, ◌-◌, ◌*◌, ◌/◌, ◌%◌, ◌<◌, true, [], ◌∷◌, ◌++◌, length, take, drop, arith}
+use Rattle.std.proofs.Common.{◌≡◌, refl, sym, ◌∙◌, ap, subst, ℕ, zero, suc, ◌+◌, ◌-◌, ◌*◌, ◌/◌, ◌%◌, ◌<◌, true, [], ◌∷◌, ◌++◌, length, take}
+use Rattle.std.proofs.Common.{drop, arith}
 use Rattle.std.specs.Prelude.{◌&&◌, nat_lt, ℤ, nat_abs, Option, Some, None}
 use Rattle.std.specs.Char.{digit_value, is_ascii_digit}
 use Rattle.std.specs.Str.Parse.{digits_value}
@@ -9,7 +10,8 @@ use Rattle.std.proofs.lemmas.Bool.{lt-ltb, ltb-true}
 use Rattle.std.proofs.lemmas.Bool.Decides.{nat_tests}
 use Rattle.toml_edit_model.specs.Text.{Text}
 use Rattle.toml_edit_model.specs.Scalars.{Date, Time, Offset, zulu, shift, Datetime, datetime, is_real_date, is_real_time, is_absent_or}
-use Rattle.toml_edit_model.specs.Spelling.{Sign, plus, minus, unsigned, signed, digit, two_digits, date_text, clock_text, SpellsDatetime, SpellsOffsetPart, offset_clock, is_real_offset, is_in_range}
+use Rattle.toml_edit_model.specs.Spelling.{Sign, plus, minus, unsigned, signed, digit, two_digits, date_text, clock_text, SpellsDatetime}
+use Rattle.toml_edit_model.specs.Spelling.{SpellsOffsetPart, offset_clock, is_real_offset, is_in_range}
 use Rattle.toml_edit_model.specs.Tree.{is_real_shift, has_real_parts}
 use Rattle.toml_edit_laws.proofs.common.Tests.{and_left, and_right, and_both}
 
@@ -35,7 +37,8 @@ drop-past [] c t = refl
 drop-past (d ∷ s) c t = drop-past s c t
 
 -- the clock behind a date, a mark, a time and a sign
-pub clock-is : (d : Date) (mark sign : ℕ) (time clock : Text) → length clock ≡ 5 → offset_clock (date_text d ++ mark ∷ time ++ sign ∷ clock) ≡ clock
+pub clock-is : (d : Date) (mark sign : ℕ) (time clock : Text) → length clock ≡ 5 → offset_clock (date_text d ++ mark ∷ time ++ sign ∷ clock)
+    ≡ clock
 clock-is d mark sign time clock h =
     let behind : length (time ++ sign ∷ clock) ≡ length time + suc (length clock) = length-append time (sign ∷ clock) in
     let skipped : 11 + suc (length time) ≡ length (date_text d ++ mark ∷ time ++ sign ∷ clock) - 5 = omega arith in
@@ -46,7 +49,8 @@ clock-is d mark sign time clock h =
 pub offset-real : (z : ℤ) (d : Date) (mark sign : ℕ) (time : Text) (hours minutes : ℕ) → hours < 100 → minutes < 100
     → is_real_offset (shift z) (date_text d ++ mark ∷ time ++ sign ∷ clock_text hours minutes) ≡ (nat_lt hours 24 && nat_lt minutes 60)
 offset-real z d mark sign time hours minutes small less =
-    ap (λ t. nat_lt (digits_value 10 (take 2 t)) 24 && nat_lt (digits_value 10 (drop 3 t)) 60) (clock-is d mark sign time (clock_text hours minutes) refl)
+    ap (λ t. nat_lt (digits_value 10 (take 2 t)) 24 && nat_lt (digits_value 10 (drop 3 t)) 60)
+    (clock-is d mark sign time (clock_text hours minutes) refl)
     ∙ ap (λ n. nat_lt n 24 && nat_lt (digits_value 10 (two_digits minutes)) 60) (two-value hours small)
     ∙ ap (λ n. nat_lt hours 24 && nat_lt n 60) (two-value minutes less)
 
@@ -60,7 +64,8 @@ signed-abs minus (suc n) = refl
 signed-abs unsigned n = refl
 
 -- so many minutes are less than a day
-shift-below : (s : Sign) (hours minutes : ℕ) → (nat_lt hours 24 && nat_lt minutes 60) ≡ true → is_real_shift (shift (signed s (60 * hours + minutes))) ≡ true
+shift-below : (s : Sign) (hours minutes : ℕ) → (nat_lt hours 24 && nat_lt minutes 60) ≡ true
+    → is_real_shift (shift (signed s (60 * hours + minutes))) ≡ true
 shift-below s hours minutes h =
     lt-ltb (nat_abs (signed s (60 * hours + minutes))) 1440
     (rw (signed-abs s (60 * hours + minutes))
@@ -76,15 +81,18 @@ real-offset d mark time third (Some zulu) s g = refl
 real-offset d mark time third (Some (shift z)) (plus, hours, minutes, sure, small, less, value, parts) g =
     rw value
     (shift-below plus hours minutes
-    (sym (offset-real z d mark 0x2B time hours minutes small less) ∙ subst (λ t. is_real_offset (shift z) (date_text d ++ mark ∷ time ++ t) ≡ true) parts g))
+    (sym (offset-real z d mark 0x2B time hours minutes small less)
+    ∙ subst (λ t. is_real_offset (shift z) (date_text d ++ mark ∷ time ++ t) ≡ true) parts g))
 real-offset d mark time third (Some (shift z)) (minus, hours, minutes, sure, small, less, value, parts) g =
     rw value
     (shift-below minus hours minutes
-    (sym (offset-real z d mark 0x2D time hours minutes small less) ∙ subst (λ t. is_real_offset (shift z) (date_text d ++ mark ∷ time ++ t) ≡ true) parts g))
+    (sym (offset-real z d mark 0x2D time hours minutes small less)
+    ∙ subst (λ t. is_real_offset (shift z) (date_text d ++ mark ∷ time ++ t) ≡ true) parts g))
 real-offset d mark time third (Some (shift z)) (unsigned, hours, minutes, sure, small, less, value, parts) g = absurd (sure refl)
 
 -- the same, part by part
-by-parts : (date : Option Date) (time : Option Time) (offset : Option Offset) (t : Text) → SpellsDatetime (record { date = date; time = time; offset = offset }) t
+by-parts : (date : Option Date) (time : Option Time) (offset : Option Offset) (t : Text)
+    → SpellsDatetime (record { date = date; time = time; offset = offset }) t
     → is_in_range (datetime (record { date = date; time = time; offset = offset })) t ≡ true → has_real_parts date time offset ≡ true
 by-parts (Some d) None None t s h = and_left (is_real_date d) true (and_left (is_real_date d && true) true h)
 by-parts None (Some time) None t s h = and_left (is_real_time time) true h
@@ -97,5 +105,6 @@ by-parts (Some d) (Some time) offset t (first, second, third, mark, date, is, cl
 by-parts _ _ _ t s h = absurd s
 
 -- A date and time that is spelled in range has real parts.
-pub real_parts : (d : Datetime) (t : Text) → SpellsDatetime d t → is_in_range (datetime d) t ≡ true → has_real_parts d.date d.time d.offset ≡ true
+pub real_parts : (d : Datetime) (t : Text) → SpellsDatetime d t → is_in_range (datetime d) t ≡ true → has_real_parts d.date d.time d.offset
+    ≡ true
 real_parts d t s h = by-parts d.date d.time d.offset t s h

@@ -1,12 +1,14 @@
 -- The hours and minutes at the end of a text, and which offsets are in range.
-use Rattle.std.proofs.Common.{◌≡◌, refl, sym, ◌∙◌, ap, ℕ, ◌+◌, ◌-◌, ◌<◌, true, [], ◌∷◌, ◌++◌, append_assoc, append-nil, length, drop, take, arith}
+use Rattle.std.proofs.Common.{◌≡◌, refl, sym, ◌∙◌, ap, ℕ, ◌+◌, ◌-◌, ◌<◌, true, [], ◌∷◌, ◌++◌, append_assoc, append-nil, length, drop, take}
+use Rattle.std.proofs.Common.{arith}
 use Rattle.std.specs.Prelude.{◌&&◌, nat_lt, ℤ, Option, Some, None}
 use Rattle.std.specs.Str.Parse.{digits_value}
 use Rattle.std.proofs.lemmas.List.{length-append}
 use Rattle.std.proofs.lemmas.Bool.{lt-ltb, ltb-true}
 use Rattle.toml_edit_model.specs.Text.{Text}
 use Rattle.toml_edit_model.specs.Scalars.{Date, Time, Offset, zulu, shift, Datetime, datetime, is_absent_or, is_real_date, is_real_time}
-use Rattle.toml_edit_model.specs.Spelling.{Sign, two_digits, sign_text, clock_text, SpellsOffset, SpellsOffsetPart, SpellsParts, SpellsDatetime, is_real_offset, is_in_range}
+use Rattle.toml_edit_model.specs.Spelling.{Sign, two_digits, sign_text, clock_text, SpellsOffset, SpellsOffsetPart, SpellsParts}
+use Rattle.toml_edit_model.specs.Spelling.{SpellsDatetime, is_real_offset, is_in_range}
 use Rattle.toml_edit_laws.specs.Offsets.{SpellsRealOffset, SpellsRealPart, ClocksAtEnds, RealOffsets, RealDatetimes}
 use Rattle.toml_edit_laws.proofs.common.Tests.{and_left, and_right, and_both}
 use Rattle.toml_edit_laws.proofs.spellings.OffsetLaws.{two-value}
@@ -58,11 +60,13 @@ real-offsets o front t h = (to-real o front t h, from-real o front t)
 
 -- ---- date-times
 
-from-part : (offset : Option Offset) (t front last : Text) → t ≡ front ++ last → SpellsRealPart offset last → is_absent_or (λ o. is_real_offset o t) offset ≡ true
+from-part : (offset : Option Offset) (t front last : Text) → t ≡ front ++ last → SpellsRealPart offset last
+    → is_absent_or (λ o. is_real_offset o t) offset ≡ true
 from-part None t front last e h = refl
 from-part (Some o) t front last e h = ap (is_real_offset o) e ∙ from-real o front last h
 
-to-part : (offset : Option Offset) (t front last : Text) → t ≡ front ++ last → SpellsOffsetPart offset last → is_absent_or (λ o. is_real_offset o t) offset ≡ true
+to-part : (offset : Option Offset) (t front last : Text) → t ≡ front ++ last → SpellsOffsetPart offset last
+    → is_absent_or (λ o. is_real_offset o t) offset ≡ true
     → SpellsRealPart offset last
 to-part None t front last e h g = h
 to-part (Some o) t front last e h g = to-real o front last h (ap (is_real_offset o) (sym e) ∙ g)
@@ -77,7 +81,8 @@ ends-in (Some d) (Some time) offset t (first, second, third, mark, date, is, clo
 ends-in _ _ _ t h = absurd h
 
 to-range : (d : Datetime) (t : Text) → SpellsDatetime d t → is_in_range (datetime d) t ≡ true
-    → (is_absent_or is_real_date d.date ≡ true) × (is_absent_or is_real_time d.time ≡ true) × (front last : Text) × (t ≡ front ++ last) × SpellsRealPart d.offset last
+    → (is_absent_or is_real_date d.date ≡ true) × (is_absent_or is_real_time d.time ≡ true) × (front last : Text) × (t ≡ front ++ last)
+    × SpellsRealPart d.offset last
 to-range d t h g =
     let date_is = is_absent_or is_real_date d.date in
     let time_is = is_absent_or is_real_time d.time in
@@ -93,12 +98,14 @@ to-range d t h g =
     )
 
 from-range : (d : Datetime) (t : Text)
-    → (is_absent_or is_real_date d.date ≡ true) × (is_absent_or is_real_time d.time ≡ true) × (front last : Text) × (t ≡ front ++ last) × SpellsRealPart d.offset last
+    → (is_absent_or is_real_date d.date ≡ true) × (is_absent_or is_real_time d.time ≡ true) × (front last : Text) × (t ≡ front ++ last)
+    × SpellsRealPart d.offset last
     → is_in_range (datetime d) t ≡ true
 from-range d t (date, time, front, last, e, offset) =
     let date_is = is_absent_or is_real_date d.date in
     let time_is = is_absent_or is_real_time d.time in
-    and_both (date_is && time_is) (is_absent_or (λ o. is_real_offset o t) d.offset) (and_both date_is time_is date time) (from-part d.offset t front last e offset)
+    and_both (date_is && time_is) (is_absent_or (λ o. is_real_offset o t) d.offset) (and_both date_is time_is date time)
+    (from-part d.offset t front last e offset)
 
 pub real-datetimes : RealDatetimes
 real-datetimes d t h = (to-range d t h, from-range d t)

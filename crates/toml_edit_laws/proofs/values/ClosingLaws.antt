@@ -3,7 +3,8 @@ use Rattle.std.proofs.Common.{◌≡◌, refl, sym, ◌∙◌, ap, subst, Bool, 
 use Rattle.toml_edit_laws.proofs.common.WhiteSpace.{shown-none}
 use Rattle.toml_edit_model.specs.Mode.{Mode, shown_text}
 use Rattle.toml_edit_model.specs.Text.{Text}
-use Rattle.toml_edit_model.specs.Syntax.{array, inline_table, Elements, no_elements, element, Pairs, no_pairs, pair, IsClose, has_elements, has_pairs}
+use Rattle.toml_edit_model.specs.Syntax.{array, inline_table, Elements, no_elements, element, Pairs, no_pairs, pair, IsClose, has_elements}
+use Rattle.toml_edit_model.specs.Syntax.{has_pairs}
 use Rattle.toml_edit_model.specs.Normal.{normal_elements}
 use Rattle.toml_edit_model.specs.Print.{add_after, close_array, add_after_pairs, close_inline}
 use Rattle.toml_edit_laws.proofs.common.Tests.{append-nil}

@@ -2,9 +2,11 @@
 use Rattle.std.proofs.Common.{◌≡◌, refl, ◌∙◌, ap, ℕ, ◌+◌, false, List, [], ◌∷◌, length, None}
 use Rattle.std.specs.Prelude.{◌||◌}
 use Rattle.toml_edit_model.specs.Text.{Text, same_text}
-use Rattle.toml_edit_model.specs.Syntax.{Value, scalar, array, inline_table, Elements, no_elements, element, Pairs, no_pairs, pair, value_text}
+use Rattle.toml_edit_model.specs.Syntax.{Value, scalar, array, inline_table, Elements, no_elements, element, Pairs, no_pairs, pair}
+use Rattle.toml_edit_model.specs.Syntax.{value_text}
 use Rattle.toml_edit_model.specs.Paths.{at_key, Mention}
-use Rattle.toml_edit_model.specs.Tree.{Key, Node, nothing, leaf, list, inline, table, tables, Items, no_items, item, Slots, no_slots, slot, has_key}
+use Rattle.toml_edit_model.specs.Tree.{Key, Node, nothing, leaf, list, inline, table, tables, Items, no_items, item, Slots, no_slots, slot}
+use Rattle.toml_edit_model.specs.Tree.{has_key}
 use Rattle.toml_edit_model.specs.TreeOf.{Form, Entry, entry_of, entries, IsValueNode, AreElementNodes, AreEntrySlots}
 use Rattle.toml_edit_laws.specs.InlineTree.{next_pair, pair_path}
 use Rattle.toml_edit_laws.proofs.mentions.GatherLaws.{first_of_key, AreDistinct, kept-distinct, first-none}
@@ -36,11 +38,13 @@ module _ (form : Form) where
   pub of_entries : (ps : Pairs) (start : ℕ) → AreOfPairs (entries form ps start)
   of_entries no_pairs start = of_none
   of_entries (pair f v ps) start =
-      of_both (pair_path form start f v) (entries form ps (next_pair start f v)) (of_line (entry_of form start f v) (start + length f.leading) f.path)
+      of_both (pair_path form start f v) (entries form ps (next_pair start f v)) (of_line (entry_of form start f v) (start
+      + length f.leading) f.path)
       (of_entries ps (next_pair start f v))
 
   -- a key that no kept mention has isn't among the slots
-  pub key-absent : (k : Text) (ms ks : List (Mention Entry)) (ss : Slots) → first_of_key k ks ≡ None → AreEntrySlots form ms ks ss → has_key k ss ≡ false
+  pub key-absent : (k : Text) (ms ks : List (Mention Entry)) (ss : Slots) → first_of_key k ks ≡ None → AreEntrySlots form ms ks ss
+      → has_key k ss ≡ false
   key-absent k ms [] no_slots e h = refl
   key-absent k ms [] (slot l n ss) e h = absurd h
   key-absent k ms (m ∷ ks) no_slots e h = absurd h
@@ -66,10 +70,14 @@ module _ (form : Form) where
     distinct-items no_elements i no_items h = tt
     distinct-items no_elements i (item n xs) h = absurd h
     distinct-items (element a v es) i no_items h = absurd h
-    distinct-items (element a v es) i (item n xs) h =
-        (distinct-node v i a.before a.after n h.0, distinct-items es (i + length a.before + length (value_text v) + length a.after + 1) xs h.1)
+    distinct-items (element a v es) i (item n xs) h = (
+      distinct-node v i a.before a.after n h.0,
+      distinct-items es (i + length a.before + length (value_text v) + length a.after
+          + 1) xs h.1,
+    )
 
-    pub distinct-slots : (ms ks : List (Mention Entry)) (ss : Slots) → AreOfPairs ms → AreDistinct ks → AreEntrySlots form ms ks ss → HaveDistinctKeys ss
+    pub distinct-slots : (ms ks : List (Mention Entry)) (ss : Slots) → AreOfPairs ms → AreDistinct ks → AreEntrySlots form ms ks ss
+        → HaveDistinctKeys ss
     distinct-slots ms [] no_slots are d h = tt
     distinct-slots ms [] (slot k n ss) are d h = absurd h
     distinct-slots ms (m ∷ ks) no_slots are d h = absurd h

@@ -5,9 +5,12 @@ use Rattle.std.specs.List.{AllByRecursion}
 use Rattle.toml_edit_model.specs.Text.{Text}
 use Rattle.toml_edit_model.specs.Scalars.{Scalar, string, integer, float, boolean, datetime}
 use Rattle.toml_edit_model.specs.Spelling.{is_in_range}
-use Rattle.toml_edit_model.specs.Syntax.{Segment, Value, scalar, array, inline_table, Elements, no_elements, element, Pairs, no_pairs, pair, value_text, frame_text, path_text, is_short, nesting_limit}
+use Rattle.toml_edit_model.specs.Syntax.{Segment, Value, scalar, array, inline_table, Elements, no_elements, element, Pairs, no_pairs, pair}
+use Rattle.toml_edit_model.specs.Syntax.{value_text, frame_text, path_text, is_short, nesting_limit}
 use Rattle.toml_edit_model.specs.Paths.{Mention, PairSource, pair_mentions}
-use Rattle.toml_edit_model.specs.Faults.{Fault, fault, type_name, first_clash, duplicate_key, cannot_extend, clash_message, is_inline, pair_clash, pair_clashes, recursion_limit, long_path, deep_bracket, range_message, value_faults, elements_faults, pairs_faults}
+use Rattle.toml_edit_model.specs.Faults.{Fault, fault, type_name, first_clash, duplicate_key, cannot_extend, clash_message, is_inline}
+use Rattle.toml_edit_model.specs.Faults.{pair_clash, pair_clashes, recursion_limit, long_path, deep_bracket, range_message, value_faults}
+use Rattle.toml_edit_model.specs.Faults.{elements_faults, pairs_faults}
 use Rattle.toml_edit_model.specs.Messages.{fault_messages}
 use Rattle.toml_edit_laws.proofs.common.Each.{all-append}
 use Rattle.toml_edit_laws.proofs.common.Members.{Among, to-contained}
@@ -50,7 +53,8 @@ some-known : (b : Bool) (f : Fault) → IsFaultMessage f → AllByRecursion IsFa
 some-known true f h = (h, tt)
 some-known false f h = tt
 
-either-known : (b : Bool) (t u : Text) → Contains fault_messages t → Contains fault_messages u → Contains fault_messages (if b then t else u)
+either-known : (b : Bool) (t u : Text) → Contains fault_messages t → Contains fault_messages u
+    → Contains fault_messages (if b then t else u)
 either-known true t u h g = h
 either-known false t u h g = g
 
@@ -58,11 +62,13 @@ clash-known : (o : Option (Mention PairSource × Mention PairSource)) → AllByR
 clash-known None = tt
 clash-known (Some (m, e)) = (
   either-known (is_inline e.source.value) duplicate_key (clash_message e.role m.role (type_name e.source.value)) duplicate-known
-      (either-known (is_value_role e.role && extends m.role) (cannot_extend (type_name e.source.value)) duplicate_key (type-known e.source.value) duplicate-known),
+      (either-known (is_value_role e.role && extends m.role) (cannot_extend (type_name e.source.value)) duplicate_key
+      (type-known e.source.value) duplicate-known),
   tt,
 )
 
-clashes-known : (earlier : List (Mention PairSource)) (mss : List (List (Mention PairSource))) → AllByRecursion IsFaultMessage (pair_clashes earlier mss)
+clashes-known : (earlier : List (Mention PairSource)) (mss : List (List (Mention PairSource)))
+    → AllByRecursion IsFaultMessage (pair_clashes earlier mss)
 clashes-known earlier [] = tt
 clashes-known earlier (m ∷ rest) =
     all-append IsFaultMessage (pair_clash (first_clash may_meet_inline earlier m)) (pair_clashes (earlier ++ m) rest)
@@ -85,7 +91,8 @@ mutual
       let clashes = pair_clashes [] (pair_mentions (start + 1) ps) in
       let inner = pairs_faults ps (start + 1) (suc level) in
       all-append IsFaultMessage (deep_bracket level start) (clashes ++ inner) (bracket-known level start)
-      (all-append IsFaultMessage clashes inner (clashes-known [] (pair_mentions (start + 1) ps)) (pairs-messages ps (start + 1) (suc level)))
+      (all-append IsFaultMessage clashes inner (clashes-known [] (pair_mentions (start + 1) ps)) (pairs-messages ps (start
+      + 1) (suc level)))
 
   elements-messages : (es : Elements) (start level : ℕ) → AllByRecursion IsFaultMessage (elements_faults es start level)
   elements-messages no_elements start level = tt
@@ -100,4 +107,5 @@ mutual
       let at = start + length f.leading + length (path_text f.path) + length f.before_equals + 1 + length f.after_equals in
       let next = start + length (frame_text f (value_text v)) + 1 in
       all-append IsFaultMessage (long_path f.path) (value_faults v at level ++ pairs_faults ps next level) (path-known f.path)
-      (all-append IsFaultMessage (value_faults v at level) (pairs_faults ps next level) (value-messages v at level) (pairs-messages ps next level))
+      (all-append IsFaultMessage (value_faults v at level) (pairs_faults ps next level) (value-messages v at level)
+      (pairs-messages ps next level))

@@ -1,12 +1,15 @@
 -- A value has an item: the slots of an inline table are made key by key, with paths that grow shorter.
-use Rattle.std.proofs.Common.{◌≡◌, ◌≤◌, refl, sym, ◌∙◌, ap, subst, ℕ, suc, zero, ◌+◌, ◌-◌, arith, Bool, true, false, List, [], ◌∷◌, ◌++◌, length, Some}
+use Rattle.std.proofs.Common.{◌≡◌, ◌≤◌, refl, sym, ◌∙◌, ap, subst, ℕ, suc, zero, ◌+◌, ◌-◌, arith, Bool, true, false, List, [], ◌∷◌, ◌++◌}
+use Rattle.std.proofs.Common.{length, Some}
 use Rattle.std.specs.Prelude.{◌&&◌, ◌||◌, not, if◌then◌else◌, MatchBool}
 use Rattle.std.specs.List.{AllByRecursion}
 use Rattle.toml_edit_model.specs.Text.{Text}
-use Rattle.toml_edit_model.specs.Syntax.{Segment, Value, scalar, array, inline_table, Elements, no_elements, element, Pairs, no_pairs, pair, value_text}
+use Rattle.toml_edit_model.specs.Syntax.{Segment, Value, scalar, array, inline_table, Elements, no_elements, element, Pairs, no_pairs, pair}
+use Rattle.toml_edit_model.specs.Syntax.{value_text}
 use Rattle.toml_edit_model.specs.Paths.{Step, at_key, Path, same_step, to_key, Mention, line_mentions, next_start}
 use Rattle.toml_edit_model.specs.Tree.{Node, leaf, list, inline, Items, no_items, item, Slots, no_slots, slot}
-use Rattle.toml_edit_model.specs.TreeOf.{Form, Entry, decor_at, key_of, key_extent, entry_of, value_start, entries, IsValueNode, AreElementNodes, AreEntrySlots}
+use Rattle.toml_edit_model.specs.TreeOf.{Form, Entry, decor_at, key_of, key_extent, entry_of, value_start, entries, IsValueNode}
+use Rattle.toml_edit_model.specs.TreeOf.{AreElementNodes, AreEntrySlots}
 use Rattle.toml_edit_laws.specs.InlineTree.{path_fields, pair_path, next_pair}
 use Rattle.toml_edit_laws.proofs.inline_tables.EntrySlots.{IsEntryNode, dotted-node}
 use Rattle.toml_edit_laws.proofs.values.OneNode.{one-node}
@@ -35,7 +38,8 @@ within-inside n s m (t ∷ p) h = by_test (same_step t s)
 
 within-under : {S : Type 0} (n : ℕ) (s : Step) (ms : List (Mention S)) → AreWithin (suc n) ms → AreWithin n (under s ms)
 within-under n s [] h = tt
-within-under n s (m ∷ ms) h = all-append (λ x. length x.path ≤ n) (inside s m m.path) (under s ms) (within-inside n s m m.path h.0) (within-under n s ms h.1)
+within-under n s (m ∷ ms) h =
+    all-append (λ x. length x.path ≤ n) (inside s m m.path) (under s ms) (within-inside n s m m.path h.0) (within-under n s ms h.1)
 
 kept-past : {S : Type 0} (before : List (Mention S)) (m : Mention S) (ms : List (Mention S)) → is_single m.path ≡ false
     → kept_from before (m ∷ ms) ≡ kept_from (before ++ (m ∷ [])) ms
@@ -78,7 +82,8 @@ module _ (form : Form) where
   nodes-under s (m ∷ ms) h = all-append HasNode (inside s m m.path) (under s ms) (nodes-inside s m m.path h.0) (nodes-under s ms h.1)
 
   nodes-line : (source : Entry) (start : ℕ) (p : Path) (segments : List Segment)
-      → ((n : Node) × IsValueNode form source.value source.start source.before source.after n) → AllByRecursion HasNode (line_mentions source start p segments)
+      → ((n : Node) × IsValueNode form source.value source.start source.before source.after n)
+      → AllByRecursion HasNode (line_mentions source start p segments)
   nodes-line source start p [] h = tt
   nodes-line source start p (g ∷ []) h = (h, tt)
   nodes-line source start p (g ∷ x ∷ rest) h = (h, nodes-line source (next_start start g) (to_key p g.key) (x ∷ rest) h)
@@ -98,8 +103,10 @@ module _ (form : Form) where
       by_end : (b : Bool) → ends_path m.role ≡ b → (n : Node) × IsEntryNode form ms m n
       by_end true e = (h.0, (refl, to-value (ends_path m.role) _ _ e h.1, tt))
       by_end false e =
-          let inside = below m.segment.key in
-          (inline (path_fields (key_extent form m)) inside.0, dotted-node form ms m (path_fields (key_extent form m)) inside.0 (e, refl, inside.1))
+          let inside = below m.segment.key in (
+            inline (path_fields (key_extent form m)) inside.0,
+            dotted-node form ms m (path_fields (key_extent form m)) inside.0 (e, refl, inside.1),
+          )
 
   some-list : (ms ks : List (Mention Entry)) → AllByRecursion HasNode ks
       → ((k : Text) → (ss : Slots) × AreEntrySlots form (under (at_key k) ms) (kept (under (at_key k) ms)) ss)
@@ -110,7 +117,8 @@ module _ (form : Form) where
       let others = some-list ms ks h.1 below in
       (slot (key_of form m.source.leaf m) first.0 others.0, (refl, first.1.1, others.1))
 
-  some-within : (n : ℕ) (ms : List (Mention Entry)) → AreWithin n ms → AllByRecursion HasNode ms → (ss : Slots) × AreEntrySlots form ms (kept ms) ss
+  some-within : (n : ℕ) (ms : List (Mention Entry)) → AreWithin n ms → AllByRecursion HasNode ms → (ss : Slots)
+      × AreEntrySlots form ms (kept ms) ss
   some-within zero ms w h = (no_slots, subst (λ ks. AreEntrySlots form ms ks no_slots) (sym (none-within [] ms w)) tt)
   some-within (suc n) ms w h =
       some-list ms (kept ms) (kept-all HasNode [] ms h)

@@ -36,7 +36,8 @@ raw-fits source i (c ∷ t) h = (h.start, h.end, omega arith)
 pub edge-at : (text : Text) (i j : ℕ) → IsCharBoundary text i → i ≡ j → IsCharBoundary text j
 edge-at text i j h e = subst (IsCharBoundary text) e h
 
-pub segment-fits : (text : Text) (i : ℕ) (s : Segment) → IsUtf8 text → Stands text i (segment_text s) → IsSpacedSegment s → IsCharBoundary text i
+pub segment-fits : (text : Text) (i : ℕ) (s : Segment) → IsUtf8 text → Stands text i (segment_text s) → IsSpacedSegment s
+    → IsCharBoundary text i
     → IsCharBoundary text (i + length (segment_text s)) → SegmentFits text (i + length s.before) s
 segment-fits text i s utf8 h spaced first last =
     let at = around-stands text i s.before s.spelled s.after h in
@@ -46,7 +47,8 @@ segment-fits text i s utf8 h spaced first last =
     let spelled_start = end-edge text i s.before utf8 at.before_at (white-ends s.before spaced.0) first in
     let spelled_end = start-edge text (i + length s.before + length s.spelled) s.after at.after_at (white-starts s.after spaced.1) end in
     record {
-      before = lies-at text i (i + length s.before - length s.before) s.before (record { start = first; end = spelled_start }) (omega arith);
+      before = lies-at text i (i + length s.before - length s.before) s.before (record { start = first; end = spelled_start })
+          (omega arith);
       spelled = record { start = spelled_start; end = spelled_end };
       after = record { start = spelled_end; end = end };
     }
@@ -58,7 +60,8 @@ pub record FirstFits (text : Text) (i : ℕ) (s r : Segment) (rest : List Segmen
   pub start : IsCharBoundary text (next_start i s)
   pub end : IsCharBoundary text (next_start i s + length (path_text (r ∷ rest)))
 
-pub first-fits : (text : Text) (i : ℕ) (s r : Segment) (rest : List Segment) → IsUtf8 text → Stands text i (path_text (s ∷ r ∷ rest)) → IsSpacedSegment s
+pub first-fits : (text : Text) (i : ℕ) (s r : Segment) (rest : List Segment) → IsUtf8 text → Stands text i (path_text (s ∷ r ∷ rest))
+    → IsSpacedSegment s
     → IsCharBoundary text i → IsCharBoundary text (i + length (path_text (s ∷ r ∷ rest))) → FirstFits text i s r rest
 first-fits text i s r rest utf8 h spaced first last =
     let dot = stands-right text i (segment_text s) (codes "." ++ path_text (r ∷ rest)) h in
@@ -97,7 +100,8 @@ module _ (mode : Mode) where
     pub first : IsCharBoundary text (i + value_start (spanned_in mode) f)
     pub last : IsCharBoundary text (i + value_start (spanned_in mode) f + length (f.after_equals ++ (value_text v ++ f.trailing)))
 
-  pub frame-fits : (text : Text) (i : ℕ) (f : Frame) (v : Value) (P : Text → Type 0) → IsUtf8 text → Stands text i (frame_text f (value_text v)) → IsFrame P f
+  pub frame-fits : (text : Text) (i : ℕ) (f : Frame) (v : Value) (P : Text → Type 0) → IsUtf8 text
+      → Stands text i (frame_text f (value_text v)) → IsFrame P f
       → IsCharBoundary text i → IsCharBoundary text (i + length (frame_text f (value_text v))) → FrameFits text i f v
   frame-fits text i f v P utf8 h frame first last =
       let from_value = f.after_equals ++ (value_text v ++ f.trailing) in
@@ -110,17 +114,29 @@ module _ (mode : Mode) where
       let equals = i + length f.leading + length (path_text f.path) + length f.before_equals in
       let before_equals : IsCharBoundary text equals = edge-before text equals 61 from_value at_equals (omega arith) in
       let after_equals : IsCharBoundary text (equals + 1) = edge-after text equals 61 from_value utf8 at_equals (omega arith) in
-      let leading = end-edge text i f.leading utf8 (stands-left text i f.leading from_path h) (trivia-ends f.leading frame.0.leading) first in
+      let leading = end-edge text i f.leading utf8 (stands-left text i f.leading from_path h) (trivia-ends f.leading frame.0.leading)
+      first in
       let path_end = start-edge text (i + length f.leading + length (path_text f.path)) f.before_equals
-      (stands-left text (i + length f.leading + length (path_text f.path)) f.before_equals from_equals at_space) (white-starts f.before_equals frame.0.before_equals) before_equals in
+      (stands-left text (i + length f.leading + length (path_text f.path)) f.before_equals from_equals at_space)
+      (white-starts f.before_equals frame.0.before_equals) before_equals in
       let start : equals + 1 ≡ i + value_start (spanned_in mode) f = omega arith in
-      let value = stands-at text (equals + 1) (i + value_start (spanned_in mode) f) from_value (stands-right text equals (codes "=") from_value at_equals) start in
+      let value = stands-at text (equals + 1) (i + value_start (spanned_in mode) f) from_value
+      (stands-right text equals (codes "=") from_value at_equals) start in
       let end : i + length (frame_text f (value_text v)) ≡ i + value_start (spanned_in mode) f + length from_value =
-      omega (arith, length-append f.leading from_path, length-append (path_text f.path) from_space, length-append f.before_equals from_equals) in
+      omega (
+        arith,
+        length-append f.leading from_path,
+        length-append (path_text f.path) from_space,
+        length-append f.before_equals from_equals,
+      ) in
       record {
         leaf = (
           raw-fits text i f.leading (record { start = first; end = leading }),
-          raw-fits text (i + length f.leading + length (path_text f.path)) f.before_equals (record { start = path_end; end = before_equals }),
+          raw-fits text (i + length f.leading + length (path_text f.path)) f.before_equals (record {
+            start = path_end;
+            end =
+                before_equals;
+          }),
         );
         path = record { start = leading; end = path_end };
         path_stands = stands-left text (i + length f.leading) (path_text f.path) from_space at_path;

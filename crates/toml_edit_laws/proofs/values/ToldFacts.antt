@@ -37,7 +37,8 @@ key-facts : (e : Entry) (i : ℕ) (p : Path) (ss : List Segment) → begins_unsp
 key-facts e i p [] h = absurd cc
 key-facts e i p (s ∷ rest) h = ap (λ x. below_keys x (s ∷ rest) (value_facts e.value)) (sym (append-nil p)) ∙ line-facts e i p [] s rest
 
-pub pairs-told : (form : Form) (ps : Pairs) (i : ℕ) (p : Path) → ArePairs ps → pairs_facts ps p ≡ flat_map (mention_facts p) (entries form ps i)
+pub pairs-told : (form : Form) (ps : Pairs) (i : ℕ) (p : Path) → ArePairs ps → pairs_facts ps p
+    ≡ flat_map (mention_facts p) (entries form ps i)
 pairs-told form no_pairs i p h = refl
 pairs-told form (pair f v ps) i p h =
     let own = line_mentions (entry_of form i f v) (i + length f.leading) [] f.path in
@@ -81,7 +82,8 @@ pub record ToldBelow (p : Path) (ms ks : List (Mention Entry)) (f : Fact) : Type
   pub told : Told (to_key p slot.segment.key) (under (at_key slot.segment.key) ms) f
 
 -- the path one step down is the same path
-pub step-facts : (p q : Path) (s : Step) (m n : Mention Entry) → m.path ≡ s ∷ q → n ≡ moved m q → mention_facts (p ++ (s ∷ [])) n ≡ mention_facts p m
+pub step-facts : (p q : Path) (s : Step) (m n : Mention Entry) → m.path ≡ s ∷ q → n ≡ moved m q → mention_facts (p ++ (s ∷ [])) n
+    ≡ mention_facts p m
 step-facts p q s m n e same =
     ap (mention_facts (p ++ (s ∷ []))) same
     ∙ ap (role_facts m.role m.source.value) (append_assoc p (s ∷ []) q ∙ ap (λ x. p ++ x) (sym e))
@@ -93,7 +95,8 @@ rise p ms ks f t =
     record {
       mention = up.mention;
       among = up.among;
-      told = subst (Among f) (step-facts p t.told.mention.path (at_key t.slot.segment.key) up.mention t.told.mention up.path up.same) t.told.told;
+      told = subst (Among f) (step-facts p t.told.mention.path (at_key t.slot.segment.key) up.mention t.told.mention up.path up.same)
+          t.told.told;
     }
 
 -- what is told of a longer path is told below the key of a slot

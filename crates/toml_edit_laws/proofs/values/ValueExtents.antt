@@ -1,10 +1,12 @@
 -- The extents of a value that stands in the source lie in it.
-use Rattle.std.proofs.Common.{◌≡◌, ◌≤◌, ℕ, ◌+◌, refl, sym, ap, subst, ◌∙◌, arith, inl, inr, true, false, Bool, List, [], ◌∷◌, ◌++◌, length, codes}
+use Rattle.std.proofs.Common.{◌≡◌, ◌≤◌, ℕ, ◌+◌, refl, sym, ap, subst, ◌∙◌, arith, inl, inr, true, false, Bool, List, [], ◌∷◌, ◌++◌, length}
+use Rattle.std.proofs.Common.{codes}
 use Rattle.std.specs.Prelude.{MatchBool}
 use Rattle.std.proofs.lemmas.List.{length-append}
 use Rattle.toml_edit_model.specs.Mode.{Mode}
 use Rattle.toml_edit_model.specs.Text.{Text}
-use Rattle.toml_edit_model.specs.Syntax.{Value, scalar, array, inline_table, Elements, no_elements, element, value_text, elements_text, pairs_text, comma_text}
+use Rattle.toml_edit_model.specs.Syntax.{Value, scalar, array, inline_table, Elements, no_elements, element, value_text, elements_text}
+use Rattle.toml_edit_model.specs.Syntax.{pairs_text, comma_text}
 use Rattle.toml_edit_model.specs.Paths.{at_key, Mention}
 use Rattle.toml_edit_model.specs.Tree.{Node, nothing, leaf, list, inline, table, tables, Items, no_items, item, Slots, no_slots, slot}
 use Rattle.toml_edit_model.specs.TreeOf.{spanned_in, Entry, entries, IsValueNode, AreElementNodes, AreEntrySlots}
@@ -47,16 +49,20 @@ module _ (mode : Mode) where
       node-lies (leaf s r d) (scalar t u) i before after h is = tt
       node-lies (list f xs) (array es comma t) i before after h is =
           let at = around-stands source i before (value_text (array es comma t)) after h in
-          let inner = inner-stands source (i + length before) (codes "[") (elements_text es) (comma_text comma) t (codes "]") refl refl at.value_at in (
-            subst (λ g. ExtentLies source g.extent) (sym is.0) (ends-lie source (i + length before) (value_text (array es comma t)) at.value_at),
+          let inner = inner-stands source (i + length before) (codes "[") (elements_text es) (comma_text comma) t (codes "]") refl refl
+          at.value_at in (
+            subst (λ g. ExtentLies source g.extent) (sym is.0) (ends-lie source (i
+                + length before) (value_text (array es comma t)) at.value_at),
             items-lie xs es (i + length before + 1) inner.body_at is.1,
           )
       node-lies (inline f ss) (inline_table ps comma t) i before after h is =
           let at = around-stands source i before (value_text (inline_table ps comma t)) after h in
-          let inner = inner-stands source (i + length before) (codes "{") (pairs_text ps) (comma_text comma) t (codes "}") refl refl at.value_at in
+          let inner = inner-stands source (i + length before) (codes "{") (pairs_text ps) (comma_text comma) t (codes "}") refl refl
+          at.value_at in
           let stand = pairs-stand mode source ps (i + length before + 1) inner.body_at in
           let ms = entries (spanned_in mode) ps (i + length before + 1) in (
-            subst (λ g. ExtentLies source g.extent) (sym is.0) (ends-lie source (i + length before) (value_text (inline_table ps comma t)) at.value_at),
+            subst (λ g. ExtentLies source g.extent) (sym is.0) (ends-lie source (i
+                + length before) (value_text (inline_table ps comma t)) at.value_at),
             slots-lie ss ms (kept ms) stand.each (λ m a. stand.each m (kept-is [] m ms a).among) is.1,
           )
       node-lies (leaf s r d) (array es comma t) i before after h is = elim is [ ]
@@ -69,20 +75,23 @@ module _ (mode : Mode) where
       node-lies (tables e xs) v i before after h is = absurd (not-value (spanned_in mode) (tables e xs) v i before after refl is)
       node-lies nothing v i before after h is = absurd (not-value (spanned_in mode) nothing v i before after refl is)
 
-      items-lie : (xs : Items) (es : Elements) (i : ℕ) → Stands source i (elements_text es) → AreElementNodes (spanned_in mode) es i xs → ItemsLie source xs
+      items-lie : (xs : Items) (es : Elements) (i : ℕ) → Stands source i (elements_text es) → AreElementNodes (spanned_in mode) es i xs
+          → ItemsLie source xs
       items-lie no_items no_elements i h is = tt
       items-lie (item n no_items) (element a v no_elements) i h is =
           (node-lies n v i a.before a.after (element-stands source i a v no_elements h) is.0, tt)
       items-lie (item n (item o xs)) (element a v (element b w es)) i h is = (
         node-lies n v i a.before a.after (element-stands source i a v (element b w es) h) is.0,
-        items-lie (item o xs) (element b w es) (i + length a.before + length (value_text v) + length a.after + 1) (elements-after source i a v b w es h) is.1,
+        items-lie (item o xs) (element b w es) (i + length a.before + length (value_text v) + length a.after
+            + 1) (elements-after source i a v b w es h) is.1,
       )
       items-lie no_items (element a v es) i h is = elim is [ ]
       items-lie (item n xs) no_elements i h is = elim is [ ]
       items-lie (item n no_items) (element a v (element b w es)) i h is = elim is.1 [ ]
       items-lie (item n (item o xs)) (element a v no_elements) i h is = elim is.1 [ ]
 
-      made-lies : (n : Node) (m : Mention Entry) (ns : List (Mention Entry)) → MentionStands source m → all-stand ns → IsMadeByKey (spanned_in mode) m ns n
+      made-lies : (n : Node) (m : Mention Entry) (ns : List (Mention Entry)) → MentionStands source m → all-stand ns
+          → IsMadeByKey (spanned_in mode) m ns n
           → NodeLies source n
       made-lies (inline f ss) m ns at h is = (
         subst (λ g. ExtentLies source g.extent) (sym is.0) (ends-lie source m.start m.segment.spelled at.segment.spelled),
@@ -94,7 +103,8 @@ module _ (mode : Mode) where
       made-lies (tables e xs) m ns at h is = elim is [ ]
       made-lies nothing m ns at h is = elim is [ ]
 
-      slots-lie : (ss : Slots) (ms ks : List (Mention Entry)) → all-stand ms → all-stand ks → AreEntrySlots (spanned_in mode) ms ks ss → SlotsLie source ss
+      slots-lie : (ss : Slots) (ms ks : List (Mention Entry)) → all-stand ms → all-stand ks → AreEntrySlots (spanned_in mode) ms ks ss
+          → SlotsLie source ss
       slots-lie no_slots ms [] h g is = tt
       slots-lie (slot key n ss) ms (k ∷ ks) h g is =
           let at = g k (inl refl) in (

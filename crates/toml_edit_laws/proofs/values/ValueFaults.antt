@@ -1,5 +1,6 @@
 -- A value has no faults exactly where it is right.
-use Rattle.std.proofs.Common.{◌≡◌, refl, sym, ◌∙◌, ap, ℕ, suc, ◌+◌, ◌≤◌, arith, Bool, true, false, List, [], ◌∷◌, ◌++◌, length, Option, Some, None}
+use Rattle.std.proofs.Common.{◌≡◌, refl, sym, ◌∙◌, ap, ℕ, suc, ◌+◌, ◌≤◌, arith, Bool, true, false, List, [], ◌∷◌, ◌++◌, length, Option}
+use Rattle.std.proofs.Common.{Some, None}
 use Rattle.std.specs.Prelude.{◌&&◌, ◌||◌, ◌==◌, ◌↔◌, Contains, not, nat_le, max, find, map, is_some, if◌then◌else◌}
 use Rattle.std.specs.List.{list_all}
 use Rattle.std.proofs.lemmas.List.Folds.{list_all-map}
@@ -7,10 +8,14 @@ use Rattle.std.proofs.lemmas.Bool.{le-leb, lt-leb, leb-true, leb-false}
 use Rattle.std.proofs.lemmas.Bool.Decides.{Decides-eqb}
 use Rattle.toml_edit_model.specs.Text.{is_empty}
 use Rattle.toml_edit_model.specs.Spelling.{is_in_range}
-use Rattle.toml_edit_model.specs.Syntax.{Segment, Value, scalar, array, inline_table, Elements, no_elements, element, Pairs, no_pairs, pair, value_text, frame_text, path_text, depth, elements_depth, pairs_depth, nesting_limit, is_short, has_short_keys, elements_have_short_keys, pairs_have_short_keys, keeps_ranges, elements_keep_ranges, pairs_keep_ranges}
+use Rattle.toml_edit_model.specs.Syntax.{Segment, Value, scalar, array, inline_table, Elements, no_elements, element, Pairs, no_pairs, pair}
+use Rattle.toml_edit_model.specs.Syntax.{value_text, frame_text, path_text, depth, elements_depth, pairs_depth, nesting_limit, is_short}
+use Rattle.toml_edit_model.specs.Syntax.{has_short_keys, elements_have_short_keys, pairs_have_short_keys, keeps_ranges}
+use Rattle.toml_edit_model.specs.Syntax.{elements_keep_ranges, pairs_keep_ranges}
 use Rattle.toml_edit_model.specs.Paths.{to_key, Path, same_path, Mention, PairSource, next_start, line_mentions, pair_mentions}
 use Rattle.toml_edit_model.specs.Accepted.{agree, all_agree, has_agreeing_pairs, elements_have_agreeing_pairs, pairs_have_agreeing_pairs}
-use Rattle.toml_edit_model.specs.Faults.{Fault, fault, recursion_limit, range_message, clash, first_clash, pair_clash, pair_clashes, long_path, deep_bracket, value_faults, elements_faults, pairs_faults}
+use Rattle.toml_edit_model.specs.Faults.{Fault, fault, recursion_limit, range_message, clash, first_clash, pair_clash, pair_clashes}
+use Rattle.toml_edit_model.specs.Faults.{long_path, deep_bracket, value_faults, elements_faults, pairs_faults}
 use Rattle.toml_edit_laws.specs.FlatTree.{is_right_value}
 use Rattle.toml_edit_laws.proofs.common.Tests.{and_left, and_right, and_both, and-assoc, true-false}
 use Rattle.toml_edit_laws.proofs.common.Cores.{Core, core, cores}
@@ -38,7 +43,8 @@ agree-more : {S : Type 0} (may : Role → Role → Bool) (earlier : List (Mentio
 agree-more may [] n later = refl
 agree-more may (m ∷ earlier) n later =
     ap (λ b. (may_stand may m n && list_all (may_stand may m) later) && b) (agree-more may earlier n later)
-    ∙ and-swap-inner (may_stand may m n) (list_all (may_stand may m) later) (list_all (λ m. may_stand may m n) earlier) (agree may earlier later)
+    ∙ and-swap-inner (may_stand may m n) (list_all (may_stand may m) later) (list_all (λ m. may_stand may m n) earlier)
+    (agree may earlier later)
 
 found-clash : {S : Type 0} (may : Role → Role → Bool) (earlier : List (Mention S)) (n : Mention S)
     → not (is_some (find (clash may n) earlier)) ≡ list_all (λ m. may_stand may m n) earlier
@@ -46,7 +52,8 @@ found-clash may [] n = refl
 found-clash may (m ∷ earlier) n = by_test (same_path m.path n.path) (may m.role n.role) (found-clash may earlier n)
   where
     by_test : (a b : Bool) → not (is_some (find (clash may n) earlier)) ≡ list_all (λ m. may_stand may m n) earlier
-        → not (is_some (if a && not b then Some m else find (clash may n) earlier)) ≡ ((not a || b) && list_all (λ m. may_stand may m n) earlier)
+        → not (is_some (if a && not b then Some m else find (clash may n) earlier))
+        ≡ ((not a || b) && list_all (λ m. may_stand may m n) earlier)
     by_test true true ih = ih
     by_test true false ih = refl
     by_test false b ih = ih
@@ -60,7 +67,8 @@ no-clash may earlier [] = none earlier
     none (m ∷ ms) = none ms
 no-clash {S} may earlier (n ∷ later) = by_found (find (clash may n) earlier) refl (no-clash may earlier later)
   where
-    by_found : (o : Option (Mention S)) → find (clash may n) earlier ≡ o → not (is_some (first_clash may earlier later)) ≡ agree may earlier later
+    by_found : (o : Option (Mention S)) → find (clash may n) earlier ≡ o → not (is_some (first_clash may earlier later))
+        ≡ agree may earlier later
         → not (is_some (first_clash may earlier (n ∷ later))) ≡ agree may earlier (n ∷ later)
     by_found None e ih =
         rw e (ih ∙ ap (λ b. b && agree may earlier later) (sym (ap (λ o. not (is_some o)) e) ∙ found-clash may earlier n)
@@ -96,7 +104,8 @@ abbrev all_parts_agree : (Role → Role → Bool) → List (List Core) → Bool
 all_parts_agree may [] = true
 all_parts_agree may (m ∷ rest) = list_all (parts_agree may m) rest && all_parts_agree may rest
 
-agree-parts : {S : Type 0} (may : Role → Role → Bool) (earlier later : List (Mention S)) → agree may earlier later ≡ parts_agree may (cores earlier) (cores later)
+agree-parts : {S : Type 0} (may : Role → Role → Bool) (earlier later : List (Mention S)) → agree may earlier later
+    ≡ parts_agree may (cores earlier) (cores later)
 agree-parts may [] later = refl
 agree-parts may (m ∷ earlier) later =
     ap (λ b. b && agree may earlier later) (sym (list_all-map (λ (n : Core). not (same_path m.path n.0) || may m.role n.1) core later))
@@ -109,14 +118,16 @@ each-parts may ms (ns ∷ mss) =
     ap (λ b. b && list_all (agree may ms) mss) (agree-parts may ms ns)
     ∙ ap (λ b. parts_agree may (cores ms) (cores ns) && b) (each-parts may ms mss)
 
-all-parts : {S : Type 0} (may : Role → Role → Bool) (mss : List (List (Mention S))) → all_agree may mss ≡ all_parts_agree may (map cores mss)
+all-parts : {S : Type 0} (may : Role → Role → Bool) (mss : List (List (Mention S))) → all_agree may mss
+    ≡ all_parts_agree may (map cores mss)
 all-parts may [] = refl
 all-parts may (ms ∷ mss) =
     ap (λ b. b && all_agree may mss) (each-parts may ms mss)
     ∙ ap (λ b. list_all (parts_agree may (cores ms)) (map cores mss) && b) (all-parts may mss)
 
 -- the same path anywhere, in any source
-line-parts : {S : Type 0} (x y : S) (i j : ℕ) (p : Path) (ss : List Segment) → cores (line_mentions x i p ss) ≡ cores (line_mentions y j p ss)
+line-parts : {S : Type 0} (x y : S) (i j : ℕ) (p : Path) (ss : List Segment) → cores (line_mentions x i p ss)
+    ≡ cores (line_mentions y j p ss)
 line-parts x y i j p [] = refl
 line-parts x y i j p (s ∷ []) = refl
 line-parts x y i j p (s ∷ r ∷ rest) =
@@ -131,11 +142,13 @@ pairs-parts i j m n (pair f v ps) =
     (pairs-parts (i + length (frame_text f (value_text v)) + 1) (j + length (frame_text f (value_text v)) + 1) (suc m) (suc n) ps)
 
 -- Where the pairs stand does not matter.
-pub agree-anywhere : (may : Role → Role → Bool) (i j m n : ℕ) (ps : Pairs) → all_agree may (pair_mentions i ps) ≡ all_agree may (pair_mentions j ps)
+pub agree-anywhere : (may : Role → Role → Bool) (i j m n : ℕ) (ps : Pairs) → all_agree may (pair_mentions i ps)
+    ≡ all_agree may (pair_mentions j ps)
 agree-anywhere may i j m n ps =
     all-parts may (pair_mentions i ps) ∙ ap (all_parts_agree may) (pairs-parts i j m n ps) ∙ sym (all-parts may (pair_mentions j ps))
 
-pub is_empty-clashes : (start : ℕ) (ps : Pairs) → is_empty (pair_clashes [] (pair_mentions start ps)) ≡ all_agree may_meet_inline (pair_mentions 0 ps)
+pub is_empty-clashes : (start : ℕ) (ps : Pairs) → is_empty (pair_clashes [] (pair_mentions start ps))
+    ≡ all_agree may_meet_inline (pair_mentions 0 ps)
 is_empty-clashes start ps =
     no-clashes [] (pair_mentions start ps)
     ∙ ap (λ b. b && all_agree may_meet_inline (pair_mentions start ps)) (none (pair_mentions start ps))
@@ -150,7 +163,8 @@ is_empty-clashes start ps =
 deep-or : (a b c : ℕ) → nat_le (a + max b c) nesting_limit ≡ (nat_le (a + b) nesting_limit && nat_le (a + c) nesting_limit)
 deep-or a b c = by_test (nat_le (a + b) nesting_limit) (nat_le (a + c) nesting_limit) refl refl
   where
-    by_test : (x y : Bool) → nat_le (a + b) nesting_limit ≡ x → nat_le (a + c) nesting_limit ≡ y → nat_le (a + max b c) nesting_limit ≡ (x && y)
+    by_test : (x y : Bool) → nat_le (a + b) nesting_limit ≡ x → nat_le (a + c) nesting_limit ≡ y → nat_le (a + max b c) nesting_limit
+        ≡ (x && y)
     by_test true true e g =
         let p = leb-true (a + b) nesting_limit e in
         let q = leb-true (a + c) nesting_limit g in
@@ -168,7 +182,8 @@ right_at level v = nat_le (level + depth v) nesting_limit && (has_short_keys v &
 
 abbrev elements_right_at : ℕ → Elements → Bool
 elements_right_at level es =
-    nat_le (level + elements_depth es) nesting_limit && (elements_have_short_keys es && (elements_keep_ranges es && elements_have_agreeing_pairs es))
+    nat_le (level + elements_depth es) nesting_limit && (elements_have_short_keys es
+    && (elements_keep_ranges es && elements_have_agreeing_pairs es))
 
 abbrev pairs_right_at : ℕ → Pairs → Bool
 pairs_right_at level ps =
@@ -203,7 +218,12 @@ inside-bracket level start d fs b h inside = by_test (level == nesting_limit) re
         let same : level ≡ nesting_limit = (Decides-eqb level nesting_limit).0 e in
         ap (λ x. x && b) (sym (lt-leb (level + suc d) nesting_limit (omega arith)))
     by_test false e f =
-        let less : suc level ≤ nesting_limit = omega (arith, λ (same : level ≡ nesting_limit). true-false {A = ⊥} (level == nesting_limit) ((Decides-eqb level nesting_limit).1 same) e) in
+        let less : suc level ≤ nesting_limit =
+        omega (
+          arith,
+          λ (same : level ≡ nesting_limit). true-false {A =
+              ⊥} (level == nesting_limit) ((Decides-eqb level nesting_limit).1 same) e,
+        ) in
         inside less ∙ ap (λ n. nat_le n nesting_limit && b) (let here : suc level + d ≡ level + suc d = omega arith in here)
 
 both-right : (level d e : ℕ) (k j r q p o : Bool)
@@ -235,9 +255,11 @@ mutual
       (λ less. is_empty-append clashes (pairs_faults ps (start + 1) (suc level))
       ∙ ap (λ b. b && is_empty (pairs_faults ps (start + 1) (suc level))) (is_empty-clashes (start + 1) ps)
       ∙ ap (λ b. apart && b) (right-pairs ps (start + 1) (suc level) less)
-      ∙ and-last apart (nat_le (suc level + pairs_depth ps) nesting_limit) (pairs_have_short_keys ps) (pairs_keep_ranges ps) (pairs_have_agreeing_pairs ps))
+      ∙ and-last apart (nat_le (suc level + pairs_depth ps) nesting_limit) (pairs_have_short_keys ps) (pairs_keep_ranges ps)
+      (pairs_have_agreeing_pairs ps))
 
-  right-elements : (es : Elements) (start level : ℕ) → level ≤ nesting_limit → is_empty (elements_faults es start level) ≡ elements_right_at level es
+  right-elements : (es : Elements) (start level : ℕ) → level ≤ nesting_limit → is_empty (elements_faults es start level)
+      ≡ elements_right_at level es
   right-elements no_elements start level h = ap (λ b. b && true) (sym (le-leb (level + 0) nesting_limit (omega arith)))
   right-elements (element a v es) start level h =
       let next : ℕ = start + length a.before + length (value_text v) + length a.after + 1 in
@@ -255,14 +277,16 @@ mutual
       let both = both-right level (depth v) (pairs_depth ps) (has_short_keys v) (pairs_have_short_keys ps)
       (keeps_ranges v) (pairs_keep_ranges ps) (has_agreeing_pairs v) (pairs_have_agreeing_pairs ps) in
       is_empty-append (long_path f.path) (value_faults v here level ++ pairs_faults ps next level)
-      ∙ ap (λ b. b && is_empty (value_faults v here level ++ pairs_faults ps next level)) (short (is_short f.path) (record { message = recursion_limit; span = None }))
+      ∙ ap (λ b. b && is_empty (value_faults v here level ++ pairs_faults ps next level))
+      (short (is_short f.path) (record { message = recursion_limit; span = None }))
       ∙ ap (λ b. is_short f.path && b)
       (is_empty-append (value_faults v here level) (pairs_faults ps next level)
       ∙ ap (λ b. b && is_empty (pairs_faults ps next level)) (right-value v here level h)
       ∙ ap (λ b. right_at level v && b) (right-pairs ps next level h)
       ∙ both)
       ∙ and-second (is_short f.path) (nat_le (level + max (depth v) (pairs_depth ps)) nesting_limit)
-      ((has_short_keys v && pairs_have_short_keys ps) && ((keeps_ranges v && pairs_keep_ranges ps) && (has_agreeing_pairs v && pairs_have_agreeing_pairs ps)))
+      ((has_short_keys v && pairs_have_short_keys ps) && ((keeps_ranges v && pairs_keep_ranges ps)
+      && (has_agreeing_pairs v && pairs_have_agreeing_pairs ps)))
       ∙ ap (λ b. nat_le (level + max (depth v) (pairs_depth ps)) nesting_limit && b)
       (sym (and-assoc (is_short f.path) (has_short_keys v && pairs_have_short_keys ps)
       ((keeps_ranges v && pairs_keep_ranges ps) && (has_agreeing_pairs v && pairs_have_agreeing_pairs ps))))
@@ -282,28 +306,33 @@ value_faults_right v start level h = (
   λ right. is_empty-nil (value_faults v start level) (right-value v start level h ∙ together right.0.0 right.0.1 right.1 right.2),
 )
   where
-    apart : right_at level v ≡ true → (((level + depth v ≤ nesting_limit) × (has_short_keys v ≡ true)) × (keeps_ranges v ≡ true) × (has_agreeing_pairs v ≡ true))
+    apart : right_at level v ≡ true → (((level + depth v ≤ nesting_limit) × (has_short_keys v ≡ true)) × (keeps_ranges v ≡ true)
+        × (has_agreeing_pairs v ≡ true))
     apart e =
         let others = and_right (nat_le (level + depth v) nesting_limit) (has_short_keys v && (keeps_ranges v && has_agreeing_pairs v)) e in
         let last = and_right (has_short_keys v) (keeps_ranges v && has_agreeing_pairs v) others in (
           (
-            leb-true (level + depth v) nesting_limit (and_left (nat_le (level + depth v) nesting_limit) (has_short_keys v && (keeps_ranges v && has_agreeing_pairs v)) e),
+            leb-true (level + depth v) nesting_limit (and_left (nat_le (level + depth v) nesting_limit) (has_short_keys v
+                && (keeps_ranges v && has_agreeing_pairs v)) e),
             and_left (has_short_keys v) (keeps_ranges v && has_agreeing_pairs v) others,
           ),
           and_left (keeps_ranges v) (has_agreeing_pairs v) last,
           and_right (keeps_ranges v) (has_agreeing_pairs v) last,
         )
 
-    together : level + depth v ≤ nesting_limit → has_short_keys v ≡ true → keeps_ranges v ≡ true → has_agreeing_pairs v ≡ true → right_at level v ≡ true
+    together : level + depth v ≤ nesting_limit → has_short_keys v ≡ true → keeps_ranges v ≡ true → has_agreeing_pairs v ≡ true
+        → right_at level v ≡ true
     together d k r p =
-        and_both (nat_le (level + depth v) nesting_limit) (has_short_keys v && (keeps_ranges v && has_agreeing_pairs v)) (le-leb (level + depth v) nesting_limit d)
+        and_both (nat_le (level + depth v) nesting_limit) (has_short_keys v
+        && (keeps_ranges v && has_agreeing_pairs v)) (le-leb (level + depth v) nesting_limit d)
         (and_both (has_short_keys v) (keeps_ranges v && has_agreeing_pairs v) k (and_both (keeps_ranges v) (has_agreeing_pairs v) r p))
 
 -- The value of a line is right exactly where it has no faults.
 pub is_right_value-faults : (v : Value) (start : ℕ) → is_empty (value_faults v start 0) ≡ is_right_value v
 is_right_value-faults v start =
     right-value v start 0 (omega arith)
-    ∙ ap (λ n. nat_le n nesting_limit && (has_short_keys v && (keeps_ranges v && has_agreeing_pairs v))) (let here : 0 + depth v ≡ depth v = omega arith in here)
+    ∙ ap (λ n. nat_le n nesting_limit && (has_short_keys v && (keeps_ranges v && has_agreeing_pairs v))) (let here : 0 + depth v ≡ depth v =
+    omega arith in here)
     ∙ sym (and-assoc (nat_le (depth v) nesting_limit) (has_short_keys v) (keeps_ranges v && has_agreeing_pairs v))
     ∙ sym (and-assoc (nat_le (depth v) nesting_limit && has_short_keys v) (keeps_ranges v) (has_agreeing_pairs v))
 

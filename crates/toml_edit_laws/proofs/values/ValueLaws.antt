@@ -19,7 +19,8 @@ module _ (mode : Mode) where
   value_owned v source i before after n is stands node = owned.value_owned mode source v i before after n node stands
 
   -- With owned texts it is well made.
-  pub value_well_made : (v : Value) (i : ℕ) (before after : Text) (n : Node) → IsValue v → has_agreeing_pairs v ≡ true → keeps_ranges v ≡ true
+  pub value_well_made : (v : Value) (i : ℕ) (before after : Text) (n : Node) → IsValue v → has_agreeing_pairs v ≡ true → keeps_ranges v
+      ≡ true
       → IsValueNode (owned_in mode) v i before after n → IsWellMade n
   value_well_made v i before after n is agree ranges node =
       made_well mode n v i before after (record { grammar = is; agrees = agree; ranged = ranges }) node

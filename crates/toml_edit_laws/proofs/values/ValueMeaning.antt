@@ -2,17 +2,20 @@
 use Rattle.std.proofs.Common.{◌≡◌, ℕ, ◌+◌, suc, refl, sym, ap, subst, ◌∙◌, inl, inr, true, List, [], ◌∷◌, ◌++◌, append-nil, length}
 use Rattle.std.specs.Prelude.{if◌then◌else◌}
 use Rattle.toml_edit_model.specs.Text.{Text}
-use Rattle.toml_edit_model.specs.Syntax.{Value, scalar, array, inline_table, Elements, no_elements, element, Pairs, no_pairs, pair, IsValue, AreElements, ArePairs, value_text}
+use Rattle.toml_edit_model.specs.Syntax.{Value, scalar, array, inline_table, Elements, no_elements, element, Pairs, no_pairs, pair, IsValue}
+use Rattle.toml_edit_model.specs.Syntax.{AreElements, ArePairs, value_text}
 use Rattle.toml_edit_model.specs.Paths.{at_key, Path, to_key, to_element, Mention, pair_mentions}
 use Rattle.toml_edit_model.specs.Accepted.{has_agreeing_pairs, elements_have_agreeing_pairs, pairs_have_agreeing_pairs, all_agree}
 use Rattle.toml_edit_model.specs.Meaning.{Fact, fact, a_table, an_array, a_scalar, SameFacts, value_facts, elements_facts, pairs_facts}
-use Rattle.toml_edit_model.specs.Tree.{Node, nothing, leaf, list, inline, table, tables, Items, no_items, item, Slots, no_slots, slot, is_value_node}
+use Rattle.toml_edit_model.specs.Tree.{Node, nothing, leaf, list, inline, table, tables, Items, no_items, item, Slots, no_slots, slot}
+use Rattle.toml_edit_model.specs.Tree.{is_value_node}
 use Rattle.toml_edit_model.specs.TreeOf.{Form, Entry, entries, IsValueNode, AreElementNodes, AreEntrySlots}
 use Rattle.toml_edit_model.specs.Shown.{is_shown, is_shown_inside, inside_facts, list_facts, inside_slots_facts}
 use Rattle.toml_edit_laws.proofs.common.Tests.{and_left, and_right}
 use Rattle.toml_edit_laws.proofs.common.Members.{Among, among-left, among-right, among-cases, from-contained, to-contained}
 use Rattle.toml_edit_laws.proofs.mentions.KeptMentions.{moved, under-has, under-is, Kept, kept-is}
-use Rattle.toml_edit_laws.proofs.inline_tables.EntryMentions.{AgreeingMentions, under-agrees, entries-agree, entry-below, EachValue, entry-value}
+use Rattle.toml_edit_laws.proofs.inline_tables.EntryMentions.{AgreeingMentions, under-agrees, entries-agree, entry-below, EachValue}
+use Rattle.toml_edit_laws.proofs.inline_tables.EntryMentions.{entry-value}
 use Rattle.toml_edit_laws.proofs.inline_tables.SlotsOfEntries.{IsMadeByKey, slot-key, slot-node, slot-rest}
 use Rattle.toml_edit_laws.proofs.values.ValueShown.{kept-path, value-slot, dotted-slot, value-shown, value-shown_inside, slot-shown}
 use Rattle.toml_edit_laws.proofs.values.ToldFacts.{role_facts, mention_facts, pairs-told, Told, told-of, of-told, ToldBelow, rise, sink}
@@ -94,7 +97,8 @@ made-told k ms p f fs agree is d below = (there, λ t. back t t.mention.path ref
     ns = under (at_key k.segment.key) ms
 
     own-facts : (m : Mention Entry) → m.role ≡ dotted_role → m.path ≡ [] → mention_facts p m ≡ fact p a_table ∷ []
-    own-facts m r e = ap (λ x. role_facts x m.source.value (p ++ m.path)) r ∙ ap (λ q. fact (p ++ q) a_table ∷ []) e ∙ ap (λ q. fact q a_table ∷ []) (append-nil p)
+    own-facts m r e = ap (λ x. role_facts x m.source.value (p ++ m.path)) r ∙ ap (λ q. fact (p ++ q) a_table ∷ []) e
+        ∙ ap (λ q. fact q a_table ∷ []) (append-nil p)
 
     there : Among f (fact p a_table ∷ fs) → Told p (under (at_key k.segment.key) ms) f
     there (inl e) =
@@ -115,7 +119,8 @@ made-told k ms p f fs agree is d below = (there, λ t. back t t.mention.path ref
           | inr v ↦
               let up = under-is (at_key k.segment.key) m ms a in
               let path = up.path ∙ ap (λ q. at_key k.segment.key ∷ q) e in
-              let one = agree.alone up.mention k up.among is.among (sym (ap (λ n. n.role) up.same) ∙ v) [] (kept-path [] ms k agree is ∙ ap (λ q. q ++ []) (sym path)) in
+              let one = agree.alone up.mention k up.among is.among (sym (ap (λ n. n.role) up.same) ∙ v) [] (kept-path [] ms k agree is
+              ∙ ap (λ q. q ++ []) (sym path)) in
               absurd (clash (sym d ∙ ap (λ n. n.role) one ∙ sym (ap (λ n. n.role) up.same) ∙ v))
         ]
 
@@ -123,7 +128,8 @@ made-told k ms p f fs agree is d below = (there, λ t. back t t.mention.path ref
     back t [] e =
         elim (subst (Among f) (own-facts t.mention (dotted t.mention t.among e) e) t.told) [ inl g ↦ inl g | inr g ↦ elim g [ ] ]
     back t (s ∷ q) e =
-        inr (below.1 (sink p (under (at_key k.segment.key) ms) f (under-agrees (at_key k.segment.key) ms agree) t.mention s q t.among e t.told))
+        inr (below.1 (sink p (under (at_key k.segment.key) ms) f (under-agrees (at_key k.segment.key) ms agree) t.mention s q t.among e
+        t.told))
 
 -- with one more slot
 slot-told : (p : Path) (ms ks : List (Mention Entry)) (k : Mention Entry) (f : Fact) (fs gs : List Fact)
@@ -145,12 +151,14 @@ slot-told p ms ks k f fs gs here others = (
     back t (inr a) = among-right f fs gs (others.1 (record { slot = t.slot; kept = a; told = t.told }))
 
 -- the facts of an inline table's pairs
-pairs-below : (form : Form) (ps : Pairs) (i : ℕ) (p : Path) (f : Fact) (fs : List Fact) → ArePairs ps → all_agree may_meet_inline (pair_mentions 0 ps) ≡ true
+pairs-below : (form : Form) (ps : Pairs) (i : ℕ) (p : Path) (f : Fact) (fs : List Fact) → ArePairs ps
+    → all_agree may_meet_inline (pair_mentions 0 ps) ≡ true
     → ((Among f fs → ToldBelow p (entries form ps i) (kept (entries form ps i)) f)
     × (ToldBelow p (entries form ps i) (kept (entries form ps i)) f → Among f fs))
     → (Among f fs → Among f (pairs_facts ps p)) × (Among f (pairs_facts ps p) → Among f fs)
 pairs-below form ps i p f fs are agree below = (
-  λ a. subst (Among f) (sym (pairs-told form ps i p are)) (of-told p (entries form ps i) f (rise p (entries form ps i) (kept (entries form ps i)) f (below.0 a))),
+  λ a. subst (Among f) (sym (pairs-told form ps i p are))
+      (of-told p (entries form ps i) f (rise p (entries form ps i) (kept (entries form ps i)) f (below.0 a))),
   λ a.
       let t = told-of p (entries form ps i) f (subst (Among f) (pairs-told form ps i p are) a) in
       let at = entry-below form ps i t.mention t.among in
@@ -163,7 +171,8 @@ module _ (form : Form) where
         → Alike (inside_facts n p) (value_facts v p)
     node-facts (leaf s r d) (scalar t u) i before after h is p = alike-same _ _ (ap (λ x. fact p (a_scalar x) ∷ []) is.0)
     node-facts (list g xs) (array es comma t) i before after h is p =
-        alike-cons (fact p an_array) (list_facts xs p 0) (elements_facts es p 0) (items-facts xs es (i + length before + 1) h.0.1 h.1 is.1 p 0)
+        alike-cons (fact p an_array) (list_facts xs p 0) (elements_facts es p 0) (items-facts xs es (i + length before
+        + 1) h.0.1 h.1 is.1 p 0)
     node-facts (inline g ss) (inline_table ps comma t) i before after h is p =
         let j = i + length before + 1 in
         let all = all_agree may_meet_inline (pair_mentions 0 ps) in
@@ -171,7 +180,8 @@ module _ (form : Form) where
         let sound = entry-value form IsSound ps j (each-sound ps h.0.1 (and_right all (pairs_have_agreeing_pairs ps) h.1)) in
         alike-cons (fact p a_table) (inside_slots_facts ss p) (pairs_facts ps p) (λ f.
         pairs-below form ps j p f (inside_slots_facts ss p) h.0.1 agree
-        (inner-facts ss (entries form ps j) (kept (entries form ps j)) (entries-agree form ps j agree) sound (λ k a. kept-is [] k (entries form ps j) a) is.1 p f))
+        (inner-facts ss (entries form ps j) (kept (entries form ps j)) (entries-agree form ps j agree) sound
+        (λ k a. kept-is [] k (entries form ps j) a) is.1 p f))
     node-facts (leaf s r d) (array es comma t) i before after h is p = elim is [ ]
     node-facts (leaf s r d) (inline_table ps comma t) i before after h is p = elim is [ ]
     node-facts (list g xs) (scalar t u) i before after h is p = elim is [ ]
@@ -182,36 +192,42 @@ module _ (form : Form) where
     node-facts (tables e xs) v i before after h is p = absurd (not-value form (tables e xs) v i before after refl is)
     node-facts nothing v i before after h is p = absurd (not-value form nothing v i before after refl is)
 
-    items-facts : (xs : Items) (es : Elements) (i : ℕ) → AreElements es → elements_have_agreeing_pairs es ≡ true → AreElementNodes form es i xs
+    items-facts : (xs : Items) (es : Elements) (i : ℕ) → AreElements es → elements_have_agreeing_pairs es ≡ true
+        → AreElementNodes form es i xs
         → (p : Path) (k : ℕ) → Alike (list_facts xs p k) (elements_facts es p k)
     items-facts no_items no_elements i h g is p k = alike-same [] [] refl
     items-facts (item n xs) (element a v es) i h g is p k =
         let agree = and_left (has_agreeing_pairs v) (elements_have_agreeing_pairs es) g in
         let others = and_right (has_agreeing_pairs v) (elements_have_agreeing_pairs es) g in
         let next = i + length a.before + length (value_text v) + length a.after + 1 in
-        subst (λ b. Alike (if b then inside_facts n (to_element p k) ++ list_facts xs p (suc k) else list_facts xs p k) (elements_facts (element a v es) p k))
+        subst (λ b. Alike (if b then inside_facts n (to_element p k) ++ list_facts xs p (suc k)
+        else list_facts xs p k) (elements_facts (element a v es) p k))
         (sym (value-node form n v i a.before a.after is.0))
-        (alike-append (inside_facts n (to_element p k)) (value_facts v (to_element p k)) (list_facts xs p (suc k)) (elements_facts es p (suc k))
+        (alike-append (inside_facts n (to_element p k)) (value_facts v (to_element p k)) (list_facts xs p (suc k))
+        (elements_facts es p (suc k))
         (node-facts n v i a.before a.after (h.2, agree) is.0 (to_element p k))
         (items-facts xs es next h.3 others is.1 p (suc k)))
     items-facts no_items (element a v es) i h g is p k = elim is [ ]
     items-facts (item n xs) no_elements i h g is p k = elim is [ ]
 
-    made-facts : (n : Node) (k : Mention Entry) (ms : List (Mention Entry)) → AgreeingMentions ms → AreSound ms → Kept [] k ms → k.role ≡ dotted_role
+    made-facts : (n : Node) (k : Mention Entry) (ms : List (Mention Entry)) → AgreeingMentions ms → AreSound ms → Kept [] k ms → k.role
+        ≡ dotted_role
         → IsMadeByKey form k (under (at_key k.segment.key) ms) n → (p : Path) (f : Fact)
         → (Among f (inside_facts n p) → Told p (under (at_key k.segment.key) ms) f)
         × (Told p (under (at_key k.segment.key) ms) f → Among f (inside_facts n p))
     made-facts (inline g ss) k ms agree sound at d is p f =
         let ns = under (at_key k.segment.key) ms in
         made-told k ms p f (inside_slots_facts ss p) agree at d
-        (inner-facts ss ns (kept ns) (under-agrees (at_key k.segment.key) ms agree) (under-sound k.segment.key ms sound) (λ m a. kept-is [] m ns a) is.1 p f)
+        (inner-facts ss ns (kept ns) (under-agrees (at_key k.segment.key) ms agree) (under-sound k.segment.key ms sound)
+        (λ m a. kept-is [] m ns a) is.1 p f)
     made-facts (leaf s r x) k ms agree sound at d is p f = elim is [ ]
     made-facts (list g xs) k ms agree sound at d is p f = elim is [ ]
     made-facts (table g ss) k ms agree sound at d is p f = elim is [ ]
     made-facts (tables e xs) k ms agree sound at d is p f = elim is [ ]
     made-facts nothing k ms agree sound at d is p f = elim is [ ]
 
-    inner-facts : (ss : Slots) (ms ks : List (Mention Entry)) → AgreeingMentions ms → AreSound ms → ((k : Mention Entry) → Among k ks → Kept [] k ms)
+    inner-facts : (ss : Slots) (ms ks : List (Mention Entry)) → AgreeingMentions ms → AreSound ms
+        → ((k : Mention Entry) → Among k ks → Kept [] k ms)
         → AreEntrySlots form ms ks ss → (p : Path) (f : Fact)
         → (Among f (inside_slots_facts ss p) → ToldBelow p ms ks f) × (ToldBelow p ms ks f → Among f (inside_slots_facts ss p))
     inner-facts no_slots ms [] agree sound are is p f = (λ a. elim a [ ], λ t. absurd (t.kept))
@@ -219,7 +235,8 @@ module _ (form : Form) where
         let at = are k (inl refl) in
         let name = ap (λ x. x.name) (slot-key form ms k ks key n ss is) in
         let is_node = slot-node form ms k ks key n ss is in
-        subst (λ b. (Among f ((if b then inside_facts n (to_key p key.name) else []) ++ inside_slots_facts ss p) → ToldBelow p ms (k ∷ ks) f)
+        subst (λ b. (Among f ((if b then inside_facts n (to_key p key.name) else []) ++ inside_slots_facts ss p)
+        → ToldBelow p ms (k ∷ ks) f)
         × (ToldBelow p ms (k ∷ ks) f → Among f ((if b then inside_facts n (to_key p key.name) else []) ++ inside_slots_facts ss p)))
         (sym (slot-shown form n ms k agree at is_node))
         (subst (λ x. (Among f (inside_facts n (to_key p x) ++ inside_slots_facts ss p) → ToldBelow p ms (k ∷ ks) f)
@@ -229,7 +246,8 @@ module _ (form : Form) where
         (elim (agree.roles k at.among) [
           | inl d ↦ made-facts n k ms agree sound at d (dotted-slot k.role _ _ d is_node) (to_key p k.segment.key) f
           | inr v ↦
-              let it = node-facts n k.source.value k.source.start k.source.before k.source.after (sound k at.among) (value-slot k.role _ _ v is_node) (to_key p k.segment.key) f in
+              let it = node-facts n k.source.value k.source.start k.source.before k.source.after (sound k at.among)
+              (value-slot k.role _ _ v is_node) (to_key p k.segment.key) f in
               let lone = lone-told k ms (to_key p k.segment.key) f agree at v in
               (λ a. lone.0 (it.0 a), λ t. it.1 (lone.1 t))
         ])

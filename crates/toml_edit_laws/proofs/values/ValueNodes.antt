@@ -16,7 +16,8 @@ pub record IsValueItem (form : Form) (v : Value) (i : ℕ) (before after : Text)
   pub decor : node_decor n ≡ decor_at form i before (i + length before + length (value_text v)) after
 
 -- Of which kind the item of a value is.
-pub value_item : (v : Value) (form : Form) (i : ℕ) (before after : Text) (n : Node) → IsValueNode form v i before after n → IsValueItem form v i before after n
+pub value_item : (v : Value) (form : Form) (i : ℕ) (before after : Text) (n : Node) → IsValueNode form v i before after n
+    → IsValueItem form v i before after n
 value_item (scalar s t) form i before after (leaf r spelling d) h = record { is_value = refl; is_line = refl; shown = refl; decor = h.2 }
 value_item (scalar s t) form i before after (list f xs) h = absurd h
 value_item (scalar s t) form i before after (inline f ss) h = absurd h
@@ -24,7 +25,8 @@ value_item (scalar s t) form i before after nothing h = absurd h
 value_item (scalar s t) form i before after (table f ss) h = absurd h
 value_item (scalar s t) form i before after (tables e xs) h = absurd h
 value_item (array es comma t) form i before after (leaf r spelling d) h = absurd h
-value_item (array es comma t) form i before after (list f xs) h = record { is_value = refl; is_line = refl; shown = refl; decor = ap (λ g. g.decor) h.0 }
+value_item (array es comma t) form i before after (list f xs) h =
+    record { is_value = refl; is_line = refl; shown = refl; decor = ap (λ g. g.decor) h.0 }
 value_item (array es comma t) form i before after (inline f ss) h = absurd h
 value_item (array es comma t) form i before after nothing h = absurd h
 value_item (array es comma t) form i before after (table f ss) h = absurd h

@@ -1,13 +1,18 @@
 -- A value's node with spans becomes the node with owned texts, by what the spans cut from the source.
-use Rattle.std.proofs.Common.{◌≡◌, ℕ, ◌+◌, ◌-◌, refl, sym, ap, subst, ◌∙◌, arith, inl, inr, true, false, Bool, List, [], ◌∷◌, ◌++◌, append_assoc, map, length, codes, Some, None, option_map}
+use Rattle.std.proofs.Common.{◌≡◌, ℕ, ◌+◌, ◌-◌, refl, sym, ap, subst, ◌∙◌, arith, inl, inr, true, false, Bool, List, [], ◌∷◌, ◌++◌}
+use Rattle.std.proofs.Common.{append_assoc, map, length, codes, Some, None, option_map}
 use Rattle.std.specs.Prelude.{if◌then◌else◌}
 use Rattle.std.proofs.lemmas.List.{length-append, map-append}
 use Rattle.toml_edit_model.specs.Mode.{Mode}
 use Rattle.toml_edit_model.specs.Text.{Text}
-use Rattle.toml_edit_model.specs.Syntax.{Segment, Frame, Value, scalar, array, inline_table, Elements, no_elements, element, Pairs, no_pairs, pair, value_text, elements_text, pairs_text, frame_text, path_text, segment_text, comma_text}
+use Rattle.toml_edit_model.specs.Syntax.{Segment, Frame, Value, scalar, array, inline_table, Elements, no_elements, element, Pairs}
+use Rattle.toml_edit_model.specs.Syntax.{no_pairs, pair, value_text, elements_text, pairs_text, frame_text, path_text, segment_text}
+use Rattle.toml_edit_model.specs.Syntax.{comma_text}
 use Rattle.toml_edit_model.specs.Paths.{at_key, Path, to_key, Mention, line_mentions, mention_of, next_start}
-use Rattle.toml_edit_model.specs.Tree.{ArrayFields, InlineFields, unset, Node, nothing, leaf, list, inline, table, tables, Items, no_items, item, Slots, no_slots, slot}
-use Rattle.toml_edit_model.specs.TreeOf.{spanned_in, owned_in, Entry, entry_of, entries, value_start, decor_at, key_of, IsValueNode, AreElementNodes, AreEntrySlots}
+use Rattle.toml_edit_model.specs.Tree.{ArrayFields, InlineFields, unset, Node, nothing, leaf, list, inline, table, tables, Items, no_items}
+use Rattle.toml_edit_model.specs.Tree.{item, Slots, no_slots, slot}
+use Rattle.toml_edit_model.specs.TreeOf.{spanned_in, owned_in, Entry, entry_of, entries, value_start, decor_at, key_of, IsValueNode}
+use Rattle.toml_edit_model.specs.TreeOf.{AreElementNodes, AreEntrySlots}
 use Rattle.toml_edit_laws.specs.Standing.{Stands}
 use Rattle.toml_edit_laws.proofs.common.StandingLaws.{stands-left, stands-right, cut-is}
 use Rattle.toml_edit_laws.proofs.common.Members.{Among, among-cases}
@@ -60,7 +65,8 @@ pub first-stands : (source : Text) (i : ℕ) (f : Frame) (v : Value) (ps : Pairs
 first-stands source i f v no_pairs h = h
 first-stands source i f v (pair g w ps) h = stands-left source i (frame_text f (value_text v)) (codes "," ++ pairs_text (pair g w ps)) h
 
-pub later-stand : (source : Text) (i : ℕ) (f : Frame) (v : Value) (g : Frame) (w : Value) (ps : Pairs) → Stands source i (pairs_text (pair f v (pair g w ps)))
+pub later-stand : (source : Text) (i : ℕ) (f : Frame) (v : Value) (g : Frame) (w : Value) (ps : Pairs)
+    → Stands source i (pairs_text (pair f v (pair g w ps)))
     → Stands source (i + length (frame_text f (value_text v)) + 1) (pairs_text (pair g w ps))
 later-stand source i f v g w ps h =
     stands-right source (i + length (frame_text f (value_text v))) (codes ",") (pairs_text (pair g w ps))
@@ -74,9 +80,12 @@ line-owned : (source : Text) (e : Entry) (i : ℕ) (p : Path) (ss : List Segment
     → line_mentions (owned_entry source e) i p ss ≡ map (owned_mention source) (line_mentions e i p ss)
 line-owned source e i p [] = refl
 line-owned source e i p (s ∷ []) = refl
-line-owned source e i p (s ∷ r ∷ rest) = ap (λ ms. mention_of (owned_entry source e) i (to_key p s.key) dotted_role s ∷ ms) (line-owned source e (next_start i s) (to_key p s.key) (r ∷ rest))
+line-owned source e i p (s ∷ r ∷ rest) =
+    ap (λ ms. mention_of (owned_entry source e) i (to_key p s.key) dotted_role s
+    ∷ ms) (line-owned source e (next_start i s) (to_key p s.key) (r ∷ rest))
 
-pub path-stands : {S : Type 0} (text : Text) (source : S) (i : ℕ) (p : Path) (ss : List Segment) → Stands text i (path_text ss) → (m : Mention S)
+pub path-stands : {S : Type 0} (text : Text) (source : S) (i : ℕ) (p : Path) (ss : List Segment) → Stands text i (path_text ss)
+    → (m : Mention S)
     → Among m (line_mentions source i p ss) → SegmentStands text m.start m.segment
 path-stands text source i p [] h m a = elim a [ ]
 path-stands text source i p (s ∷ []) h m (inl g) = subst (λ k. SegmentStands text k.start k.segment) (sym g) (segment-stands text i s h)
@@ -86,7 +95,8 @@ path-stands text source i p (s ∷ r ∷ rest) h m (inl g) =
     (segment-stands text i s (stands-left text i (segment_text s) (codes "." ++ path_text (r ∷ rest)) h))
 path-stands text source i p (s ∷ r ∷ rest) h m (inr a) =
     path-stands text source (next_start i s) (to_key p s.key) (r ∷ rest)
-    (stands-right text (i + length (segment_text s)) (codes ".") (path_text (r ∷ rest)) (stands-right text i (segment_text s) (codes "." ++ path_text (r ∷ rest)) h))
+    (stands-right text (i + length (segment_text s)) (codes ".") (path_text (r ∷ rest)) (stands-right text i (segment_text s) (codes "."
+    ++ path_text (r ∷ rest)) h))
     m a
 
 pub record InnerStands (source : Text) (j size : ℕ) (body trailing : Text) : Type 0 where
@@ -101,8 +111,15 @@ inner-stands source j opening body comma trailing closing one last h =
     let at_body = stands-right source j opening (body ++ from_comma) h in
     let at_comma = stands-right source _ body from_comma at_body in
     let at_trailing = stands-right source _ comma (trailing ++ closing) at_comma in
-    let place : j + length opening + length body + length comma ≡ j + length (opening ++ (body ++ (comma ++ (trailing ++ closing)))) - 1 - length trailing =
-    omega (arith, length-append opening (body ++ (comma ++ (trailing ++ closing))), length-append body (comma ++ (trailing ++ closing)), length-append comma (trailing ++ closing), length-append trailing closing) in
+    let place : j + length opening + length body + length comma ≡ j
+    + length (opening ++ (body ++ (comma ++ (trailing ++ closing)))) - 1 - length trailing =
+    omega (
+      arith,
+      length-append opening (body ++ (comma ++ (trailing ++ closing))),
+      length-append body (comma ++ (trailing ++ closing)),
+      length-append comma (trailing ++ closing),
+      length-append trailing closing,
+    ) in
     record {
       body_at = stands-at source _ (j + 1) body (stands-left source _ body from_comma at_body) (omega arith);
       trailing_at = stands-at source _ _ trailing (stands-left source _ trailing closing at_trailing) place;
@@ -165,7 +182,8 @@ module _ (mode : Mode) where
     pub path : Stands source (i + length f.leading) (path_text f.path)
     pub value : Stands source (i + value_start (spanned_in mode) f) (f.after_equals ++ (value_text v ++ f.trailing))
 
-  pub pair-stands : (source : Text) (i : ℕ) (f : Frame) (v : Value) → Stands source i (frame_text f (value_text v)) → PairStands source i f v
+  pub pair-stands : (source : Text) (i : ℕ) (f : Frame) (v : Value) → Stands source i (frame_text f (value_text v))
+      → PairStands source i f v
   pair-stands source i f v h =
       let from_value = f.after_equals ++ (value_text v ++ f.trailing) in
       let from_equals = codes "=" ++ from_value in
@@ -193,10 +211,12 @@ module _ (mode : Mode) where
   one-stands source i f v h m a =
       record {
         segment = path-stands source (entry_of (spanned_in mode) i f v) (i + length f.leading) [] f.path h.path m a;
-        value = subst (ValueStands source) (sym (line-source (entry_of (spanned_in mode) i f v) (i + length f.leading) [] f.path m a)) h.value;
+        value = subst (ValueStands source) (sym (line-source (entry_of (spanned_in mode) i f v) (i + length f.leading) [] f.path m a))
+            h.value;
       }
 
-  more-stand : (source : Text) (i j : ℕ) (f : Frame) (v : Value) (ps : Pairs) → j ≡ i + length (frame_text f (value_text v)) + 1 → PairStands source i f v
+  more-stand : (source : Text) (i j : ℕ) (f : Frame) (v : Value) (ps : Pairs) → j ≡ i + length (frame_text f (value_text v)) + 1
+      → PairStands source i f v
       → PairsStand source ps j → PairsStand source (pair f v ps) i
   more-stand source i j f v ps next h others =
       let own = line_mentions (entry_of (spanned_in mode) i f v) (i + length f.leading) [] f.path in
@@ -208,8 +228,10 @@ module _ (mode : Mode) where
               | inr b ↦ rest.each m b
             ];
         all =
-            ap (λ e. line_mentions e (i + length f.leading) [] f.path ++ entries (owned_in mode) ps (i + length (frame_text f (value_text v)) + 1)) h.entry
-            ∙ ap (λ ms. ms ++ entries (owned_in mode) ps (i + length (frame_text f (value_text v)) + 1)) (line-owned source (entry_of (spanned_in mode) i f v) (i + length f.leading) [] f.path)
+            ap (λ e. line_mentions e (i + length f.leading) [] f.path
+            ++ entries (owned_in mode) ps (i + length (frame_text f (value_text v)) + 1)) h.entry
+            ∙ ap (λ ms. ms ++ entries (owned_in mode) ps (i + length (frame_text f (value_text v)) + 1))
+            (line-owned source (entry_of (spanned_in mode) i f v) (i + length f.leading) [] f.path)
             ∙ ap (λ ms. map (owned_mention source) own ++ ms) rest.all
             ∙ sym (map-append (owned_mention source) own (entries (spanned_in mode) ps (i + length (frame_text f (value_text v)) + 1)));
       }
@@ -217,7 +239,11 @@ module _ (mode : Mode) where
   pub pairs-stand : (source : Text) (ps : Pairs) (i : ℕ) → Stands source i (pairs_text ps) → PairsStand source ps i
   pairs-stand source no_pairs i h = record { each = λ m a. elim a [ ]; all = refl }
   pairs-stand source (pair f v no_pairs) i h =
-      more-stand source i _ f v no_pairs refl (pair-stands source i f v (first-stands source i f v no_pairs h)) (record { each = λ m a. elim a [ ]; all = refl })
+      more-stand source i _ f v no_pairs refl (pair-stands source i f v (first-stands source i f v no_pairs h)) (record {
+        each =
+            λ m a. elim a [ ];
+        all = refl;
+      })
   pairs-stand source (pair f v (pair g w ps)) i h =
       more-stand source i _ f v (pair g w ps) refl (pair-stands source i f v (first-stands source i f v (pair g w ps) h))
       (pairs-stand source (pair g w ps) (i + length (frame_text f (value_text v)) + 1) (later-stand source i f v g w ps h))
@@ -235,14 +261,17 @@ module _ (mode : Mode) where
         subst (MentionStands source) (sym up.same) (record { segment = at.segment; value = at.value })
 
     key-owned : (m : Mention Entry) → MentionStands source m
-        → owned_key source (key_of (spanned_in mode) m.source.leaf m) ≡ key_of (owned_in mode) (owned_decor source m.source.leaf) (owned_mention source m)
+        → owned_key source (key_of (spanned_in mode) m.source.leaf m)
+        ≡ key_of (owned_in mode) (owned_decor source m.source.leaf) (owned_mention source m)
     key-owned m h =
         let spelled = cut-is source m.start m.segment.spelled h.segment.spelled in
-        let dots = decor-cut source (m.start - length m.segment.before) (m.start + length m.segment.spelled) m.segment.before m.segment.after h.segment.before h.segment.after in
+        let dots = decor-cut source (m.start - length m.segment.before) (m.start
+        + length m.segment.spelled) m.segment.before m.segment.after h.segment.before h.segment.after in
         let leaf = by_test (ends_path m.role) in
         cc
       where
-        by_test : (b : Bool) → owned_decor source (if b then m.source.leaf else unset) ≡ (if b then owned_decor source m.source.leaf else unset)
+        by_test : (b : Bool) → owned_decor source (if b then m.source.leaf else unset)
+            ≡ (if b then owned_decor source m.source.leaf else unset)
         by_test true = refl
         by_test false = refl
 
@@ -257,22 +286,28 @@ module _ (mode : Mode) where
           )
       node-owned (list f xs) (array es comma t) i before after h is =
           let at = around-stands source i before (value_text (array es comma t)) after h in
-          let inner = inner-stands source (i + length before) (codes "[") (elements_text es) (comma_text comma) t (codes "]") refl refl at.value_at in
-          let decor = decor-cut source i (i + length before + length (value_text (array es comma t))) before after at.before_at at.after_at in
+          let inner = inner-stands source (i + length before) (codes "[") (elements_text es) (comma_text comma) t (codes "]") refl refl
+          at.value_at in
+          let decor = decor-cut source i (i + length before + length (value_text (array es comma t))) before after at.before_at
+          at.after_at in
           let trailing = cut-is source (i + length before + length (value_text (array es comma t)) - 1 - length t) t inner.trailing_at in (
             ap (owned_array source) is.0 ∙ cc,
             items-owned xs es (i + length before + 1) inner.body_at is.1,
           )
       node-owned (inline f ss) (inline_table ps comma t) i before after h is =
           let at = around-stands source i before (value_text (inline_table ps comma t)) after h in
-          let inner = inner-stands source (i + length before) (codes "{") (pairs_text ps) (comma_text comma) t (codes "}") refl refl at.value_at in
-          let decor = decor-cut source i (i + length before + length (value_text (inline_table ps comma t))) before after at.before_at at.after_at in
-          let trailing = cut-is source (i + length before + length (value_text (inline_table ps comma t)) - 1 - length t) t inner.trailing_at in
+          let inner = inner-stands source (i + length before) (codes "{") (pairs_text ps) (comma_text comma) t (codes "}") refl refl
+          at.value_at in
+          let decor = decor-cut source i (i + length before + length (value_text (inline_table ps comma t))) before after at.before_at
+          at.after_at in
+          let trailing = cut-is source (i + length before + length (value_text (inline_table ps comma t)) - 1 - length t) t
+          inner.trailing_at in
           let stand = pairs-stand source ps (i + length before + 1) inner.body_at in
           let ms = entries (spanned_in mode) ps (i + length before + 1) in (
             ap (owned_inline source) is.0 ∙ cc,
             subst (λ ns. AreEntrySlots (owned_in mode) ns (kept ns) (owned_slots source ss)) (sym stand.all)
-                (subst (λ ns. AreEntrySlots (owned_in mode) (map (owned_mention source) ms) ns (owned_slots source ss)) (sym (kept-turned (λ i. i) (owned_entry source) ms))
+                (subst (λ ns. AreEntrySlots (owned_in mode) (map (owned_mention source) ms) ns (owned_slots source ss))
+                (sym (kept-turned (λ i. i) (owned_entry source) ms))
                 (slots-owned ss ms (kept ms) stand.each (λ m a. stand.each m (kept-is [] m ms a).among) is.1)),
           )
       node-owned (leaf s r d) (array es comma t) i before after h is = elim is [ ]
@@ -292,7 +327,8 @@ module _ (mode : Mode) where
           (node-owned n v i a.before a.after (element-stands source i a v no_elements h) is.0, tt)
       items-owned (item n (item o xs)) (element a v (element b w es)) i h is = (
         node-owned n v i a.before a.after (element-stands source i a v (element b w es) h) is.0,
-        items-owned (item o xs) (element b w es) (i + length a.before + length (value_text v) + length a.after + 1) (elements-after source i a v b w es h) is.1,
+        items-owned (item o xs) (element b w es) (i + length a.before + length (value_text v) + length a.after
+            + 1) (elements-after source i a v b w es h) is.1,
       )
       items-owned no_items (element a v es) i h is = elim is [ ]
       items-owned (item n xs) no_elements i h is = elim is [ ]
@@ -303,7 +339,8 @@ module _ (mode : Mode) where
           → IsMadeByKey (owned_in mode) (owned_mention source m) (map (owned_mention source) ns) (owned_node source n)
       made-owned (inline f ss) m ns h is = (
         ap (owned_inline source) is.0,
-        subst (λ ks. AreEntrySlots (owned_in mode) (map (owned_mention source) ns) ks (owned_slots source ss)) (sym (kept-turned (λ i. i) (owned_entry source) ns))
+        subst (λ ks. AreEntrySlots (owned_in mode) (map (owned_mention source) ns) ks (owned_slots source ss))
+            (sym (kept-turned (λ i. i) (owned_entry source) ns))
             (slots-owned ss ns (kept ns) h (λ k a. h k (kept-is [] k ns a).among) is.1),
       )
       made-owned (leaf s r x) m ns h is = elim is [ ]
@@ -317,11 +354,13 @@ module _ (mode : Mode) where
       slots-owned no_slots ms [] h g is = tt
       slots-owned (slot key n ss) ms (k ∷ ks) h g is =
           let at = g k (inl refl) in
-          slot-all (owned_in mode) (map (owned_mention source) ms) (owned_mention source k) (map (owned_mention source) ks) (owned_key source key) (owned_node source n) (owned_slots source ss)
+          slot-all (owned_in mode) (map (owned_mention source) ms) (owned_mention source k) (map (owned_mention source) ks)
+          (owned_key source key) (owned_node source n) (owned_slots source ss)
           (ap (owned_key source) (slot-key (spanned_in mode) ms k ks key n ss is) ∙ key-owned k at)
           (each-way (ends_path k.role) _ _ _ _
           (λ x. node-owned n k.source.value k.source.start k.source.before k.source.after at.value x)
-          (λ x. subst (λ ns. IsMadeByKey (owned_in mode) (owned_mention source k) ns (owned_node source n)) (sym (under-turned (λ i. i) (owned_entry source) (at_key k.segment.key) ms))
+          (λ x. subst (λ ns. IsMadeByKey (owned_in mode) (owned_mention source k) ns (owned_node source n))
+          (sym (under-turned (λ i. i) (owned_entry source) (at_key k.segment.key) ms))
           (made-owned n k (under (at_key k.segment.key) ms) (under-stand k.segment.key ms h) x))
           (slot-node (spanned_in mode) ms k ks key n ss is))
           (slots-owned ss ms ks h (λ m a. g m (inr a)) (slot-rest (spanned_in mode) ms k ks key n ss is))

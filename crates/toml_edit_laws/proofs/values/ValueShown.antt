@@ -31,7 +31,8 @@ kept-path before ms k h is = by_path k.path refl is.single
     by_path (at_key x ∷ t ∷ p) e s = absurd cc
 
 -- below the key of any mention there is a slot
-pub slot-for : {S : Type 0} (ms : List (Mention S)) (m : Mention S) (s : Step) (q : Path) → AgreeingMentions ms → Among m ms → m.path ≡ s ∷ q
+pub slot-for : {S : Type 0} (ms : List (Mention S)) (m : Mention S) (s : Step) (q : Path) → AgreeingMentions ms → Among m ms → m.path ≡ s
+    ∷ q
     → (k : Mention S) × Among k (kept ms) × (s ≡ at_key k.segment.key)
 slot-for ms m s q h a e =
     let first = h.closed m a s [] q e in
@@ -63,7 +64,8 @@ under-shows ms k h is d =
 module _ (form : Form) where
   -- ---- values
 
-  pub value-shown_inside : (n : Node) (v : Value) (i : ℕ) (before after : Text) → IsValueNode form v i before after n → is_shown_inside n ≡ true
+  pub value-shown_inside : (n : Node) (v : Value) (i : ℕ) (before after : Text) → IsValueNode form v i before after n → is_shown_inside n
+      ≡ true
   value-shown_inside (leaf s r d) v i before after h = refl
   value-shown_inside (list f xs) v i before after h = refl
   value-shown_inside (inline f ss) (inline_table ps comma t) i before after h = ap (λ g. not g.is_dotted || shows_inside ss) h.0
@@ -90,7 +92,8 @@ module _ (form : Form) where
         → (m : Mention Entry) (s : Step) (q : Path) → Among m ns → m.path ≡ s ∷ q → is_shown_inside n ≡ true
     made-shown (inline f ss) k ns h agree m s q a e =
         let found = slot-for ns m s q agree a e in
-        ap (λ b. not f.is_dotted || b) (slots-shown ss ns (kept ns) h.1 agree (λ j b. kept-is [] j ns b) found.0 found.1) ∙ or-true (not f.is_dotted)
+        ap (λ b. not f.is_dotted || b) (slots-shown ss ns (kept ns) h.1 agree (λ j b. kept-is [] j ns b) found.0 found.1)
+        ∙ or-true (not f.is_dotted)
     made-shown (leaf s r d) k ns h agree m t q a e = elim h [ ]
     made-shown (list f xs) k ns h agree m s q a e = elim h [ ]
     made-shown (table f ss) k ns h agree m s q a e = elim h [ ]
@@ -107,8 +110,10 @@ module _ (form : Form) where
         (elim (agree.roles j (are j (inl refl)).among) [
           | inl d ↦
               let lower = under-shows ms j agree (are j (inl refl)) d in
-              made-shown n j (under (at_key j.segment.key) ms) (dotted-slot j.role _ _ d (slot-node form ms j ks key n ss h)) (under-agrees (at_key j.segment.key) ms agree) lower.0 lower.1 lower.2 lower.3 lower.4
-          | inr v ↦ value-shown_inside n j.source.value j.source.start j.source.before j.source.after (value-slot j.role _ _ v (slot-node form ms j ks key n ss h))
+              made-shown n j (under (at_key j.segment.key) ms) (dotted-slot j.role _ _ d (slot-node form ms j ks key n ss h))
+              (under-agrees (at_key j.segment.key) ms agree) lower.0 lower.1 lower.2 lower.3 lower.4
+          | inr v ↦ value-shown_inside n j.source.value j.source.start j.source.before j.source.after
+              (value-slot j.role _ _ v (slot-node form ms j ks key n ss h))
         ])
 
   -- the node of a kept mention is shown
@@ -119,6 +124,7 @@ module _ (form : Form) where
       elim (agree.roles k is.among) [
         | inl d ↦
             let lower = under-shows ms k agree is d in
-            made-shown n k (under (at_key k.segment.key) ms) (dotted-slot k.role _ _ d h) (under-agrees (at_key k.segment.key) ms agree) lower.0 lower.1 lower.2 lower.3 lower.4
+            made-shown n k (under (at_key k.segment.key) ms) (dotted-slot k.role _ _ d h) (under-agrees (at_key k.segment.key) ms agree)
+            lower.0 lower.1 lower.2 lower.3 lower.4
         | inr v ↦ value-shown_inside n k.source.value k.source.start k.source.before k.source.after (value-slot k.role _ _ v h)
       ]

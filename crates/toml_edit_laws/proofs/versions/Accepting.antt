@@ -59,10 +59,12 @@ place-early : (c : Context) (s : Statement) → is_late_statement s ≡ false �
 place-early c (key_line f v end) h = ap not h
 place-early c (header k end) h = ap not h
 
-places-early : (c : Context) (ss : List Statement) → AreEarly ss → list_all (λ (s : Placed). not (is_late_statement s.source.statement)) (placed_from c ss) ≡ true
+places-early : (c : Context) (ss : List Statement) → AreEarly ss
+    → list_all (λ (s : Placed). not (is_late_statement s.source.statement)) (placed_from c ss) ≡ true
 places-early c [] h = refl
 places-early c (s ∷ ss) h =
-    and_both (not (is_late_statement (source_of c s).statement)) (list_all (λ (s : Placed). not (is_late_statement s.source.statement)) (placed_from (context_after c s) ss))
+    and_both (not (is_late_statement (source_of c s).statement))
+    (list_all (λ (s : Placed). not (is_late_statement s.source.statement)) (placed_from (context_after c s) ss))
     (place-early c s h.0) (places-early (context_after c s) ss h.1)
 
 -- What 1.0 accepts has no late statement, and what 1.1 accepts and has none is accepted under 1.0.
@@ -70,4 +72,5 @@ pub early-accepted : (d : Document) → is_accepted_in v1_0 d ≡ true → AreEa
 early-accepted d h = early-of (start_context d) [] d.statements (sym (right-together v1_0 (placed d)) ∙ h)
 
 pub accepted-early : (d : Document) → is_accepted d ≡ true → AreEarly d.statements → is_accepted_in v1_0 d ≡ true
-accepted-early d h g = right-together v1_0 (placed d) ∙ all-early [] (placed d) (accepted-right d h) (places-early (start_context d) d.statements g)
+accepted-early d h g = right-together v1_0 (placed d)
+    ∙ all-early [] (placed d) (accepted-right d h) (places-early (start_context d) d.statements g)

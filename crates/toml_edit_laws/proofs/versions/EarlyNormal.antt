@@ -6,10 +6,15 @@ use Rattle.std.specs.Option.{option_or}
 use Rattle.toml_edit_model.specs.Order.{sorted_by}
 use Rattle.toml_edit_model.specs.Text.{Text, carriage_return, without_returns}
 use Rattle.toml_edit_model.specs.Mode.{Mode, plain, exact, shown_text}
-use Rattle.toml_edit_model.specs.Syntax.{Segment, Value, scalar, array, inline_table, Elements, no_elements, element, Pairs, no_pairs, pair, value_text, frame_text, Statement, key_line, header, Document, open_statements}
-use Rattle.toml_edit_model.specs.Version.{is_late_spelling, is_late_path, is_late_byte, is_late_trivia, is_late_value, are_late_elements, are_late_pairs, is_late_statement}
-use Rattle.toml_edit_model.specs.Paths.{Path, same_path, to_key, Mention, PairSource, line_mentions, next_start, pair_mentions, Source, Placed, placed, placed_from, Context, start_context, context_after, source_of, mentions_of, header_mentions, header_role_of, path_start, elements_at, in_last}
-use Rattle.toml_edit_model.specs.Normal.{pairs_of, pair_before, kept_pair, some_of, ordered_pairs, normal_value, normal_elements, normal_pairs, ordered, normal_statement, has_open_end, normal_last, normal_in}
+use Rattle.toml_edit_model.specs.Syntax.{Segment, Value, scalar, array, inline_table, Elements, no_elements, element, Pairs, no_pairs, pair}
+use Rattle.toml_edit_model.specs.Syntax.{value_text, frame_text, Statement, key_line, header, Document, open_statements}
+use Rattle.toml_edit_model.specs.Version.{is_late_spelling, is_late_path, is_late_byte, is_late_trivia, is_late_value, are_late_elements}
+use Rattle.toml_edit_model.specs.Version.{are_late_pairs, is_late_statement}
+use Rattle.toml_edit_model.specs.Paths.{Path, same_path, to_key, Mention, PairSource, line_mentions, next_start, pair_mentions, Source}
+use Rattle.toml_edit_model.specs.Paths.{Placed, placed, placed_from, Context, start_context, context_after, source_of, mentions_of}
+use Rattle.toml_edit_model.specs.Paths.{header_mentions, header_role_of, path_start, elements_at, in_last}
+use Rattle.toml_edit_model.specs.Normal.{pairs_of, pair_before, kept_pair, some_of, ordered_pairs, normal_value, normal_elements}
+use Rattle.toml_edit_model.specs.Normal.{normal_pairs, ordered, normal_statement, has_open_end, normal_last, normal_in}
 use Rattle.toml_edit_laws.proofs.common.Tests.{or-left, or-right}
 use Rattle.toml_edit_laws.proofs.common.OrderLaws.{all-sorted}
 use Rattle.toml_edit_laws.proofs.common.Each.{all-map, all-append, all-filter}
@@ -27,7 +32,8 @@ or-none false b h g = g
 late-returns : (t : Text) → is_late_trivia t ≡ false → is_late_trivia (without_returns t) ≡ false
 late-returns [] h = refl
 late-returns (c ∷ t) h =
-    by_test (not (c == carriage_return)) (or-left (is_late_byte c) (is_late_trivia t) h) (late-returns t (or-right (is_late_byte c) (is_late_trivia t) h))
+    by_test (not (c == carriage_return)) (or-left (is_late_byte c) (is_late_trivia t) h)
+    (late-returns t (or-right (is_late_byte c) (is_late_trivia t) h))
   where
     by_test : (b : Bool) → is_late_byte c ≡ false → is_late_trivia (without_returns t) ≡ false
         → is_late_trivia (if b then c ∷ without_returns t else without_returns t) ≡ false
@@ -68,7 +74,8 @@ segment-early : {S : Type 0} (o : Option (Mention S)) (m : Mention S) → IsEarl
 segment-early None m h g = g
 segment-early (Some k) m h g = h
 
-kept-early : {S : Type 0} (all : List (Mention S)) (m : Mention S) → AllByRecursion IsEarly all → IsEarly m → is_late_spelling (kept_segment all m).spelled ≡ false
+kept-early : {S : Type 0} (all : List (Mention S)) (m : Mention S) → AllByRecursion IsEarly all → IsEarly m
+    → is_late_spelling (kept_segment all m).spelled ≡ false
 kept-early all m h g =
     let at = all-filter IsEarly (λ k. same_path m.path k.path) all h in
     segment-early (kept_mention all m.path) m
@@ -84,19 +91,23 @@ bare-late : (ss : List Segment) → is_late_path (unspaced_ends ss) ≡ is_late_
 bare-late [] = refl
 bare-late (s ∷ ss) = bare-end-late (record s { before = [] } ∷ ss)
 
-own-early : {S : Type 0} (all own : List (Mention S)) → AllByRecursion IsEarly all → AllByRecursion IsEarly own → is_late_path (map (kept_segment all) own) ≡ false
+own-early : {S : Type 0} (all own : List (Mention S)) → AllByRecursion IsEarly all → AllByRecursion IsEarly own
+    → is_late_path (map (kept_segment all) own) ≡ false
 own-early all [] h g = refl
 own-early all (m ∷ own) h g =
-    or-none (is_late_spelling (kept_segment all m).spelled) (is_late_path (map (kept_segment all) own)) (kept-early all m h g.0) (own-early all own h g.1)
+    or-none (is_late_spelling (kept_segment all m).spelled) (is_late_path (map (kept_segment all) own)) (kept-early all m h g.0)
+    (own-early all own h g.1)
 
-pub path-early : {S : Type 0} (all own : List (Mention S)) → AllByRecursion IsEarly all → AllByRecursion IsEarly own → is_late_path (kept_path all own) ≡ false
+pub path-early : {S : Type 0} (all own : List (Mention S)) → AllByRecursion IsEarly all → AllByRecursion IsEarly own
+    → is_late_path (kept_path all own) ≡ false
 path-early all own h g = bare-late (map (kept_segment all) own) ∙ own-early all own h g
 
 -- ---- pairs
 
 abbrev IsEarlyPair : Mention PairSource → Type 0
 IsEarlyPair m =
-    IsEarly m × (is_late_trivia m.source.frame.leading ≡ false) × (is_late_trivia m.source.frame.trailing ≡ false) × (is_late_value m.source.value ≡ false)
+    IsEarly m × (is_late_trivia m.source.frame.leading ≡ false) × (is_late_trivia m.source.frame.trailing ≡ false)
+    × (is_late_value m.source.value ≡ false)
 
 line-early : (source : PairSource) (start : ℕ) (p : Path) (ss : List Segment) → is_late_trivia source.frame.leading ≡ false
     → is_late_trivia source.frame.trailing ≡ false → is_late_value source.value ≡ false → is_late_path ss ≡ false
@@ -116,16 +127,20 @@ pairs-early (pair f v ps) start h =
     let rest = or-right (trivia || is_late_path f.path) (is_late_value v || are_late_pairs ps) h in
     let around = or-left trivia (is_late_path f.path) here in (
       line-early (record { frame = f; value = v }) (start + length f.leading) [] f.path
-          (or-left (is_late_trivia f.leading) (is_late_trivia f.trailing) around) (or-right (is_late_trivia f.leading) (is_late_trivia f.trailing) around)
+          (or-left (is_late_trivia f.leading) (is_late_trivia f.trailing) around)
+          (or-right (is_late_trivia f.leading) (is_late_trivia f.trailing) around)
           (or-left (is_late_value v) (are_late_pairs ps) rest) (or-right trivia (is_late_path f.path) here),
       pairs-early ps (start + length (frame_text f (value_text v)) + 1) (or-right (is_late_value v) (are_late_pairs ps) rest),
     )
 
-flat-early : (mss : List (List (Mention PairSource))) → AllByRecursion (AllByRecursion IsEarlyPair) mss → AllByRecursion IsEarly (flat_map (λ ms. ms) mss)
+flat-early : (mss : List (List (Mention PairSource))) → AllByRecursion (AllByRecursion IsEarlyPair) mss
+    → AllByRecursion IsEarly (flat_map (λ ms. ms) mss)
 flat-early [] h = tt
-flat-early (ms ∷ mss) h = all-append IsEarly ms (flat_map (λ ms. ms) mss) (all-map IsEarlyPair IsEarly ms (λ m g. g.0) h.0) (flat-early mss h.1)
+flat-early (ms ∷ mss) h =
+    all-append IsEarly ms (flat_map (λ ms. ms) mss) (all-map IsEarlyPair IsEarly ms (λ m g. g.0) h.0) (flat-early mss h.1)
 
-made-early : (all : List (Mention PairSource)) (mss : List (List (Mention PairSource))) → AllByRecursion IsEarly all → AllByRecursion (AllByRecursion IsEarlyPair) mss
+made-early : (all : List (Mention PairSource)) (mss : List (List (Mention PairSource))) → AllByRecursion IsEarly all
+    → AllByRecursion (AllByRecursion IsEarlyPair) mss
     → are_late_pairs (pairs_of (some_of (map (kept_pair all) mss))) ≡ false
 made-early all [] h g = refl
 made-early all ([] ∷ mss) h g = made-early all mss h g.1
@@ -134,7 +149,8 @@ made-early all ((m ∷ own) ∷ mss) h g =
     let path = kept_path all (m ∷ own) in
     let rest = are_late_pairs (pairs_of (some_of (map (kept_pair all) mss))) in
     or-none ((is_late_trivia f.leading || is_late_trivia f.trailing) || is_late_path path) (is_late_value m.source.value || rest)
-    (or-none (is_late_trivia f.leading || is_late_trivia f.trailing) (is_late_path path) (or-none (is_late_trivia f.leading) (is_late_trivia f.trailing) g.0.0.1 g.0.0.2)
+    (or-none (is_late_trivia f.leading || is_late_trivia f.trailing) (is_late_path path)
+    (or-none (is_late_trivia f.leading) (is_late_trivia f.trailing) g.0.0.1 g.0.0.2)
     (path-early all (m ∷ own) h (all-map IsEarlyPair IsEarly (m ∷ own) (λ x e. e.0) g.0)))
     (or-none (is_late_value m.source.value) rest g.0.0.3 (made-early all mss h g.1))
 
@@ -156,14 +172,16 @@ module _ (mode : Mode) where
     value-early (inline_table ps comma t) h =
         let ends = or-left (comma || is_late_trivia t) (are_late_pairs ps) h in
         or-none (comma || is_late_trivia (shown_text mode t)) (are_late_pairs (ordered_pairs (normal_pairs mode ps)))
-        (or-none comma (is_late_trivia (shown_text mode t)) (or-left comma (is_late_trivia t) ends) (late-shown mode t (or-right comma (is_late_trivia t) ends)))
+        (or-none comma (is_late_trivia (shown_text mode t)) (or-left comma (is_late_trivia t) ends)
+        (late-shown mode t (or-right comma (is_late_trivia t) ends)))
         (ordered-early (normal_pairs mode ps) (pairs-normal ps (or-right (comma || is_late_trivia t) (are_late_pairs ps) h)))
 
     elements-early : (es : Elements) → are_late_elements es ≡ false → are_late_elements (normal_elements mode es) ≡ false
     elements-early no_elements h = refl
     elements-early (element a v es) h =
         or-none (is_late_value (normal_value mode v)) (are_late_elements (normal_elements mode es))
-        (value-early v (or-left (is_late_value v) (are_late_elements es) h)) (elements-early es (or-right (is_late_value v) (are_late_elements es) h))
+        (value-early v (or-left (is_late_value v) (are_late_elements es) h))
+        (elements-early es (or-right (is_late_value v) (are_late_elements es) h))
 
     pairs-normal : (ps : Pairs) → are_late_pairs ps ≡ false → are_late_pairs (normal_pairs mode ps) ≡ false
     pairs-normal no_pairs h = refl
@@ -180,11 +198,13 @@ module _ (mode : Mode) where
         (late-shown mode f.trailing (or-right (is_late_trivia f.leading) (is_late_trivia f.trailing) around)))
         (or-right trivia (is_late_path f.path) here))
         (or-none (is_late_value (normal_value mode v)) (are_late_pairs (normal_pairs mode ps))
-        (value-early v (or-left (is_late_value v) (are_late_pairs ps) rest)) (pairs-normal ps (or-right (is_late_value v) (are_late_pairs ps) rest)))
+        (value-early v (or-left (is_late_value v) (are_late_pairs ps) rest))
+        (pairs-normal ps (or-right (is_late_value v) (are_late_pairs ps) rest)))
 
 -- ---- statements
 
-path-mentions : {S : Type 0} (source : S) (start : ℕ) (p : Path) (ss : List Segment) → is_late_path ss ≡ false → AllByRecursion IsEarly (line_mentions source start p ss)
+path-mentions : {S : Type 0} (source : S) (start : ℕ) (p : Path) (ss : List Segment) → is_late_path ss ≡ false
+    → AllByRecursion IsEarly (line_mentions source start p ss)
 path-mentions source start p [] h = tt
 path-mentions source start p (s ∷ []) h = (or-left (is_late_spelling s.spelled) false h, tt)
 path-mentions source start p (s ∷ r ∷ ss) h = (
@@ -192,7 +212,8 @@ path-mentions source start p (s ∷ r ∷ ss) h = (
   path-mentions source (next_start start s) (to_key p s.key) (r ∷ ss) (or-right (is_late_spelling s.spelled) (is_late_path (r ∷ ss)) h),
 )
 
-header-path-mentions : {S : Type 0} (source : S) (arrays : List Path) (role : Role) (start : ℕ) (p : Path) (ss : List Segment) → is_late_path ss ≡ false
+header-path-mentions : {S : Type 0} (source : S) (arrays : List Path) (role : Role) (start : ℕ) (p : Path) (ss : List Segment)
+    → is_late_path ss ≡ false
     → AllByRecursion IsEarly (header_mentions source arrays role start p ss)
 header-path-mentions source arrays role start p [] h = tt
 header-path-mentions source arrays role start p (s ∷ []) h = (or-left (is_late_spelling s.spelled) false h, tt)
@@ -204,7 +225,8 @@ header-path-mentions source arrays role start p (s ∷ r ∷ ss) h = (
 
 mentions-early : (c : Context) (s : Statement) → is_late_statement s ≡ false → AllByRecursion IsEarly (mentions_of c s)
 mentions-early c (key_line f v end) h =
-    path-mentions (source_of c (key_line f v end)) (c.start + path_start (key_line f v end)) c.block f.path (or-left (is_late_path f.path) (is_late_value v) h)
+    path-mentions (source_of c (key_line f v end)) (c.start
+    + path_start (key_line f v end)) c.block f.path (or-left (is_late_path f.path) (is_late_value v) h)
 mentions-early c (header k end) h =
     header-path-mentions (source_of c (header k end)) c.arrays (header_role_of k) (c.start + path_start (header k end)) [] k.path h
 
@@ -219,7 +241,8 @@ places-early : (c : Context) (ss : List Statement) → AreEarly ss → AllByRecu
 places-early c [] h = tt
 places-early c (s ∷ ss) h = ((mentions-early c s h.0, source-early c s h.0), places-early (context_after c s) ss h.1)
 
-all-of : (places : List Placed) → AllByRecursion IsEarlyPlace places → AllByRecursion IsEarly (flat_map (λ ms. ms) (map (λ (s : Placed). s.mentions) places))
+all-of : (places : List Placed) → AllByRecursion IsEarlyPlace places
+    → AllByRecursion IsEarly (flat_map (λ ms. ms) (map (λ (s : Placed). s.mentions) places))
 all-of [] h = tt
 all-of (s ∷ places) h = all-append IsEarly s.mentions _ h.0.0 (all-of places h.1)
 
@@ -230,7 +253,8 @@ open-early (header k end ∷ []) h = h
 open-early (s ∷ r ∷ ss) h = (h.0, open-early (r ∷ ss) h.1)
 
 module _ (mode : Mode) where
-  statement-early : (all : List (Mention Source)) (at : Placed) (s : Statement) → AllByRecursion IsEarly all → AllByRecursion IsEarly at.mentions → is_late_statement s ≡ false
+  statement-early : (all : List (Mention Source)) (at : Placed) (s : Statement) → AllByRecursion IsEarly all
+      → AllByRecursion IsEarly at.mentions → is_late_statement s ≡ false
       → is_late_statement (normal_statement mode all at s) ≡ false
   statement-early all at (key_line f v end) h g e =
       or-none (is_late_path (kept_path all at.mentions)) (is_late_value (normal_value mode v)) (path-early all at.mentions h g)

@@ -23,5 +23,7 @@ module _ (mode : Mode) where
   pub prints_stay : PrintsStay mode
   prints_stay version t d h tree is =
       let accepted = (later-accepts version t d h).1 in
-      subst (λ x. AcceptedIn version x (document_in mode (has_open_end d.statements) tree)) (sym (print_normal mode d h.0.0 accepted tree is))
-      (subst (λ e. AcceptedIn version (normal_text_in mode d) e) (sym (printed_normal mode d h.0.0 accepted tree is)) (normal_texts_stay version t d h))
+      subst (λ x. AcceptedIn version x (document_in mode (has_open_end d.statements) tree))
+      (sym (print_normal mode d h.0.0 accepted tree is))
+      (subst (λ e. AcceptedIn version (normal_text_in mode d) e) (sym (printed_normal mode d h.0.0 accepted tree is))
+      (normal_texts_stay version t d h))

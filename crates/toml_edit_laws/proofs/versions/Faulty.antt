@@ -25,7 +25,8 @@ some-late i s e = by_places (late_places i s) refl
     by_places [] is = (let clash : true ≡ false = sym (ap is_empty is) ∙ late-have-places i s ∙ ap not e in absurd cc)
     by_places (p ∷ rest) is = (p, rest, is)
 
-late-fault : (earlier : List Placed) (s : Placed) → is_late_statement s.source.statement ≡ true → (f : Fault) × Contains (faults_of v1_0 earlier s) f
+late-fault : (earlier : List Placed) (s : Placed) → is_late_statement s.source.statement ≡ true → (f : Fault)
+    × Contains (faults_of v1_0 earlier s) f
 late-fault earlier s e =
     let found = some-late s.source.start s.source.statement e in
     let fault_at : Place → Fault = λ p. fault needs_message p.0 p.1 in
@@ -42,7 +43,8 @@ faults_in_versions v1_0 d earlier s h = by_test (is_late_statement s.source.stat
     by_test : (b : Bool) → is_late_statement s.source.statement ≡ b → (f : Fault) × Contains (faults_of v1_0 earlier s) f
     by_test true e = late-fault earlier s e
     by_test false e =
-        let wrong : is_right_in v1_1 earlier s ≡ false = sym (ap (λ b. not b && is_right_after earlier s) e) ∙ wrong_here v1_0 earlier s h.right h.faulty in
+        let wrong : is_right_in v1_1 earlier s ≡ false = sym (ap (λ b. not b && is_right_after earlier s) e)
+        ∙ wrong_here v1_0 earlier s h.right h.faulty in
         let first : IsFirstFaulty d earlier s =
         record {
           later = h.later;

@@ -4,8 +4,13 @@ use Rattle.std.specs.Prelude.{◌&&◌, ◌||◌, not, ◌==◌, if◌then◌els
 use Rattle.std.proofs.lemmas.Bool.Decides.{Decides-eqb}
 use Rattle.toml_edit_model.specs.Text.{Text, is_empty, line_feed, carriage_return, quote, hash, backslash}
 use Rattle.toml_edit_model.specs.Scalars.{Scalar, string, integer, float, boolean, datetime}
-use Rattle.toml_edit_model.specs.Syntax.{Segment, Value, scalar, array, inline_table, Elements, no_elements, element, Pairs, no_pairs, pair, key_line, header, value_text, frame_text, path_text, pairs_text, comma_text}
-use Rattle.toml_edit_model.specs.Version.{is_late_escape, has_late_escape, is_late_spelling, is_late_time, is_late_scalar, is_late_path, is_late_trivia, is_late_value, are_late_elements, are_late_pairs, Place, escape_size, late_escapes, late_spelling, late_scalar, late_path, Reading, nothing_yet, comment_from, return_at, comment_to, newline_to, hash_at, late_trivia, late_comma, late_value, late_elements, late_pairs}
+use Rattle.toml_edit_model.specs.Syntax.{Segment, Value, scalar, array, inline_table, Elements, no_elements, element, Pairs, no_pairs, pair}
+use Rattle.toml_edit_model.specs.Syntax.{key_line, header, value_text, frame_text, path_text, pairs_text, comma_text}
+use Rattle.toml_edit_model.specs.Version.{is_late_escape, has_late_escape, is_late_spelling, is_late_time, is_late_scalar, is_late_path}
+use Rattle.toml_edit_model.specs.Version.{is_late_trivia, is_late_value, are_late_elements, are_late_pairs, Place, escape_size}
+use Rattle.toml_edit_model.specs.Version.{late_escapes, late_spelling, late_scalar, late_path, Reading, nothing_yet, comment_from}
+use Rattle.toml_edit_model.specs.Version.{return_at, comment_to, newline_to, hash_at, late_trivia, late_comma, late_value, late_elements}
+use Rattle.toml_edit_model.specs.Version.{late_pairs}
 use Rattle.toml_edit_model.specs.Paths.{next_start, path_start}
 use Rattle.toml_edit_laws.specs.Versions.{LateHavePlaces}
 
@@ -30,9 +35,11 @@ escapes-told i (c ∷ d ∷ t) = by_test (c == backslash) (escapes-told (i + 2) 
   where
     by_test : (b : Bool) → is_empty (late_escapes (i + 2) t) ≡ not (has_late_escape t)
         → is_empty (late_escapes (i + 1) (d ∷ t)) ≡ not (has_late_escape (d ∷ t))
-        → is_empty (if b then (if is_late_escape d then (i, escape_size d) ∷ [] else []) ++ late_escapes (i + 2) t else late_escapes (i + 1) (d ∷ t))
+        → is_empty (if b then (if is_late_escape d then (i, escape_size d) ∷ [] else []) ++ late_escapes (i + 2) t
+        else late_escapes (i + 1) (d ∷ t))
         ≡ not (if b then is_late_escape d || has_late_escape t else has_late_escape (d ∷ t))
-    by_test true h g = none-append (if is_late_escape d then (i, escape_size d) ∷ [] else []) (late_escapes (i + 2) t) (is_late_escape d) (has_late_escape t)
+    by_test true h g = none-append (if is_late_escape d then (i, escape_size d) ∷ []
+        else []) (late_escapes (i + 2) t) (is_late_escape d) (has_late_escape t)
         (one-place (is_late_escape d) (i, escape_size d)) h
     by_test false h g = g
 
@@ -80,7 +87,8 @@ trivia-told r i [] = comment-told i r ∙ ap not (or-false (in_comment r))
     or-false true = refl
     or-false false = refl
 trivia-told r i (c ∷ t) =
-    by_tests (c == line_feed) (c == carriage_return) (c == hash) (λ e. ap (λ x. x == hash) ((Decides-eqb c carriage_return).0 e)) (trivia-told (return_at i) (suc i) t) (trivia-told (hash_at i r) (suc i) t) (trivia-told r (suc i) t)
+    by_tests (c == line_feed) (c == carriage_return) (c == hash) (λ e. ap (λ x. x == hash) ((Decides-eqb c carriage_return).0 e))
+    (trivia-told (return_at i) (suc i) t) (trivia-told (hash_at i r) (suc i) t) (trivia-told r (suc i) t)
   where
     late : Bool
     late = is_late_trivia t
@@ -102,7 +110,8 @@ trivia-told r i (c ∷ t) =
         else if h then late_trivia (hash_at i r) (suc i) t
         else late_trivia r (suc i) t)
         ≡ not (in_comment r || ((l || h) || late))
-    by_tests true k h apart after hash other = some-after (comment_to i r) (late_trivia nothing_yet (suc i) t) (newline_to i r) ∙ or-true (in_comment r)
+    by_tests true k h apart after hash other = some-after (comment_to i r) (late_trivia nothing_yet (suc i) t) (newline_to i r)
+        ∙ or-true (in_comment r)
     by_tests false true true apart after hash other = (let clash : true ≡ false = apart refl in cc)
     by_tests false true false apart after hash other =
         none-append (comment_to i r) (late_trivia (return_at i) (suc i) t) (in_comment r) late (comment-told i r) after
@@ -147,7 +156,8 @@ mutual
       let value = is_late_value v in
       let trailing = is_late_trivia f.trailing in
       let rest = are_late_pairs ps in
-      none-append (late_trivia nothing_yet i f.leading) _ leading (path || (value || (trailing || rest))) (trivia-told nothing_yet i f.leading)
+      none-append (late_trivia nothing_yet i f.leading) _ leading (path
+      || (value || (trailing || rest))) (trivia-told nothing_yet i f.leading)
       (none-append (late_path (i + length f.leading) f.path) _ path (value || (trailing || rest)) (path-told (i + length f.leading) f.path)
       (none-append (late_value v value_at) _ value (trailing || rest) (value-told v value_at)
       (none-append (late_trivia nothing_yet (value_at + length (value_text v)) f.trailing) _ trailing rest

@@ -33,4 +33,7 @@ late_value_fault v i start end less h =
     let f : Fault = fault_at (start, end - start) in
     let ends : start + (end - start) ≡ end = omega (arith, less) in
     subst (λ n. Contains (map fault_at (late_value v i)) (record { message = needs_message; span = Some (start, n) })) ends
-    (to-contained f (map fault_at (late_value v i)) (image-among fault_at (start, end - start) (late_value v i) (from-contained (start, end - start) (late_value v i) h)))
+    (to-contained f (map fault_at (late_value v i)) (image-among fault_at (
+      start,
+      end - start,
+    ) (late_value v i) (from-contained (start, end - start) (late_value v i) h)))

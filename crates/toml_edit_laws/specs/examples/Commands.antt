@@ -5,12 +5,14 @@ use Rattle.std.specs.Fmt.{digits}
 use Rattle.toml_edit_model.specs.Mode.{plain}
 use Rattle.toml_edit_model.specs.Text.{Text, newline, same_text}
 use Rattle.toml_edit_model.specs.Scalars.{string}
-use Rattle.toml_edit_model.specs.Syntax.{Segment, scalar, array, inline_table, no_elements, element, no_pairs, Statement, header, Document, keeps_limits}
+use Rattle.toml_edit_model.specs.Syntax.{Segment, scalar, array, inline_table, no_elements, element, no_pairs, Statement, header, Document}
+use Rattle.toml_edit_model.specs.Syntax.{keeps_limits}
 use Rattle.toml_edit_model.specs.Tree.{Node, no_items, item, Tree}
 use Rattle.toml_edit_model.specs.Print.{print, statements_of}
 use Rattle.toml_edit_model.specs.TreeOf.{owned_form}
 use Rattle.toml_edit_model.specs.examples.ComputedTree.{tree_of}
-use Rattle.toml_edit_model.specs.examples.Parts.{line, head, document, pair_of, a, b, c, x, one_value, two_value, plain_int, plain_list, all_true}
+use Rattle.toml_edit_model.specs.examples.Parts.{line, head, document, pair_of, a, b, c, x, one_value, two_value, plain_int, plain_list}
+use Rattle.toml_edit_model.specs.examples.Parts.{all_true}
 use Rattle.toml_edit_laws.specs.Commands.{Refusal, no_such_path, wrong_kind, Answer, done, refused, get_text, set_at, remove_at}
 use Rattle.toml_edit_laws.specs.examples.Edits.{commented, three_lines}
 

@@ -4,7 +4,8 @@ use Rattle.std.proofs.Common.{lit<, ap, arith, inl, inr}
 use Rattle.toml_edit_model.specs.Scalars.{zulu, shift}
 use Rattle.toml_edit_model.specs.Spelling.{Sign, plus, minus, unsigned, sign_text, clock_text}
 use Rattle.toml_edit_model.specs.Syntax.{Statement, Document}
-use Rattle.toml_edit_model.specs.Paths.{at_key, Path, Mention, Source, Placed, Context, placed, source_of, mentions_of, start_context, context_after}
+use Rattle.toml_edit_model.specs.Paths.{at_key, Path, Mention, Source, Placed, Context, placed, source_of, mentions_of, start_context}
+use Rattle.toml_edit_model.specs.Paths.{context_after}
 use Rattle.toml_edit_model.specs.Kept.{rank}
 use Rattle.toml_edit_model.specs.Normal.{ordered}
 use Rattle.toml_edit_model.specs.examples.Parts.{line, head, document, a, b, c, x, y, one_value, two_value, three_value}

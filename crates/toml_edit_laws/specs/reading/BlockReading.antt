@@ -1,5 +1,6 @@
 -- Reading a string of several lines at the front of a text.
-use Rattle.std.specs.Prelude.{ℕ, zero, suc, ◌-◌, min, Bool, not, ◌&&◌, ◌||◌, ◌==◌, nat_lt, nat_le, if◌then◌else◌, [], ◌∷◌, length, take, drop, slice_index, encode_utf8, Option, Some, None, option_map, option_and_then}
+use Rattle.std.specs.Prelude.{ℕ, zero, suc, ◌-◌, min, Bool, not, ◌&&◌, ◌||◌, ◌==◌, nat_lt, nat_le, if◌then◌else◌, [], ◌∷◌, length, take}
+use Rattle.std.specs.Prelude.{drop, slice_index, encode_utf8, Option, Some, None, option_map, option_and_then}
 use Rattle.std.specs.List.{prefix_len}
 use Rattle.toml_edit_model.specs.Text.{Text, line_feed, carriage_return, quote, apostrophe, backslash, has_byte}
 use Rattle.toml_edit_model.specs.Trivia.{is_blank}

@@ -1,5 +1,6 @@
 -- Whether a text is a float, tested from left to right.
-use Rattle.std.specs.Prelude.{ℕ, Bool, false, not, ◌&&◌, ◌||◌, ◌==◌, if◌then◌else◌, [], ◌∷◌, drop, slice_index, codes, bytes_eq, Option, Some, None}
+use Rattle.std.specs.Prelude.{ℕ, Bool, false, not, ◌&&◌, ◌||◌, ◌==◌, if◌then◌else◌, [], ◌∷◌, drop, slice_index, codes, bytes_eq, Option}
+use Rattle.std.specs.Prelude.{Some, None}
 use Rattle.std.specs.Char.{is_digit, is_ascii_alphanumeric}
 use Rattle.toml_edit_model.specs.Text.{Text, underscore, is_empty}
 use Rattle.toml_edit_model.specs.Spelling.{is_exponent_mark}

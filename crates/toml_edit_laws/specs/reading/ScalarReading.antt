@@ -1,5 +1,6 @@
 -- Reading a scalar at the front of a text, from left to right.
-use Rattle.std.specs.Prelude.{ℕ, ◌+◌, Bool, true, false, ◌&&◌, ◌||◌, ◌==◌, if◌then◌else◌, [], ◌∷◌, take, drop, slice_index, codes, bytes_eq, Option, Some, is_some, option_map}
+use Rattle.std.specs.Prelude.{ℕ, ◌+◌, Bool, true, false, ◌&&◌, ◌||◌, ◌==◌, if◌then◌else◌, [], ◌∷◌, take, drop, slice_index, codes, bytes_eq}
+use Rattle.std.specs.Prelude.{Option, Some, is_some, option_map}
 use Rattle.std.specs.List.{prefix_len}
 use Rattle.std.specs.Char.{is_ascii_digit}
 use Rattle.toml_edit_model.specs.Text.{Text, line_feed, carriage_return, space, hash}

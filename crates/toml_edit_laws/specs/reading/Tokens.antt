@@ -1,11 +1,13 @@
 -- Reading strings of one line, integers and keys, from left to right.
-use Rattle.std.specs.Prelude.{ℕ, zero, suc, ◌+◌, ◌*◌, ℤ, pos, Bool, true, false, not, ◌&&◌, ◌==◌, nat_lt, nat_le, if◌then◌else◌, [], ◌∷◌, ◌++◌, length, take, drop, slice_index, encode_utf8, Option, Some, None, option_map, option_and_then}
+use Rattle.std.specs.Prelude.{ℕ, zero, suc, ◌+◌, ◌*◌, ℤ, pos, Bool, true, false, not, ◌&&◌, ◌==◌, nat_lt, nat_le, if◌then◌else◌, [], ◌∷◌}
+use Rattle.std.specs.Prelude.{◌++◌, length, take, drop, slice_index, encode_utf8, Option, Some, None, option_map, option_and_then}
 use Rattle.std.specs.List.{list_all}
 use Rattle.std.specs.Char.{is_digit, digit_value}
 use Rattle.std.specs.Str.Parse.{digits_value}
 use Rattle.toml_edit_model.specs.Text.{Text, quote, apostrophe, backslash, underscore, is_empty}
 use Rattle.toml_edit_model.specs.Scalars.{Scalar, fits_integer}
-use Rattle.toml_edit_model.specs.Spelling.{short_escape, hex_digits, is_scalar_value, is_plain, is_literal, is_bare_byte, Sign, plus, minus, unsigned, signed, Base, hexadecimal, octal, binary, base_number, is_in_range}
+use Rattle.toml_edit_model.specs.Spelling.{short_escape, hex_digits, is_scalar_value, is_plain, is_literal, is_bare_byte, Sign, plus, minus}
+use Rattle.toml_edit_model.specs.Spelling.{unsigned, signed, Base, hexadecimal, octal, binary, base_number, is_in_range}
 use Rattle.toml_edit_laws.specs.reading.Runs.{Read, first, split_while}
 
 -- the text goes on with no byte of a bare key

@@ -1,5 +1,6 @@
 -- Worked calls on the trees of texts, and what these then print.
-use Rattle.std.specs.Prelude.{◌≡◌, refl, pos, true, false, List, [], ◌∷◌, codes, map, unwrap_or, Option, Some, None, option_map, option_and_then}
+use Rattle.std.specs.Prelude.{◌≡◌, refl, pos, true, false, List, [], ◌∷◌, codes, map, unwrap_or, Option, Some, None, option_map}
+use Rattle.std.specs.Prelude.{option_and_then}
 use Rattle.std.specs.Fmt.{digits}
 use Rattle.toml_edit_model.specs.Text.{Text, newline, one}
 use Rattle.toml_edit_model.specs.Scalars.{string, boolean, integer}
@@ -15,13 +16,15 @@ use Rattle.toml_edit_model.specs.examples.ComputedTree.{tree_of}
 use Rattle.toml_edit_model.specs.Keys.{new_key}
 use Rattle.toml_edit_model.specs.Slots.{Slot, on_item, names, lookup, changed, inserted, or_inserted, extended, without}
 use Rattle.toml_edit_model.specs.Lists.{slot_list, slots_from, items_from, on_slots, on_items, is_dotted_table}
-use Rattle.toml_edit_model.specs.Conversions.{new_table, with_decor, formatted, formatted_items, formatted_array, made_value, into_tables, value_display, table_display}
+use Rattle.toml_edit_model.specs.Conversions.{new_table, with_decor, formatted, formatted_items, formatted_array, made_value, into_tables}
+use Rattle.toml_edit_model.specs.Conversions.{value_display, table_display}
 use Rattle.toml_edit_model.specs.Iterating.{table_values}
 use Rattle.toml_edit_model.specs.ArrayCalls.{pushed, replaced_at, removed_at}
 use Rattle.toml_edit_model.specs.Positions.{slots_without_positions}
 use Rattle.toml_edit_model.specs.Sorting.{sorted_slots}
 use Rattle.toml_edit_model.specs.Indexing.{Index, number, text, indexed, with_indexed, index_or_inserted, item_under}
-use Rattle.toml_edit_model.specs.examples.Parts.{line, head, document, a, b, c, x, pair_of, one_value, two_value, three_value, plain_int, owned_decor, plain_list}
+use Rattle.toml_edit_model.specs.examples.Parts.{line, head, document, a, b, c, x, pair_of, one_value, two_value, three_value, plain_int}
+use Rattle.toml_edit_model.specs.examples.Parts.{owned_decor, plain_list}
 use Rattle.toml_edit_model.specs.examples.Texts.{readme, t_key}
 use Rattle.toml_edit_model.specs.examples.Trees.{shows_as, all_four}
 

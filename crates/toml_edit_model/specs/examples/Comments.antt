@@ -3,7 +3,9 @@ use Rattle.std.specs.Prelude.{◌≡◌, refl, [], ◌∷◌, codes, Some, None}
 use Rattle.toml_edit_model.specs.Text.{space}
 use Rattle.toml_edit_model.specs.Trivia.{lf, crlf, blank, break, remark}
 use Rattle.toml_edit_model.specs.Tree.{owned, span, unset}
-use Rattle.toml_edit_model.specs.Comments.{lines, words, last_newline, comments, bodies, first_comment, without_comments, with_comment_line, with_first_comment, without_first_comment, comments_before, with_comment_before, without_comments_before, comment_after, with_comment_after}
+use Rattle.toml_edit_model.specs.Comments.{lines, words, last_newline, comments, bodies, first_comment, without_comments, with_comment_line}
+use Rattle.toml_edit_model.specs.Comments.{with_first_comment, without_first_comment, comments_before, with_comment_before}
+use Rattle.toml_edit_model.specs.Comments.{without_comments_before, comment_after, with_comment_after}
 
 -- ---- lines
 

@@ -4,7 +4,8 @@ use Rattle.toml_edit_model.specs.Text.{one}
 use Rattle.toml_edit_model.specs.Tree.{owned, unset, Node, nothing, list, inline, table, tables, no_items, no_slots, slot}
 use Rattle.toml_edit_model.specs.Lists.{items_from}
 use Rattle.toml_edit_model.specs.Iterating.{values, elements}
-use Rattle.toml_edit_model.specs.Conversions.{new_array, new_inline, new_table, formatted_items, formatted_array, made_value, into_value, filled_with, into_table, into_tables}
+use Rattle.toml_edit_model.specs.Conversions.{new_array, new_inline, new_table, formatted_items, formatted_array, made_value, into_value}
+use Rattle.toml_edit_model.specs.Conversions.{filled_with, into_table, into_tables}
 use Rattle.toml_edit_model.specs.ArrayCalls.{value_at, pushed, inserted_at, replaced_at, written_at, removed_at, retained_elements}
 use Rattle.toml_edit_model.specs.TablesCalls.{table_at, retained_tables}
 use Rattle.toml_edit_model.specs.Indexing.{number, text, indexed, with_indexed, index_or_inserted, item_under}

@@ -6,7 +6,8 @@ use Rattle.toml_edit_model.specs.Text.{same_text}
 use Rattle.toml_edit_model.specs.Scalars.{integer, string}
 use Rattle.toml_edit_model.specs.Paths.{at_key, at_element}
 use Rattle.toml_edit_model.specs.Meaning.{fact, a_table, an_array, a_scalar}
-use Rattle.toml_edit_model.specs.Tree.{owned, span, unset, Node, nothing, leaf, list, inline, table, tables, no_items, item, Slots, no_slots, slot, Tree}
+use Rattle.toml_edit_model.specs.Tree.{owned, span, unset, Node, nothing, leaf, list, inline, table, tables, no_items, item, Slots}
+use Rattle.toml_edit_model.specs.Tree.{no_slots, slot, Tree}
 use Rattle.toml_edit_model.specs.Shown.{shown_meaning}
 use Rattle.toml_edit_model.specs.Print.{print}
 use Rattle.toml_edit_model.specs.Slots.{Slot, keyed, inserted}
@@ -14,7 +15,8 @@ use Rattle.toml_edit_model.specs.Lists.{slots_from, items_from}
 use Rattle.toml_edit_model.specs.Conversions.{formatted_items, formatted, made_value, item_display}
 use Rattle.toml_edit_model.specs.examples.Parts.{plain_key, plain_int, owned_decor, plain_list, table_at, table_placed, root_of, all_true}
 use Rattle.toml_edit_model.specs.examples.Cuts.{empty_trivia, empty_end}
-use Rattle.toml_edit_model.specs.examples.Fits.{FitsAs, fits, plain_line, dotted_root}
+use Rattle.toml_edit_model.specs.examples.Misfits.{dotted_root}
+use Rattle.toml_edit_model.specs.examples.Fits.{FitsAs, fits, plain_line}
 
 -- ---- items that their place can't print
 

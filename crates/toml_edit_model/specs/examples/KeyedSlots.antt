@@ -4,13 +4,15 @@ use Rattle.std.specs.Prelude.{◌≡◌, refl, ℕ, ◌==◌, true, false, List,
 use Rattle.toml_edit_model.specs.Text.{Text, one}
 use Rattle.toml_edit_model.specs.Tree.{owned, Key, Node, nothing, inline, table, tables, no_items, no_slots, slot}
 use Rattle.toml_edit_model.specs.Keys.{new_key, reset_key, cleared_key}
-use Rattle.toml_edit_model.specs.Slots.{Slot, on_key, with_item, changed_at, names, place, lookup, lookup_key, pairs, changed, inserted, inserted_formatted, or_inserted, extended, without, retained}
+use Rattle.toml_edit_model.specs.Slots.{Slot, on_key, with_item, changed_at, names, place, lookup, lookup_key, pairs, changed, inserted}
+use Rattle.toml_edit_model.specs.Slots.{inserted_formatted, or_inserted, extended, without, retained}
 use Rattle.toml_edit_model.specs.Rearranging.{renamed_key, is_free, renamed_slot, inserted_slot, moved_slot}
 use Rattle.toml_edit_model.specs.Lists.{is_item}
 use Rattle.toml_edit_model.specs.Iterating.{filled, filled_pairs, value_pairs}
 use Rattle.toml_edit_model.specs.Conversions.{new_inline, formatted}
 use Rattle.toml_edit_model.specs.TableCalls.{get, get_slot, contains_key, contains_value, contains_table, contains_tables, with_place}
-use Rattle.toml_edit_model.specs.InlineCalls.{get_value, contains_value_key, old_value, old_slot, or_inserted_value, entered, retained_values}
+use Rattle.toml_edit_model.specs.InlineCalls.{get_value, contains_value_key, old_value, old_slot, or_inserted_value, entered}
+use Rattle.toml_edit_model.specs.InlineCalls.{retained_values}
 use Rattle.toml_edit_model.specs.TableLike.{of_table, of_inline_table, like_inserted, like_old, like_contains_key, like_get_values}
 use Rattle.toml_edit_model.specs.examples.Parts.{plain_int, owned_decor, table_at}
 

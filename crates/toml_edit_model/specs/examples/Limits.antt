@@ -1,9 +1,11 @@
 -- Worked texts at the limits and just past them: numbers, dates and times, segments of keys,
 -- brackets.
-use Rattle.std.specs.Prelude.{◌≡◌, refl, ℕ, zero, suc, pos, negsuc, ℤ, Bool, true, false, not, ◌&&◌, List, [], ◌∷◌, ◌++◌, codes, Option, Some, None}
+use Rattle.std.specs.Prelude.{◌≡◌, refl, ℕ, zero, suc, pos, negsuc, ℤ, Bool, true, false, not, ◌&&◌, List, [], ◌∷◌, ◌++◌, codes, Option}
+use Rattle.std.specs.Prelude.{Some, None}
 use Rattle.toml_edit_model.specs.Text.{Text, newline, same_text, byte_order_mark}
 use Rattle.toml_edit_model.specs.Scalars.{Scalar, integer, datetime, Date, Time, zulu, shift, is_real_date}
-use Rattle.toml_edit_model.specs.Syntax.{Value, scalar, array, inline_table, no_elements, element, no_pairs, pair, key_line, Document, document_text, is_short}
+use Rattle.toml_edit_model.specs.Syntax.{Value, scalar, array, inline_table, no_elements, element, no_pairs, pair, key_line, Document}
+use Rattle.toml_edit_model.specs.Syntax.{document_text, is_short}
 use Rattle.toml_edit_model.specs.Accepted.{is_accepted}
 use Rattle.std.specs.Fmt.{digits}
 use Rattle.toml_edit_model.specs.Excerpt.{excerpt}

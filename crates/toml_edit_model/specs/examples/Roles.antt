@@ -3,9 +3,11 @@
 use Rattle.std.specs.Prelude.{◌≡◌, refl, ℕ, ◌+◌, Bool, true, false, List, [], ◌∷◌, ◌++◌, codes, Some, None}
 use Rattle.toml_edit_model.specs.Text.{Text, newline}
 use Rattle.toml_edit_model.specs.Scalars.{string, float, boolean, datetime}
-use Rattle.toml_edit_model.specs.Syntax.{Segment, Value, scalar, array, inline_table, no_elements, element, no_pairs, Statement, key_line, Document}
+use Rattle.toml_edit_model.specs.Syntax.{Segment, Value, scalar, array, inline_table, no_elements, element, no_pairs, Statement, key_line}
+use Rattle.toml_edit_model.specs.Syntax.{Document}
 use Rattle.toml_edit_model.specs.Accepted.{is_accepted}
-use Rattle.toml_edit_model.specs.examples.Parts.{bare, spelled_as, line, head, document, a, b, c, d, x, y, empty_table, pair_of, one_value, two_value, all_true}
+use Rattle.toml_edit_model.specs.examples.Parts.{bare, spelled_as, line, head, document, a, b, c, d, x, y, empty_table, pair_of, one_value}
+use Rattle.toml_edit_model.specs.examples.Parts.{two_value, all_true}
 use Rattle.toml_edit_model.specs.examples.Refusals.{refused}
 
 abbrev duplicate : Text

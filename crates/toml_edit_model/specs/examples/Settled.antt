@@ -3,12 +3,14 @@
 use Rattle.std.specs.Prelude.{◌≡◌, refl, Bool, true, false, not, ◌&&◌, List, [], ◌∷◌, ◌++◌, codes, pos, Some, None}
 use Rattle.toml_edit_model.specs.Text.{Text, newline, same_text, byte_order_mark}
 use Rattle.toml_edit_model.specs.Scalars.{string}
-use Rattle.toml_edit_model.specs.Syntax.{Segment, Value, scalar, array, inline_table, no_elements, element, no_pairs, Statement, key_line, header, Document, document_text}
+use Rattle.toml_edit_model.specs.Syntax.{Segment, Value, scalar, array, inline_table, no_elements, element, no_pairs, Statement, key_line}
+use Rattle.toml_edit_model.specs.Syntax.{header, Document, document_text}
 use Rattle.toml_edit_model.specs.Accepted.{is_accepted}
 use Rattle.toml_edit_model.specs.Normal.{normal, normal_text}
 use Rattle.toml_edit_model.specs.Tree.{Raw, owned, span, Decor, unset, inline, table, tables, no_items, item, Slots, no_slots, slot}
 use Rattle.toml_edit_model.specs.Fits.{is_steady}
-use Rattle.toml_edit_model.specs.examples.Parts.{spelled_as, line, head, document, a, b, c, d, x, y, pair_of, one_value, two_value, three_value, all_true, plain_key, plain_int, owned_decor, table_placed, root_of}
+use Rattle.toml_edit_model.specs.examples.Parts.{spelled_as, line, head, document, a, b, c, d, x, y, pair_of, one_value, two_value}
+use Rattle.toml_edit_model.specs.examples.Parts.{three_value, all_true, plain_key, plain_int, owned_decor, table_placed, root_of}
 use Rattle.toml_edit_model.specs.Settled.{is_settled}
 
 -- ---- texts

@@ -14,7 +14,8 @@ use Rattle.toml_edit_model.specs.Print.{print}
 use Rattle.toml_edit_model.specs.Tree.{span, leaf, list, inline, table, no_items, item, no_slots, slot, Tree}
 use Rattle.toml_edit_model.specs.examples.Parts.{spelled_as, bare, int, line, head, document, a, b, d, one_value}
 use Rattle.toml_edit_model.specs.examples.Texts.{reads, all_hold, empty, open_end, t_key}
-use Rattle.toml_edit_model.specs.examples.Cuts.{empty_trivia, empty_end, empty_final, lf_end, space_trivia, bare_key, a_is, t_is, one_is, frame_is, head_is, cut}
+use Rattle.toml_edit_model.specs.examples.Cuts.{empty_trivia, empty_end, empty_final, lf_end, space_trivia, bare_key, a_is, t_is, one_is}
+use Rattle.toml_edit_model.specs.examples.Cuts.{frame_is, head_is, cut}
 use Rattle.toml_edit_model.specs.examples.TreesOfTexts.{none, decor, last, number, by_header, spanned_tree}
 use Rattle.toml_edit_model.specs.Settled.{is_settled}
 use Rattle.toml_edit_model.specs.examples.WholeTexts.{HasTree}

@@ -6,7 +6,9 @@ use Rattle.std.proofs.Common.{lit<, inl, inr}
 use Rattle.toml_edit_model.specs.Text.{same_text}
 use Rattle.toml_edit_model.specs.Trivia.{lf, crlf}
 use Rattle.toml_edit_model.specs.Scalars.{string, integer, float, boolean, datetime, Date, zulu, shift}
-use Rattle.toml_edit_model.specs.Spelling.{plain, letter, numbered, in_line, next_line, quotes, one_quote, two_quotes, joint, white, line_break, plus, minus, unsigned, hexadecimal, SpellsBasic, SpellsMultilineBasic, SpellsMultilineLiteral, SpellsInteger, IsFloat, SpellsDatetime}
+use Rattle.toml_edit_model.specs.Spelling.{plain, letter, numbered, in_line, next_line, quotes, one_quote, two_quotes, joint, white}
+use Rattle.toml_edit_model.specs.Spelling.{line_break, plus, minus, unsigned, hexadecimal, SpellsBasic, SpellsMultilineBasic}
+use Rattle.toml_edit_model.specs.Spelling.{SpellsMultilineLiteral, SpellsInteger, IsFloat, SpellsDatetime}
 use Rattle.toml_edit_model.specs.DefaultSpelling.{default_spelling, key_spelling}
 use Rattle.toml_edit_model.specs.examples.Parts.{all_true}
 use Rattle.toml_edit_model.specs.examples.Tokens.{time, plus_is_a_sign}

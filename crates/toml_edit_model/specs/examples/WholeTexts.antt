@@ -16,7 +16,8 @@ use Rattle.toml_edit_model.specs.Tree.{span, leaf, table, tables, no_items, item
 use Rattle.toml_edit_model.specs.TreeOf.{spanned_form, owned_form, IsTreeOf}
 use Rattle.toml_edit_model.specs.examples.Parts.{spelled_as, line, head, document, a, b, c, x, one_value, two_value}
 use Rattle.toml_edit_model.specs.examples.Texts.{reads, all_hold, empty, apart}
-use Rattle.toml_edit_model.specs.examples.Cuts.{empty_trivia, empty_end, empty_final, lf_end, IsKey, is_bare, two_keys, bare_key, bare_keys, a_is, ab_is, one_is, two_is, frame_is, head_is, cut}
+use Rattle.toml_edit_model.specs.examples.Cuts.{empty_trivia, empty_end, empty_final, lf_end, IsKey, is_bare, two_keys, bare_key, bare_keys}
+use Rattle.toml_edit_model.specs.examples.Cuts.{a_is, ab_is, one_is, two_is, frame_is, head_is, cut}
 use Rattle.toml_edit_model.specs.examples.TreesOfTexts.{none, decor, last, inner, number, by_path, by_header, spanned_tree}
 use Rattle.toml_edit_model.specs.Settled.{is_settled}
 use Rattle.toml_edit_model.specs.OwnedForm.{owned_tree}

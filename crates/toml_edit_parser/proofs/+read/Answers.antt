@@ -19,7 +19,8 @@ use Rattle.toml_edit_parser.proofs.ElementsLaws.{element_read}
 use Rattle.toml_edit_parser.proofs.ArrayLaws.{end_at, elements_stand, array_ends, array_end_split, array_closed, array_refused}
 use Rattle.toml_edit_parser.proofs.SplitLaws.{before_in, scalar_in}
 use Rattle.toml_edit_parser.proofs.InlineLaws.{inline-closed, inline-refused, inline_ends, pairs_stand}
-use Rattle.toml_edit_parser.proofs.PairLaws.{fewer-still, frame-in, leading-in, no-frame, pair-read, path-some, path-stands, short-path, the-frame, too-long, value-refused, value-stands}
+use Rattle.toml_edit_parser.proofs.PairLaws.{fewer-still, frame-in, leading-in, no-frame, pair-read, path-some, path-stands, short-path}
+use Rattle.toml_edit_parser.proofs.PairLaws.{the-frame, too-long, value-refused, value-stands}
 use Rattle.toml_edit_parser.proofs.ElementsLaws as elements
 use Rattle.toml_edit_parser.proofs.PairsLaws as pairs
 use Rattle.toml_edit_parser.proofs.ViewLaws.{view-Value}
@@ -32,7 +33,8 @@ pub reader::read_value-returns-in_default-clause-value : goal.reader::read_value
 reader::read_value-returns-in_default-clause-value t c =
     λ v start level more is stands below e. no_event v start level more c.args.events.now _ below e c.in_default.ensures
 
-pub reader::read_value-returns-in_err-read_scalar-in-Scalar-clause-value : goal.reader::read_value-returns-in_err-read_scalar-in-Scalar-clause-value
+pub reader::read_value-returns-in_err-read_scalar-in-Scalar-clause-value :
+    goal.reader::read_value-returns-in_err-read_scalar-in-Scalar-clause-value
 reader::read_value-returns-in_err-read_scalar-in-Scalar-clause-value t c =
     λ v start level more is stands below e.
     let first = c.in-Some.first in
@@ -43,7 +45,8 @@ reader::read_value-returns-in_err-read_scalar-in-Scalar-clause-value t c =
     rw (p.1, p.2)
     (scalar_refused c.args.source.now v start level more first rest failed.field-0.0 c.in-Scalar.is head is stands failed.ensures.value)
 
-pub reader::read_value-returns-in_ok-read_scalar-in-Scalar-clause-value : goal.reader::read_value-returns-in_ok-read_scalar-in-Scalar-clause-value
+pub reader::read_value-returns-in_ok-read_scalar-in-Scalar-clause-value :
+    goal.reader::read_value-returns-in_ok-read_scalar-in-Scalar-clause-value
 reader::read_value-returns-in_ok-read_scalar-in-Scalar-clause-value t c =
     λ v start level more is stands below e.
     let first = c.in-Some.first in
@@ -69,7 +72,8 @@ reader::read_value-returns-in-InlineTableOpen-clause-value t c =
     let first = c.in-Some.first in
     let rest = c.in-Some.rest.now in
     let head = head_of v start level more c.args.events.now first rest below e c.in-Some.ensures in
-    inline_opened s v start level more first rest (λ w. ReadsValue s w start level more c.read_inline.result) c.in-InlineTableOpen.is head is stands
+    inline_opened s v start level more first rest (λ w. ReadsValue s w start level more c.read_inline.result) c.in-InlineTableOpen.is head
+    is stands
     (λ ps comma t are whole room at inner. c.read_inline.ensures.value ps comma t start level more are whole room at inner)
 
 pub reader::read_value-returns-in_default-kind : goal.reader::read_value-returns-in_default-kind
@@ -80,7 +84,8 @@ reader::read_value-returns-in_default-kind t c =
           let rest = c.in-Some.rest.now in
           let head = head_of v start level more c.args.events.now first rest below e c.in-Some.ensures in
           let other = c.in_default-kind in
-          too_deep c.args.source.now v start level more first rest c.refusal.result other.not-Scalar other.not-ArrayOpen other.not-InlineTableOpen
+          too_deep c.args.source.now v start level more first rest c.refusal.result other.not-Scalar other.not-ArrayOpen
+          other.not-InlineTableOpen
           head c.refusal.ensures.report;
       input = mapped c.refusal.result _ _ (λ r is. ap (λ (x : Report). x.input) is) c.refusal.ensures.report;
       listed = c.refusal.ensures.listed v1_1 (inr (3, lit< tt, refl));
@@ -118,7 +123,8 @@ reader::read_array-returns-clause-value t c =
 
 -- ---- the elements
 
-pub reader::read_elements-elements-preserved-in_ok-rest-in-Some-split_scalar : goal.reader::read_elements-elements-preserved-in_ok-rest-in-Some-split_scalar
+pub reader::read_elements-elements-preserved-in_ok-rest-in-Some-split_scalar :
+    goal.reader::read_elements-elements-preserved-in_ok-rest-in-Some-split_scalar
 reader::read_elements-elements-preserved-in_ok-rest-in-Some-split_scalar t c =
     let s = c.args.source.now in
     let l = c.elements in
@@ -143,7 +149,8 @@ reader::read_elements-elements-preserved-in_ok-rest-in-Some-split_scalar t c =
           let later = elements_events (elements.next_element n.place n.around n.value) n.others ++ more in
           elements.added s es start level more before tail l.values.items put rest n
           (scalar_element s n.value (n.place + length n.around.before) level n.around.after later tail place behind
-          (λ w. AddsElement n.around w n.place level later l.values.items put rest) c.in-Some-split_scalar.ensures n.tail_is n.grammar n.stands
+          (λ w. AddsElement n.around w n.place level later l.values.items put rest) c.in-Some-split_scalar.ensures n.tail_is n.grammar
+          n.stands
           (λ x u spells stands at rest_is. read.element n.around x u n.place level later spells stands n.before_is at rest_is));
     }
 
@@ -166,7 +173,8 @@ reader::read_elements-elements-preserved t c =
           (read.element n.around n.value n.place level _ n.grammar n.stands n.below n.before_is n.tail_is);
     }
 
-pub reader::read_elements-returns-in_err-rest-in-Some-split_scalar-clause-elements : goal.reader::read_elements-returns-in_err-rest-in-Some-split_scalar-clause-elements
+pub reader::read_elements-returns-in_err-rest-in-Some-split_scalar-clause-elements :
+    goal.reader::read_elements-returns-in_err-rest-in-Some-split_scalar-clause-elements
 reader::read_elements-returns-in_err-rest-in-Some-split_scalar-clause-elements t c =
     λ es start level more are stand below ends inner.
     let s = c.args.source.now in
@@ -182,10 +190,12 @@ reader::read_elements-returns-in_err-rest-in-Some-split_scalar-clause-elements t
     rw (p.1, p.2)
     (named s (value_faults n.value (n.place + length n.around.before) level) (elements_faults es start level) failed.field-0.0 n.fault
     (scalar_element s n.value (n.place + length n.around.before) level n.around.after later c.in-Some.tail.now place behind
-    (λ w. IfToml failed.field-0.0 (NamesOne s (value_faults w (n.place + length n.around.before) level))) c.in-Some-split_scalar.ensures n.tail_is n.grammar n.stands
+    (λ w. IfToml failed.field-0.0 (NamesOne s (value_faults w (n.place + length n.around.before) level))) c.in-Some-split_scalar.ensures
+    n.tail_is n.grammar n.stands
     (λ x u spells stands at rest_is. failed.ensures.element n.around x u n.place level later spells stands n.before_is at rest_is)))
 
-pub reader::read_elements-returns-in_err-rest-in-None-clause-elements : goal.reader::read_elements-returns-in_err-rest-in-None-clause-elements
+pub reader::read_elements-returns-in_err-rest-in-None-clause-elements :
+    goal.reader::read_elements-returns-in_err-rest-in-None-clause-elements
 reader::read_elements-returns-in_err-rest-in-None-clause-elements t c =
     λ es start level more are stand below ends inner.
     let s = c.args.source.now in
@@ -240,7 +250,8 @@ pub pairs::read_inline-returns-clause-value : goal.pairs::read_inline-returns-cl
 pairs::read_inline-returns-clause-value t c =
     λ ps comma u start level more are stands below at e.
     let end = start + length (value_text (inline_table ps comma u)) - 1 in
-    inline-closed c.args.source.now ps comma u start level more (slots_view c.read_pairs.new.slots) c.in_ok-rest.rest.now c.args.opening.start c.close_inline.result below at
+    inline-closed c.args.source.now ps comma u start level more (slots_view c.read_pairs.new.slots) c.in_ok-rest.rest.now
+    c.args.opening.start c.close_inline.result below at
     (c.in_ok-rest.ensures.pairs ps (start + 1) (suc level) (close_events InlineTableClose (codes "}") end comma u ++ more) are
     (pairs_stand c.args.source.now ps comma u start stands) (omega (arith, below)) (inline_ends (suc level) end comma u more) e)
     c.close_inline.ensures.value
@@ -253,7 +264,8 @@ pairs::read_pairs-pairs-init t c =
       spans = c.requires.1.1.0;
       fits = subst (λ xs. SlotsFit c.args.source.now (slots_view xs)) (sym c.requires.1.1.1) tt;
       fewer = omega arith;
-      progress = λ ps start level more h. pairs.at_start c.args.source.now ps start level more c.args.events.now (slots_view c.args.slots.now) (ap slots_view c.requires.1.1.1) h;
+      progress = λ ps start level more h. pairs.at_start c.args.source.now ps start level more c.args.events.now
+          (slots_view c.args.slots.now) (ap slots_view c.requires.1.1.1) h;
     }
 
 pub pairs::read_pairs-pairs-preserved : goal.pairs::read_pairs-pairs-preserved
@@ -261,12 +273,16 @@ pairs::read_pairs-pairs-preserved t c =
     record {
       spans = c.in_ok-rest.ensures.rest.0;
       fits = c.in_ok-rest.ensures.fits c.pairs.invariant.fits;
-      fewer = let shorter = (leading-in c.args.source.now c.pairs.rest.now c.in-Some.leading c.in-Some.tail.now c.in-Some.ensures c.pairs.invariant.spans).2 in
+      fewer = let shorter =
+          (leading-in c.args.source.now c.pairs.rest.now c.in-Some.leading c.in-Some.tail.now c.in-Some.ensures
+          c.pairs.invariant.spans).2 in
           omega (arith, c.in_ok-rest.ensures.rest.1, c.pairs.invariant.fewer);
       progress = λ ps start level more h.
-          let n = pairs.next c.args.source.now ps start level more c.pairs.rest.now c.in-Some.leading c.in-Some.tail.now (slots_view c.pairs.slots)
+          let n = pairs.next c.args.source.now ps start level more c.pairs.rest.now c.in-Some.leading c.in-Some.tail.now
+          (slots_view c.pairs.slots)
           (c.pairs.invariant.progress ps start level more h) c.in-Some.ensures in
-          pairs.added c.args.source.now ps start level more c.in-Some.leading c.in-Some.tail.now (slots_view c.pairs.slots) (slots_view c.read_pair.new.slots) _ n
+          pairs.added c.args.source.now ps start level more c.in-Some.leading c.in-Some.tail.now (slots_view c.pairs.slots)
+          (slots_view c.read_pair.new.slots) _ n
           (c.in_ok-rest.ensures.pair n.frame n.value n.place level _ n.grammar n.value_grammar n.stands n.below n.leading_is n.tail_is);
     }
 
@@ -274,35 +290,50 @@ pub pairs::read_pairs-returns-in_err-rest-clause-pairs : goal.pairs::read_pairs-
 pairs::read_pairs-returns-in_err-rest-clause-pairs t c =
     λ ps start level more are stand below ends e.
     let p = err_from_is_err_and c.from_residual.result c.from_residual.ensures.1 in
-    let h = c.pairs.invariant.progress ps start level more (record { grammar = are; stand = stand; below = below; ends = ends; events_are = e }) in
-    let n = pairs.next c.args.source.now ps start level more c.pairs.rest.now c.in-Some.leading c.in-Some.tail.now (slots_view c.pairs.slots) h c.in-Some.ensures in
-    rw (p.1, p.2) (pairs.refused c.args.source.now ps start level more c.in-Some.leading c.in-Some.tail.now (slots_view c.pairs.slots) c.in_err-rest.field-0.0 n
+    let h = c.pairs.invariant.progress ps start level more (record {
+      grammar = are;
+      stand = stand;
+      below = below;
+      ends = ends;
+      events_are =
+          e;
+    }) in
+    let n = pairs.next c.args.source.now ps start level more c.pairs.rest.now c.in-Some.leading c.in-Some.tail.now
+    (slots_view c.pairs.slots) h c.in-Some.ensures in
+    rw (p.1, p.2) (pairs.refused c.args.source.now ps start level more c.in-Some.leading c.in-Some.tail.now (slots_view c.pairs.slots)
+    c.in_err-rest.field-0.0 n
     (c.in_err-rest.ensures.pair n.frame n.value n.place level _ n.grammar n.value_grammar n.stands n.below n.leading_is n.tail_is))
 
 pub pairs::read_pairs-returns-clause-pairs : goal.pairs::read_pairs-returns-clause-pairs
 pairs::read_pairs-returns-clause-pairs t c =
     λ ps start level more are stand below ends e.
     pairs.ended c.args.source.now ps start level more c.pairs.rest.now (slots_view c.pairs.slots)
-    (c.pairs.invariant.progress ps start level more (record { grammar = are; stand = stand; below = below; ends = ends; events_are = e })) c.in_default.ensures
+    (c.pairs.invariant.progress ps start level more (record { grammar = are; stand = stand; below = below; ends = ends; events_are = e }))
+    c.in_default.ensures
 
 -- ---- one pair
 
 pub pairs::read_pair-returns-in_default-clause-pair : goal.pairs::read_pair-returns-in_default-clause-pair
 pairs::read_pair-returns-in_default-clause-pair t c =
-    λ f v start level more is value stands below same e. no-frame start f v level _ c.args.leading c.args.events.now _ is.1 same e c.in_default.ensures
+    λ f v start level more is value stands below same e. no-frame start f v level _ c.args.leading c.args.events.now _ is.1 same e
+    c.in_default.ensures
 
 pub pairs::read_pair-returns-in_err-value-clause-pair : goal.pairs::read_pair-returns-in_err-value-clause-pair
 pairs::read_pair-returns-in_err-value-clause-pair t c =
     λ f v start level more is value stands below same e.
     let p = err_from_is_err_and c.from_residual.result c.from_residual.ensures.1 in
-    let parts = the-frame start f v level _ c.args.leading c.args.events.now (parts_of c.in-Some.frame) c.in-Some.rest.now is.1 same e c.in-Some.ensures in
+    let parts = the-frame start f v level _ c.args.leading c.args.events.now (parts_of c.in-Some.frame) c.in-Some.rest.now is.1 same e
+    c.in-Some.ensures in
     rw (p.1, p.2) (value-refused c.args.source.now f v start level (slots_view c.args.slots.now) c.in_err-value.field-0.0
-    (c.in_err-value.ensures.value v (value_at_byte start f) level _ value (value-stands c.args.source.now start f (value_text v) stands) below parts.1))
+    (c.in_err-value.ensures.value v (value_at_byte start f) level _ value (value-stands c.args.source.now start f (value_text v) stands)
+    below parts.1))
 
-pub pairs::read_pair-returns-then-frame-gt-MOST_PATH_EVENTS-clause-pair : goal.pairs::read_pair-returns-then-frame-gt-MOST_PATH_EVENTS-clause-pair
+pub pairs::read_pair-returns-then-frame-gt-MOST_PATH_EVENTS-clause-pair :
+    goal.pairs::read_pair-returns-then-frame-gt-MOST_PATH_EVENTS-clause-pair
 pairs::read_pair-returns-then-frame-gt-MOST_PATH_EVENTS-clause-pair t c =
     λ f v start level more is value stands below same e.
-    let parts = the-frame start f v level _ c.args.leading c.args.events.now (parts_of c.in-Some.frame) c.in-Some.rest.now is.1 same e c.in-Some.ensures in
+    let parts = the-frame start f v level _ c.args.leading c.args.events.now (parts_of c.in-Some.frame) c.in-Some.rest.now is.1 same e
+    c.in-Some.ensures in
     too-long c.args.source.now f v start level (slots_view c.args.slots.now) c.refusal_of_all.result is.1
     (subst (λ (q : FrameParts). 238 < length q.path) parts.0 c.if-frame-gt-MOST_PATH_EVENTS.true) c.refusal_of_all.ensures.report
 
@@ -311,10 +342,12 @@ pairs::read_pair-returns-clause-pair t c =
     λ f v start level more is value stands below same e.
     let s = c.args.source.now in
     let end = value_at_byte start f + length (value_text v) in
-    let parts = the-frame start f v level _ c.args.leading c.args.events.now (parts_of c.in-Some.frame) c.in-Some.rest.now is.1 same e c.in-Some.ensures in
+    let parts = the-frame start f v level _ c.args.leading c.args.events.now (parts_of c.in-Some.frame) c.in-Some.rest.now is.1 same e
+    c.in-Some.ensures in
     let short = short-path f.path (start + length f.leading) (path-some f.path is.1)
     (subst (λ (q : FrameParts). length q.path ≤ 238) parts.0 c.if-frame-gt-MOST_PATH_EVENTS.false) in
-    let h = c.in_ok-value.ensures.value v (value_at_byte start f) level (event After end f.trailing ∷ more) value (value-stands s start f (value_text v) stands) below parts.1 in
+    let h = c.in_ok-value.ensures.value v (value_at_byte start f) level (event After end f.trailing
+    ∷ more) value (value-stands s start f (value_text v) stands) below parts.1 in
     let P : Node → Type 0 = λ n. IsRead v (value_at_byte start f) level (event After end f.trailing ∷ more) n c.in_ok-value.rest.now in
     pair-read s f v start level more (slots_view c.args.slots.now) (slots_view c.end_pair-ended.new.slots) _ c.in_ok-value.rest.now
     c.end_pair-ended.result short (subst P (sym (view-Value c.in_ok-value.value)) h)
@@ -322,7 +355,8 @@ pairs::read_pair-returns-clause-pair t c =
 
 pub pairs::read_pair-read_value-requires : goal.pairs::read_pair-read_value-requires
 pairs::read_pair-read_value-requires t c =
-    let parts = frame-in c.args.source.now c.args.leading c.args.events.now (parts_of c.in-Some.frame) c.in-Some.rest.now c.in-Some.ensures c.requires.1.1.1 in
+    let parts = frame-in c.args.source.now c.args.leading c.args.events.now (parts_of c.in-Some.frame) c.in-Some.rest.now c.in-Some.ensures
+    c.requires.1.1.1 in
     let at : 4 * length c.args.events.now + 1 ≡ t = c.requires.1.0 in
     let fewer = parts.fewer in
     let less : 4 * length c.in-Some.rest.now < t = omega (arith, at, fewer) in
@@ -330,11 +364,13 @@ pairs::read_pair-read_value-requires t c =
 
 pub pairs::read_pair-end_pair-ended-requires-clause-before_equals : goal.pairs::read_pair-end_pair-ended-requires-clause-before_equals
 pairs::read_pair-end_pair-ended-requires-clause-before_equals t c =
-    (frame-in c.args.source.now c.args.leading c.args.events.now (parts_of c.in-Some.frame) c.in-Some.rest.now c.in-Some.ensures c.requires.1.1.1).before_equals
+    (frame-in c.args.source.now c.args.leading c.args.events.now (parts_of c.in-Some.frame) c.in-Some.rest.now c.in-Some.ensures
+    c.requires.1.1.1).before_equals
 
 pub pairs::read_pair-end_pair-ended-requires-clause-after_equals : goal.pairs::read_pair-end_pair-ended-requires-clause-after_equals
 pairs::read_pair-end_pair-ended-requires-clause-after_equals t c =
-    (frame-in c.args.source.now c.args.leading c.args.events.now (parts_of c.in-Some.frame) c.in-Some.rest.now c.in-Some.ensures c.requires.1.1.1).after_equals
+    (frame-in c.args.source.now c.args.leading c.args.events.now (parts_of c.in-Some.frame) c.in-Some.rest.now c.in-Some.ensures
+    c.requires.1.1.1).after_equals
 
 pub pairs::read_pair-returns-clause-fits : goal.pairs::read_pair-returns-clause-fits
 pairs::read_pair-returns-clause-fits t c =
@@ -345,11 +381,16 @@ pairs::read_pair-returns-clause-fits t c =
 pub pairs::read_pair-returns-clause-rest : goal.pairs::read_pair-returns-clause-rest
 pairs::read_pair-returns-clause-rest t c =
     let s = c.args.source.now in
-    let parts = frame-in s c.args.leading c.args.events.now (parts_of c.in-Some.frame) c.in-Some.rest.now c.in-Some.ensures c.requires.1.1.1 in
-    fewer-still s c.in-Some.rest.now c.in_ok-value.rest.now c.args.events.now c.end_pair-ended.result parts.fewer c.in_ok-value.ensures.rest.1 c.end_pair-ended.ensures.rest
+    let parts = frame-in s c.args.leading c.args.events.now (parts_of c.in-Some.frame) c.in-Some.rest.now c.in-Some.ensures
+    c.requires.1.1.1 in
+    fewer-still s c.in-Some.rest.now c.in_ok-value.rest.now c.args.events.now c.end_pair-ended.result parts.fewer
+    c.in_ok-value.ensures.rest.1 c.end_pair-ended.ensures.rest
 
-pub pairs::read_pair-returns-then-frame-gt-MOST_PATH_EVENTS-clause-listed : goal.pairs::read_pair-returns-then-frame-gt-MOST_PATH_EVENTS-clause-listed
+pub pairs::read_pair-returns-then-frame-gt-MOST_PATH_EVENTS-clause-listed :
+    goal.pairs::read_pair-returns-then-frame-gt-MOST_PATH_EVENTS-clause-listed
 pairs::read_pair-returns-then-frame-gt-MOST_PATH_EVENTS-clause-listed t c = c.refusal_of_all.ensures.listed v1_1
 
-pub pairs::read_pair-returns-then-frame-gt-MOST_PATH_EVENTS-clause-input : goal.pairs::read_pair-returns-then-frame-gt-MOST_PATH_EVENTS-clause-input
-pairs::read_pair-returns-then-frame-gt-MOST_PATH_EVENTS-clause-input t c = mapped c.refusal_of_all.result _ _ (λ r known. ap (λ (x : Report). x.input) known) c.refusal_of_all.ensures.report
+pub pairs::read_pair-returns-then-frame-gt-MOST_PATH_EVENTS-clause-input :
+    goal.pairs::read_pair-returns-then-frame-gt-MOST_PATH_EVENTS-clause-input
+pairs::read_pair-returns-then-frame-gt-MOST_PATH_EVENTS-clause-input t c =
+    mapped c.refusal_of_all.result _ _ (λ r known. ap (λ (x : Report). x.input) known) c.refusal_of_all.ensures.report

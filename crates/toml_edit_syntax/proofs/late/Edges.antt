@@ -1,5 +1,6 @@
 -- The late part of an event stands in the text on the boundaries of characters: at its ends stand bytes of ASCII, or the event's ends.
-use Rattle.std.proofs.Common.{◌≡◌, refl, sym, ◌∙◌, subst, ℕ, suc, ◌+◌, ◌-◌, ◌<◌, ◌≤◌, true, false, ◌==◌, ◌&&◌, [], ◌∷◌, length, drop, get_or, arith, Option, Some, None, is_some, inl, inr}
+use Rattle.std.proofs.Common.{◌≡◌, refl, sym, ◌∙◌, subst, ℕ, suc, ◌+◌, ◌-◌, ◌<◌, ◌≤◌, true, false, ◌==◌, ◌&&◌, [], ◌∷◌, length, drop}
+use Rattle.std.proofs.Common.{get_or, arith, Option, Some, None, is_some, inl, inr}
 use Rattle.std.proofs.lemmas.Bool.{cases_Bool, cases_lt, and_parts}
 use Rattle.std.proofs.lemmas.Bool.Decides.{nat_tests}
 use Rattle.std.proofs.lemmas.List.{length-take, length-drop, get_or-take, get_or-drop}
@@ -15,7 +16,8 @@ use Rattle.toml_edit_laws.specs.reading.DatetimeReading.{datetime_of}
 use Rattle.toml_edit_laws.specs.reading.Runs.{first}
 use Rattle.toml_edit_syntax.specs.declared.event.Span.{Span}
 use Rattle.toml_edit_syntax.specs.Events.{IsSpanOf}
-use Rattle.toml_edit_syntax.specs.LateSpellings.{span_from, ends_digits, escape_at, first_escape, late_escape, lacks_seconds, late_in_scalar}
+use Rattle.toml_edit_syntax.specs.LateSpellings.{span_from, ends_digits, escape_at, first_escape, late_escape, lacks_seconds}
+use Rattle.toml_edit_syntax.specs.LateSpellings.{late_in_scalar}
 use Rattle.toml_edit_syntax.specs.LateTrivia.{is_in_line, late_in_trivia}
 
 -- the place is the end of a text that begins at this byte, or beside a byte of ASCII in it
@@ -47,7 +49,12 @@ digits_lie i d [] h = absurd cc
 digits_lie i d (a ∷ []) h = absurd cc
 digits_lie i d (a ∷ b ∷ t) h =
     let low : b < 128 = grind (arith, nat_tests) in
-    record { start = before 0 (omega arith) (omega arith) (omega arith); end = behind 3 (omega arith) (omega arith) low; order = omega arith }
+    record {
+      start = before 0 (omega arith) (omega arith) (omega arith);
+      end = behind 3 (omega arith) (omega arith) low;
+      order =
+          omega arith;
+    }
 
 at_lies : (i d : ℕ) (t : Text) (s : Span) → escape_at i (d ∷ t) ≡ Some s → Lies i (backslash ∷ d ∷ t) s
 at_lies i d t s e =
@@ -56,11 +63,17 @@ at_lies i d t s e =
           let f : ◌≡◌ {A = Option Span} (Some (span_from i 2)) (Some s) = rw is at e in
           let low : d < 128 = grind (arith, nat_tests) in
           subst (λ (x : Span). Lies i (backslash ∷ d ∷ t) x) (same_span (span_from i 2) s f)
-          (record { start = before 0 (omega arith) (omega arith) (omega arith); end = behind 1 (omega arith) (omega arith) low; order = omega arith })
+          (record {
+            start = before 0 (omega arith) (omega arith) (omega arith);
+            end = behind 1 (omega arith) (omega arith) low;
+            order =
+                omega arith;
+          })
       | inr other ↦ elim (cases_Bool (d == 0x78 && ends_digits t)) [
         | inl is ↦
             let f : ◌≡◌ {A = Option Span} (Some (span_from i 4)) (Some s) = rw (other, is) at e in
-            subst (λ (x : Span). Lies i (backslash ∷ d ∷ t) x) (same_span (span_from i 4) s f) (digits_lie i d t (and_parts (d == 0x78) (ends_digits t) is).1)
+            subst (λ (x : Span). Lies i (backslash ∷ d ∷ t) x) (same_span (span_from i 4) s f)
+            (digits_lie i d t (and_parts (d == 0x78) (ends_digits t) is).1)
         | inr none ↦ let f : ◌≡◌ {A = Option Span} None (Some s) = rw (other, none) at e in absurd cc
       ]
     ]
@@ -89,7 +102,12 @@ escape_lies i (c ∷ d ∷ t) s e =
 newline_lies : (i : ℕ) (t : Text) → first t ≡ line_feed → Lies i (carriage_return ∷ t) (span_from i 2)
 newline_lies i [] e = absurd (omega arith)
 newline_lies i (c ∷ t) e =
-    record { start = before 0 (omega arith) (omega arith) (omega arith); end = behind 1 (omega arith) (omega arith) (omega arith); order = omega arith }
+    record {
+      start = before 0 (omega arith) (omega arith) (omega arith);
+      end = behind 1 (omega arith) (omega arith) (omega arith);
+      order =
+          omega arith;
+    }
 
 -- a byte that ends a line is one of ASCII
 ends_low : (c : ℕ) → is_in_line c ≡ false → c < 128
@@ -130,7 +148,8 @@ trivia_lies i (c ∷ t) s e =
             let both = and_parts (c == carriage_return) (first t == line_feed) is in
             let same : carriage_return ≡ c = let g = both.0 in grind (arith, nat_tests) in
             let next : first t ≡ line_feed = let g = both.1 in grind (arith, nat_tests) in
-            subst (λ (x : Span). Lies i (c ∷ t) x) (same_span (span_from i 2) s f) (subst (λ (x : ℕ). Lies i (x ∷ t) (span_from i 2)) same (newline_lies i t next))
+            subst (λ (x : Span). Lies i (c ∷ t) x) (same_span (span_from i 2) s f)
+            (subst (λ (x : ℕ). Lies i (x ∷ t) (span_from i 2)) same (newline_lies i t next))
         | inr two ↦ elim (cases_Bool (c == hash)) [
           | inl is ↦
               let f : ◌≡◌ {A = Option Span} (Some (span_from i (1 + prefix_len is_in_line t))) (Some s) = rw (one, two, is) at e in
@@ -150,9 +169,11 @@ cut_len source a b within = omega (arith, length-take (b - a) (drop a source), l
 cut_byte : (source : Text) (a b k : ℕ) → k < b - a → get_or (cut_out source a b) k 0 ≡ get_or source (a + k) 0
 cut_byte source a b k l = get_or-take (b - a) (drop a source) k 0 l ∙ get_or-drop a source k 0
 
-edge_in : (source : Text) (e : Span) (n : ℕ) → IsUtf8 source → IsSpanOf source e → Edge e.start (cut_out source e.start e.end) n → IsCharBoundary source n
+edge_in : (source : Text) (e : Span) (n : ℕ) → IsUtf8 source → IsSpanOf source e → Edge e.start (cut_out source e.start e.end) n
+    → IsCharBoundary source n
 edge_in source e n utf8 h (at_end is) =
-    subst (IsCharBoundary source) (let len = cut_len source e.start e.end h.end.0 in let o = h.order in let f : e.end ≡ n = omega arith in f) h.end
+    subst (IsCharBoundary source) (let len = cut_len source e.start e.end h.end.0 in let o = h.order in let f : e.end ≡ n = omega arith in
+    f) h.end
 edge_in source e n utf8 h (before k is l a) =
     let len = cut_len source e.start e.end h.end.0 in
     let low : get_or source (e.start + k) 0 < 128 = omega (arith, cut_byte source e.start e.end k (omega arith)) in
@@ -162,7 +183,8 @@ edge_in source e n utf8 h (behind k is l a) =
     let low : get_or source (e.start + k) 0 < 128 = omega (arith, cut_byte source e.start e.end k (omega arith)) in
     subst (IsCharBoundary source) (sym is) (IsCharBoundary-after_ascii source (e.start + k) utf8 (let w = h.end.0 in omega arith) low)
 
-lies_in : (source : Text) (e s : Span) → IsUtf8 source → IsSpanOf source e → Lies e.start (cut_out source e.start e.end) s → IsSpanOf source s
+lies_in : (source : Text) (e s : Span) → IsUtf8 source → IsSpanOf source e → Lies e.start (cut_out source e.start e.end) s
+    → IsSpanOf source s
 lies_in source e s utf8 h lies =
     record { start = edge_in source e s.start utf8 h lies.start; end = edge_in source e s.end utf8 h lies.end; order = lies.order }
 
@@ -177,12 +199,14 @@ string_lies i (c ∷ t) s e =
     ]
 
 -- what is found in an event's text lies in the source
-pub escape_in : (source : Text) (e : Span) (o : Option Span) → IsUtf8 source → IsSpanOf source e → o ≡ late_escape e.start (cut_out source e.start e.end)
+pub escape_in : (source : Text) (e : Span) (o : Option Span) → IsUtf8 source → IsSpanOf source e → o
+    ≡ late_escape e.start (cut_out source e.start e.end)
     → IfSome o (λ s. IsSpanOf source s)
 escape_in source e None utf8 h is = tt
 escape_in source e (Some s) utf8 h is = lies_in source e s utf8 h (string_lies e.start (cut_out source e.start e.end) s (sym is))
 
-pub trivia_in : (source : Text) (e : Span) (o : Option Span) → IsUtf8 source → IsSpanOf source e → o ≡ late_in_trivia e.start (cut_out source e.start e.end)
+pub trivia_in : (source : Text) (e : Span) (o : Option Span) → IsUtf8 source → IsSpanOf source e → o
+    ≡ late_in_trivia e.start (cut_out source e.start e.end)
     → IfSome o (λ s. IsSpanOf source s)
 trivia_in source e None utf8 h is = tt
 trivia_in source e (Some s) utf8 h is = lies_in source e s utf8 h (trivia_lies e.start (cut_out source e.start e.end) s (sym is))
@@ -193,7 +217,8 @@ whole_in source e h =
     let same : e.end ≡ e.start + length (cut_out source e.start e.end) = let o = h.order in omega arith in
     record { start = h.start; end = subst (IsCharBoundary source) same h.end; order = omega arith }
 
-pub scalar_in : (source : Text) (e : Span) (o : Option Span) → IsUtf8 source → IsSpanOf source e → o ≡ late_in_scalar e.start (cut_out source e.start e.end)
+pub scalar_in : (source : Text) (e : Span) (o : Option Span) → IsUtf8 source → IsSpanOf source e → o
+    ≡ late_in_scalar e.start (cut_out source e.start e.end)
     → IfSome o (λ s. IsSpanOf source s)
 scalar_in source e None utf8 h is = tt
 scalar_in source e (Some s) utf8 h is =

@@ -1,11 +1,13 @@
 -- The late part of a scalar is the first of its late places.
-use Rattle.std.proofs.Common.{◌≡◌, refl, sym, ap, ◌∙◌, ℕ, ◌+◌, ◌/◌, ◌%◌, ◌<◌, Bool, true, false, ◌==◌, [], ◌∷◌, ◌++◌, append_assoc, length, arith, Option, Some, None, inl, inr}
+use Rattle.std.proofs.Common.{◌≡◌, refl, sym, ap, ◌∙◌, ℕ, ◌+◌, ◌/◌, ◌%◌, ◌<◌, Bool, true, false, ◌==◌, [], ◌∷◌, ◌++◌, append_assoc, length}
+use Rattle.std.proofs.Common.{arith, Option, Some, None, inl, inr}
 use Rattle.std.specs.Prelude.{is_some, not, nat_lt, slice_index, option_map, if◌then◌else◌}
 use Rattle.std.proofs.lemmas.Bool.{cases_Bool}
 use Rattle.std.proofs.lemmas.Bool.Decides.{nat_tests}
 use Rattle.toml_edit_model.specs.Text.{Text, quote}
 use Rattle.toml_edit_model.specs.Scalars.{Time, Date, Offset, zulu, shift, Datetime, Scalar, string, integer, float, boolean, datetime}
-use Rattle.toml_edit_model.specs.Spelling.{Spells, SpellsParts, SpellsSeconds, SpellsOffsetPart, plus, minus, unsigned, date_text, clock_text}
+use Rattle.toml_edit_model.specs.Spelling.{Spells, SpellsParts, SpellsSeconds, SpellsOffsetPart, plus, minus, unsigned, date_text}
+use Rattle.toml_edit_model.specs.Spelling.{clock_text}
 use Rattle.toml_edit_model.specs.Version.{is_late_time, late_scalar}
 use Rattle.toml_edit_laws.specs.reading.DatetimeReading.{datetime_of}
 use Rattle.toml_edit_laws.specs.reading.ScalarReading.{scalar_at}
@@ -45,7 +47,8 @@ lacks_of : (t : Text) (n : ℕ) → clock_at t ≡ n → n < length t → lacks_
 lacks_of t n e within = let yes : nat_lt n (length t) ≡ true = grind (arith, nat_tests) in rw (e, yes) refl
 
 -- what follows the hour and the minute begins with `:` just where there is a second
-second_first : (time : Time) (rest after u : Text) → SpellsSeconds time.second time.nanosecond rest → (slice_index after 0 == 0x3A) ≡ false → u ≡ rest ++ after
+second_first : (time : Time) (rest after u : Text) → SpellsSeconds time.second time.nanosecond rest → (slice_index after 0 == 0x3A) ≡ false
+    → u ≡ rest ++ after
     → not (slice_index u 0 == 0x3A) ≡ is_late_time (Some time)
 second_first time rest after u is stop e = by time.hour time.minute time.second time.nanosecond rest is e
   where
@@ -86,7 +89,8 @@ parts_first None (Some time) None t (hours, minutes, rest, seconds, whole) =
     ∙ second_first time rest [] rest seconds refl (sym (append-nil rest))
 parts_first (Some d) (Some time) offset t (first, second, third, mark, date, marks, (hours, minutes, rest, seconds, clock), zone, whole) =
     let all : t ≡ date_text d ++ (mark ∷ ((clock_text time.hour time.minute ++ rest) ++ third)) =
-    whole ∙ append_assoc first (mark ∷ second) third ∙ ap (λ (x : Text). x ++ (mark ∷ (second ++ third))) date.3 ∙ ap (λ (x : Text). date_text d ++ (mark ∷ (x ++ third))) clock in
+    whole ∙ append_assoc first (mark ∷ second) third ∙ ap (λ (x : Text). x ++ (mark ∷ (second ++ third))) date.3
+    ∙ ap (λ (x : Text). date_text d ++ (mark ∷ (x ++ third))) clock in
     let long : 11 < length t = omega (arith, ap length all) in
     lacks_of t 11 (ap clock_at all ∙ date_clock d (mark ∷ ((clock_text time.hour time.minute ++ rest) ++ third))) long
     ∙ ap (λ (x : Text). not (slice_index x 16 == 0x3A)) all
@@ -111,7 +115,8 @@ abbrev is_string : Scalar → Bool
 is_string (string v) = true
 is_string _ = false
 
-from_map : (o : Option (Text × Text)) (s : Scalar) → ◌≡◌ {A = Option (Scalar × Text)} (option_map (λ p. (string p.0, p.1)) o) (Some (s, [])) → is_string s ≡ true
+from_map : (o : Option (Text × Text)) (s : Scalar) → ◌≡◌ {A = Option (Scalar × Text)} (option_map (λ p. (string p.0, p.1)) o) (Some (s, []))
+    → is_string s ≡ true
 from_map None s e = absurd cc
 from_map (Some p) s e = ap (λ (x : Option (Scalar × Text)). is_string (pick s x)) (sym e)
 
@@ -130,18 +135,22 @@ no_escape s (c ∷ t) is other i =
       | inr no_quote ↦ rw no_quote refl
     ]
 
-none_of : (s : Scalar) (t : Text) → Spells s t → is_string s ≡ false → ((d : Datetime) → s ≡ datetime d → ⊥) → (i : ℕ) → late_in_scalar i t ≡ None
+none_of : (s : Scalar) (t : Text) → Spells s t → is_string s ≡ false → ((d : Datetime) → s ≡ datetime d → ⊥) → (i : ℕ) → late_in_scalar i t
+    ≡ None
 none_of s t is other apart i =
-    other_chosen (if lacks_seconds t then Some (span_from i (length t)) else None) (late_escape i t) (is_some (datetime_of t)) (no_date s t is apart)
+    other_chosen (if lacks_seconds t then Some (span_from i (length t))
+    else None) (late_escape i t) (is_some (datetime_of t)) (no_date s t is apart)
     ∙ no_escape s t is other i
 
 pub scalar_first : (s : Scalar) (t : Text) → Spells s t → (i : ℕ) → late_in_scalar i t ≡ first_of (late_scalar s t i)
 scalar_first (string v) t is i =
-    other_chosen (if lacks_seconds t then Some (span_from i (length t)) else None) (late_escape i t) (is_some (datetime_of t)) (no_date (string v) t is (λ d e. absurd cc))
+    other_chosen (if lacks_seconds t then Some (span_from i (length t))
+    else None) (late_escape i t) (is_some (datetime_of t)) (no_date (string v) t is (λ d e. absurd cc))
     ∙ string_first v t is i
 scalar_first (integer z) t is i = none_of (integer z) t is refl (λ d e. absurd cc) i
 scalar_first (float x) t is i = none_of (float x) t is refl (λ d e. absurd cc) i
 scalar_first (boolean b) t is i = none_of (boolean b) t is refl (λ d e. absurd cc) i
 scalar_first (datetime d) t is i =
-    date_chosen i (length t) (late_escape i t) (is_some (datetime_of t)) (lacks_seconds t) (is_late_time d.time) (ap (λ (o : Option Datetime). is_some o) (datetime_again t d is))
+    date_chosen i (length t) (late_escape i t) (is_some (datetime_of t)) (lacks_seconds t) (is_late_time d.time)
+    (ap (λ (o : Option Datetime). is_some o) (datetime_again t d is))
     (parts_first d.date d.time d.offset t is)

@@ -1,5 +1,6 @@
 -- What is found before a bracket that is one too many is found where none is cut off, and where there is none, nothing is cut off.
-use Rattle.std.proofs.Common.{◌≡◌, refl, sym, ap, ◌∙◌, ℕ, suc, ◌-◌, Bool, true, false, ◌==◌, List, [], ◌∷◌, ◌++◌, Option, Some, None, inl, inr}
+use Rattle.std.proofs.Common.{◌≡◌, refl, sym, ap, ◌∙◌, ℕ, suc, ◌-◌, Bool, true, false, ◌==◌, List, [], ◌∷◌, ◌++◌, Option, Some, None, inl}
+use Rattle.std.proofs.Common.{inr}
 use Rattle.std.specs.Option.{option_or}
 use Rattle.std.proofs.lemmas.Bool.{cases_Bool, or_parts}
 use Rattle.toml_edit_model.specs.Text.{Text}
@@ -12,12 +13,14 @@ use Rattle.toml_edit_syntax.specs.declared.event.Span.{Span}
 use Rattle.toml_edit_syntax.specs.ValueEvents.{opens, closes, shortened, is_too_deep, are_deep}
 use Rattle.toml_edit_syntax.specs.LateEvents.{is_in_inline_table, late_in_kind, is_line_end, late_in_events}
 
-opens_outside : (k : EventKind) (s : Span) (es : List Event) → opens k ≡ true → is_in_inline_table (record { kind = k; span = s } ∷ es) ≡ false
+opens_outside : (k : EventKind) (s : Span) (es : List Event) → opens k ≡ true → is_in_inline_table (record { kind = k; span = s } ∷ es)
+    ≡ false
 opens_outside ArrayOpen s es h = refl
 opens_outside InlineTableOpen s es h = refl
 opens_outside _ s es h = absurd (let clash : false ≡ true = h in cc)
 
-own_on : (e : Event) (xs ys : List Event) → is_in_inline_table xs ≡ is_in_inline_table ys → is_in_inline_table (e ∷ xs) ≡ is_in_inline_table (e ∷ ys)
+own_on : (e : Event) (xs ys : List Event) → is_in_inline_table xs ≡ is_in_inline_table ys → is_in_inline_table (e ∷ xs)
+    ≡ is_in_inline_table (e ∷ ys)
 own_on e xs ys h = rw h refl
 
 same_own : (level : ℕ) (es : List Event) → is_in_inline_table (shortened level es) ≡ is_in_inline_table es
@@ -52,17 +55,23 @@ kept source e xs ys s own later h =
           rw other (or_later (part (is_in_inline_table ys)) (late_in_events source xs) (late_in_events source ys) s later g)
     ]
 
-pub found_whole : (source : Text) (level : ℕ) (es : List Event) (s : Span) → late_in_events source (shortened level es) ≡ Some s → late_in_events source es ≡ Some s
+pub found_whole : (source : Text) (level : ℕ) (es : List Event) (s : Span) → late_in_events source (shortened level es) ≡ Some s
+    → late_in_events source es ≡ Some s
 found_whole source level [] s h = h
 found_whole source level (e ∷ es) s h =
     elim (cases_Bool (opens e.kind)) [
       | inl opening ↦ elim (cases_Bool (level == nesting_limit)) [
         | inl full ↦ let f : ◌≡◌ {A = Option Span} None (Some s) = rw (opening, full) at h in absurd cc
-        | inr room ↦ kept source e (shortened (suc level) es) es s (same_own (suc level) es) (found_whole source (suc level) es s) (rw (opening, room) at h)
+        | inr room ↦ kept source e (shortened (suc level) es) es s (same_own (suc level) es) (found_whole source (suc level) es s)
+            (rw (opening, room) at h)
       ]
       | inr other ↦ elim (cases_Bool (closes e.kind)) [
-        | inl closing ↦ kept source e (shortened (level - 1) es) es s (same_own (level - 1) es) (found_whole source (level - 1) es s) (rw (other, closing) at h)
-        | inr neither ↦ kept source e (shortened level es) es s (same_own level es) (found_whole source level es s) (rw (other, neither) at h)
+        | inl closing ↦ kept source e (shortened (level - 1) es) es s (same_own (level - 1) es) (found_whole source (level - 1) es s)
+            (rw (other, closing) at h)
+        | inr neither ↦ kept source e (shortened level es) es s (same_own level es) (found_whole source level es s) (rw (
+          other,
+          neither,
+        ) at h)
       ]
     ]
 
@@ -71,7 +80,8 @@ pub record Stays (level : ℕ) (es more : List Event) : Type 0 where
   pub behind : ℕ
   pub same : shortened level (es ++ more) ≡ es ++ shortened behind more
 
-stays_on : (level next : ℕ) (e : Event) (es more : List Event) → ((xs : List Event) → shortened level (e ∷ xs) ≡ e ∷ shortened next xs) → Stays next es more → Stays level (e ∷ es) more
+stays_on : (level next : ℕ) (e : Event) (es more : List Event) → ((xs : List Event) → shortened level (e ∷ xs) ≡ e ∷ shortened next xs)
+    → Stays next es more → Stays level (e ∷ es) more
 stays_on level next e es more step h = record { behind = h.behind; same = step (es ++ more) ∙ ap (λ (xs : List Event). e ∷ xs) h.same }
 
 shallow_on : (level next : ℕ) (e : Event) (es : List Event) → ((xs : List Event) → shortened level (e ∷ xs) ≡ e ∷ shortened next xs)

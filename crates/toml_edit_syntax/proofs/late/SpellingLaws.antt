@@ -1,5 +1,6 @@
 -- The first late escape of what is spelled is the first of its late places.
-use Rattle.std.proofs.Common.{◌≡◌, refl, sym, subst, ℕ, ◌+◌, ◌<◌, Bool, true, false, ◌==◌, ◌&&◌, List, [], ◌∷◌, ◌++◌, append_assoc, length, arith, Option, Some, None, inl, inr}
+use Rattle.std.proofs.Common.{◌≡◌, refl, sym, subst, ℕ, ◌+◌, ◌<◌, Bool, true, false, ◌==◌, ◌&&◌, List, [], ◌∷◌, ◌++◌, append_assoc, length}
+use Rattle.std.proofs.Common.{arith, Option, Some, None, inl, inr}
 use Rattle.std.specs.Prelude.{nat_lt, is_some, flat_map}
 use Rattle.std.specs.Char.{is_digit}
 use Rattle.std.specs.List.{list_all, AllByRecursion}
@@ -7,7 +8,11 @@ use Rattle.std.proofs.lemmas.Bool.{cases_Bool, and_parts}
 use Rattle.std.proofs.lemmas.Bool.Decides.{nat_tests}
 use Rattle.toml_edit_model.specs.Text.{Text, line_feed, quote, backslash, has_byte}
 use Rattle.toml_edit_model.specs.Trivia.{Each, is_blank, Newline, lf, crlf, newline_text}
-use Rattle.toml_edit_model.specs.Spelling.{Part, plain, letter, numbered, part_text, IsPart, is_plain, short_escape, hex_digits, SpellsBasic, SpellsLiteral, SpellsMultilineBasic, SpellsMultilineLiteral, SpellsString, SpellsKey, is_bare_byte, Quotes, one_quote, two_quotes, quotes_text, BlockPart, in_line, next_line, quotes, joint, block_text, JointPiece, white, line_break, joint_piece_text, IsJointPiece, IsJoint, IsBlockPart, first_newline, three}
+use Rattle.toml_edit_model.specs.Spelling.{Part, plain, letter, numbered, part_text, IsPart, is_plain, short_escape, hex_digits}
+use Rattle.toml_edit_model.specs.Spelling.{SpellsBasic, SpellsLiteral, SpellsMultilineBasic, SpellsMultilineLiteral, SpellsString}
+use Rattle.toml_edit_model.specs.Spelling.{SpellsKey, is_bare_byte, Quotes, one_quote, two_quotes, quotes_text, BlockPart, in_line}
+use Rattle.toml_edit_model.specs.Spelling.{next_line, quotes, joint, block_text, JointPiece, white, line_break, joint_piece_text}
+use Rattle.toml_edit_model.specs.Spelling.{IsJointPiece, IsJoint, IsBlockPart, first_newline, three}
 use Rattle.toml_edit_model.specs.Version.{late_escapes, late_spelling}
 use Rattle.toml_edit_syntax.specs.LateSpellings.{ends_digits, first_escape, late_escape}
 use Rattle.toml_edit_syntax.proofs.late.Places.{first_of}
@@ -90,7 +95,8 @@ again a b t h = subst Agrees (sym (append_assoc a b t)) h
 
 parts_on : (ps : List Part) (t : Text) → AllByRecursion IsPart ps → Agrees t → Agrees (flat_map part_text ps ++ t)
 parts_on [] t all h = h
-parts_on (p ∷ ps) t all h = again (part_text p) (flat_map part_text ps) t (part_on p (flat_map part_text ps ++ t) all.0 (parts_on ps t all.1 h))
+parts_on (p ∷ ps) t all h =
+    again (part_text p) (flat_map part_text ps) t (part_on p (flat_map part_text ps ++ t) all.0 (parts_on ps t all.1 h))
 
 -- ---- strings of several lines
 
@@ -115,25 +121,30 @@ quotes_on two_quotes t h = run_on is_gap gap_apart (quotes_text quote two_quotes
 gaps_on : (gs : List JointPiece) (t : Text) → AllByRecursion IsJointPiece gs → Agrees t → Agrees (flat_map joint_piece_text gs ++ t)
 gaps_on [] t all h = h
 gaps_on (white c ∷ gs) t all h = plain_on c (flat_map joint_piece_text gs ++ t) (gap_apart c (blank_gap c all.0)) (gaps_on gs t all.1 h)
-gaps_on (line_break n ∷ gs) t all h = again (newline_text n) (flat_map joint_piece_text gs) t (newline_on n (flat_map joint_piece_text gs ++ t) (gaps_on gs t all.1 h))
+gaps_on (line_break n ∷ gs) t all h =
+    again (newline_text n) (flat_map joint_piece_text gs) t (newline_on n (flat_map joint_piece_text gs ++ t) (gaps_on gs t all.1 h))
 
 low_escape : (d : ℕ) (t : Text) → d < 35 → Agrees t → Agrees (backslash ∷ d ∷ t)
 low_escape d t low h = escape_on d t (grind (arith, nat_tests)) (grind (arith, nat_tests)) h
 
-joint_on : (gs : List JointPiece) (t : Text) → AllByRecursion IsJointPiece gs → has_byte line_feed (flat_map joint_piece_text gs) ≡ true → Agrees t
+joint_on : (gs : List JointPiece) (t : Text) → AllByRecursion IsJointPiece gs → has_byte line_feed (flat_map joint_piece_text gs) ≡ true
+    → Agrees t
     → Agrees (backslash ∷ (flat_map joint_piece_text gs ++ t))
 joint_on [] t all some h = absurd cc
-joint_on (white c ∷ gs) t all some h = low_escape c (flat_map joint_piece_text gs ++ t) (let low = blank_gap c all.0 in grind (arith, nat_tests)) (gaps_on gs t all.1 h)
+joint_on (white c ∷ gs) t all some h =
+    low_escape c (flat_map joint_piece_text gs ++ t) (let low = blank_gap c all.0 in grind (arith, nat_tests)) (gaps_on gs t all.1 h)
 joint_on (line_break lf ∷ gs) t all some h = low_escape 10 (flat_map joint_piece_text gs ++ t) (omega arith) (gaps_on gs t all.1 h)
 joint_on (line_break crlf ∷ gs) t all some h =
-    low_escape 13 (10 ∷ (flat_map joint_piece_text gs ++ t)) (omega arith) (plain_on 10 (flat_map joint_piece_text gs ++ t) refl (gaps_on gs t all.1 h))
+    low_escape 13 (10 ∷ (flat_map joint_piece_text gs ++ t)) (omega arith) (plain_on 10 (flat_map joint_piece_text gs
+    ++ t) refl (gaps_on gs t all.1 h))
 
 block_on : (p : BlockPart Part) (t : Text) → IsBlockPart IsPart IsJoint p → Agrees t → Agrees (block_text part_text quote p ++ t)
 block_on (in_line p) t is h = part_on p t is h
 block_on (next_line n) t is h = newline_on n t h
 block_on (quotes q) t is h = quotes_on q t h
 block_on (joint u) t is h =
-    subst (λ (x : Text). Agrees (backslash ∷ (x ++ t))) (sym is.2) (joint_on is.0 t is.1 (subst (λ (x : Text). has_byte line_feed x ≡ true) is.2 is.3) h)
+    subst (λ (x : Text). Agrees (backslash ∷ (x ++ t))) (sym is.2)
+    (joint_on is.0 t is.1 (subst (λ (x : Text). has_byte line_feed x ≡ true) is.2 is.3) h)
 
 blocks_on : (ps : List (BlockPart Part)) (t : Text) → AllByRecursion (IsBlockPart IsPart IsJoint) ps → Agrees t
     → Agrees (flat_map (block_text part_text quote) ps ++ t)

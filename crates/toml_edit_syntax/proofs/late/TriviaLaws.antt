@@ -1,11 +1,13 @@
 -- The first newline or comment of trivia is the first of its late places.
-use Rattle.std.proofs.Common.{◌≡◌, refl, sym, ap, ◌∙◌, subst, ℕ, suc, ◌+◌, ◌-◌, true, false, ◌==◌, List, [], ◌∷◌, ◌++◌, append_assoc, length, arith, Some, inl, inr}
+use Rattle.std.proofs.Common.{◌≡◌, refl, sym, ap, ◌∙◌, subst, ℕ, suc, ◌+◌, ◌-◌, true, false, ◌==◌, List, [], ◌∷◌, ◌++◌, append_assoc}
+use Rattle.std.proofs.Common.{length, arith, Some, inl, inr}
 use Rattle.std.specs.Prelude.{flat_map}
 use Rattle.std.specs.List.{list_all, AllByRecursion, prefix_len}
 use Rattle.std.proofs.lemmas.Bool.{cases_Bool, and_parts}
 use Rattle.std.proofs.lemmas.Bool.Decides.{nat_tests}
 use Rattle.toml_edit_model.specs.Text.{Text, line_feed, carriage_return, hash}
-use Rattle.toml_edit_model.specs.Trivia.{Each, is_blank, is_visible, Newline, lf, crlf, newline_text, Piece, blank, break, remark, piece_text, IsPiece, IsWholeTrivia}
+use Rattle.toml_edit_model.specs.Trivia.{Each, is_blank, is_visible, Newline, lf, crlf, newline_text, Piece, blank, break, remark}
+use Rattle.toml_edit_model.specs.Trivia.{piece_text, IsPiece, IsWholeTrivia}
 use Rattle.toml_edit_model.specs.Version.{late_trivia, nothing_yet, comment_from}
 use Rattle.toml_edit_laws.proofs.reading.RunLaws.{prefix_len-run}
 use Rattle.toml_edit_syntax.specs.LateSpellings.{span_from}
@@ -59,13 +61,15 @@ line_stops : (n : Newline) (t : Text) → prefix_len is_in_line (newline_text n 
 line_stops lf t = refl
 line_stops crlf t = refl
 
-body_len : (body : Text) (n : Newline) (t : Text) → Each is_visible body → prefix_len is_in_line (body ++ (newline_text n ++ t)) ≡ length body
+body_len : (body : Text) (n : Newline) (t : Text) → Each is_visible body → prefix_len is_in_line (body ++ (newline_text n ++ t))
+    ≡ length body
 body_len body lf t each = prefix_len-run is_in_line body (newline_text lf ++ t) (all_in_line body each) refl
 body_len body crlf t each = prefix_len-run is_in_line body (newline_text crlf ++ t) (all_in_line body each) refl
 
 comment_on : (body : Text) (n : Newline) (t : Text) → Each is_visible body → Agrees (hash ∷ (body ++ (newline_text n ++ t)))
 comment_on body n t each i =
-    let size : 1 + prefix_len is_in_line (body ++ (newline_text n ++ t)) ≡ suc i + length body - i = omega (arith, body_len body n t each) in
+    let size : 1 + prefix_len is_in_line (body ++ (newline_text n ++ t)) ≡ suc i + length body - i =
+    omega (arith, body_len body n t each) in
     ap (λ (m : ℕ). Some (span_from i m)) size ∙ sym (open_to i body n t each (suc i))
 
 -- ---- pieces
@@ -84,7 +88,8 @@ blank_hash c is = grind (arith, nat_tests)
 
 pieces_on : (ps : List Piece) → AllByRecursion IsPiece ps → Agrees (flat_map piece_text ps)
 pieces_on [] all = λ i. refl
-pieces_on (blank c ∷ ps) all = blank_on c (flat_map piece_text ps) (blank_feed c all.0) (blank_return c all.0) (blank_hash c all.0) (pieces_on ps all.1)
+pieces_on (blank c ∷ ps) all =
+    blank_on c (flat_map piece_text ps) (blank_feed c all.0) (blank_return c all.0) (blank_hash c all.0) (pieces_on ps all.1)
 pieces_on (break n ∷ ps) all = newline_on n (flat_map piece_text ps)
 pieces_on (remark body n ∷ ps) all =
     subst Agrees (ap (λ (x : Text). hash ∷ x) (sym (append_assoc body (newline_text n) (flat_map piece_text ps))))

@@ -4,7 +4,8 @@ use Rattle.toml_edit_model.specs.Conversions.{new_array, with_decor}
 use Rattle.toml_edit_model.specs.Text.{Text, newline, one}
 use Rattle.toml_edit_model.specs.Tree.{ArrayFields, Node, owned, unset}
 use Rattle.toml_edit_model.specs.examples.Parts.{owned_decor, plain_int}
-use Rattle.toml_edit_tree.specs.ArrayLines.{after_newline, comment_behind, fields_inserted, first_newline, indent_at, line_begun, line_inserted, line_removed, line_taken, moved, newline_at, placed, text_above, text_after}
+use Rattle.toml_edit_tree.specs.ArrayLines.{after_newline, comment_behind, fields_inserted, first_newline, indent_at, line_begun}
+use Rattle.toml_edit_tree.specs.ArrayLines.{line_inserted, line_removed, line_taken, moved, newline_at, placed, text_above, text_after}
 
 -- ---- texts
 

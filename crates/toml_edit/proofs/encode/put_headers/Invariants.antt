@@ -9,4 +9,5 @@ use Rattle.toml_edit.proofs.encode.put_headers.Given as goal
 abbrev pub invariant-headers : goal.invariant-headers
 invariant-headers g l =
     (done : List ℕ) × WritesInCalls g.S.Sink.puts l.initial.out done l.out
-    × (done ++ headers_text (mode_of l.mode) l.is_first (map header_view (drop l.header-index l.headers)) ≡ headers_text (mode_of l.mode) l.begins (map header_view l.headers))
+    × (done ++ headers_text (mode_of l.mode) l.is_first (map header_view (drop l.header-index l.headers))
+    ≡ headers_text (mode_of l.mode) l.begins (map header_view l.headers))

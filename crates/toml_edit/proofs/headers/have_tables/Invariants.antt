@@ -7,4 +7,5 @@ use Rattle.toml_edit.proofs.headers.have_tables.Given as goal
 
 abbrev pub invariant-slots : goal.invariant-slots
 invariant-slots l =
-    (keys : List Key) → (before : Walked) → walked (slots_view (drop l.slot-index l.entries)) keys before ≡ walked (slots_view l.entries) keys before
+    (keys : List Key) → (before : Walked) → walked (slots_view (drop l.slot-index l.entries)) keys before
+    ≡ walked (slots_view l.entries) keys before

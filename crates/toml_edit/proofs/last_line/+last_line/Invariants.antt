@@ -7,4 +7,5 @@ use Rattle.toml_edit.proofs.last_line.+last_line.Given as goal
 
 abbrev pub invariant-last_of_slots-slots : goal.invariant-last_of_slots-slots
 invariant-last_of_slots-slots l =
-    last_line (slots_view (drop l.slot-index l.entries)) (option_copied l.last) ≡ last_line (slots_view l.entries) (option_copied l.initial.last)
+    last_line (slots_view (drop l.slot-index l.entries)) (option_copied l.last)
+    ≡ last_line (slots_view l.entries) (option_copied l.initial.last)

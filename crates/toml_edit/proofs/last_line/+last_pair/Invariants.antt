@@ -7,4 +7,5 @@ use Rattle.toml_edit.proofs.last_line.+last_pair.Given as goal
 
 abbrev pub invariant-last_of_pairs-slots : goal.invariant-last_of_pairs-slots
 invariant-last_of_pairs-slots l =
-    last_pair (slots_view (drop l.slot-index l.entries)) (option_copied l.last) ≡ last_pair (slots_view l.entries) (option_copied l.initial.last)
+    last_pair (slots_view (drop l.slot-index l.entries)) (option_copied l.last)
+    ≡ last_pair (slots_view l.entries) (option_copied l.initial.last)

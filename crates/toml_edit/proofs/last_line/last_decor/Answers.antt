@@ -21,4 +21,5 @@ returns-in-Some c =
     c.last_of_slots.ensures
     ∙ ap (λ (ss : Slots). last_line ss (Some c.decor.result.now)) (slots-are t)
     ∙ ap (λ (d : Decor). last_line (table_slots t) (Some d)) c.decor.ensures
-    ∙ sym (last-header header_view c.args.headers.now h (last_of_root (fields_view root) (table_slots root)) (sym c.last.ensures.value ∙ ap option_copied c.in-Some.is))
+    ∙ sym (last-header header_view c.args.headers.now h (last_of_root (fields_view root) (table_slots root)) (sym c.last.ensures.value
+    ∙ ap option_copied c.in-Some.is))

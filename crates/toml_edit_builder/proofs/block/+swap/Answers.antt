@@ -10,16 +10,19 @@ use Rattle.toml_edit_builder.proofs.block.+swap.Goals as goal
 
 pub swap_block-returns-in-None-place_of : goal.swap_block-returns-in-None-place_of
 swap_block-returns-in-None-place_of t c =
-    swap-none (names c.args.block.now) c.in-Some.first.now (names c.in-Some.rest.now) (slots_view c.args.others.now) (slots_view c.args.slots.now) _ _
+    swap-none (names c.args.block.now) c.in-Some.first.now (names c.in-Some.rest.now) (slots_view c.args.others.now)
+    (slots_view c.args.slots.now) _ _
     (name-is (names c.args.block.now) _ _ c.in-Some.ensures)
     (node-none c.in-Some.first.now c.args.slots.now (sym c.in-None-place_of.ensures.place)) refl refl
 
 pub swap_block-returns-in-Some-place_of : goal.swap_block-returns-in-Some-place_of
 swap_block-returns-in-Some-place_of t c =
-    swap-there (names c.args.block.now) c.in-Some.first.now (names c.in-Some.rest.now) (slots_view c.args.others.now) (slots_view c.args.slots.now) _ _
+    swap-there (names c.args.block.now) c.in-Some.first.now (names c.in-Some.rest.now) (slots_view c.args.others.now)
+    (slots_view c.args.slots.now) _ _
     (item_view c.item_mut.result.now) (item_view c.swap_item.new.holder)
     (name-is (names c.args.block.now) _ _ c.in-Some.ensures)
-    (node-some c.in-Some.first.now c.args.slots.now c.in-Some-place_of.at c.item_mut.result.now (sym c.in-Some-place_of.ensures.place) c.item_mut.ensures.item)
+    (node-some c.in-Some.first.now c.args.slots.now c.in-Some-place_of.at c.item_mut.result.now (sym c.in-Some-place_of.ensures.place)
+    c.item_mut.ensures.item)
     (with-place c.in-Some.first.now c.args.slots.now c.in-Some-place_of.at c.swap_item.new.holder (sym c.in-Some-place_of.ensures.place))
     c.swap_item.ensures
 
@@ -29,10 +32,12 @@ swap_tables-returns-in-Some t c =
     let y = c.swap_last.new.holder in
     let len : vec_len v ≡ length v.items = omega (arith, v.ok.0) in
     rw (tables_items c.args.tables.now, tables_extent c.args.tables.now)
-    (swap-last (names c.args.block.now) (slots_view c.args.others.now) (slots_view c.swap_last.new.others) c.args.tables.now.span (items_view v.items) _ _
+    (swap-last (names c.args.block.now) (slots_view c.args.others.now) (slots_view c.swap_last.new.others) c.args.tables.now.span
+    (items_view v.items) _ _
     (item_view c.in-Some.last.now) (item_view y)
     (tables-made c.args.tables.now.span _)
     (last-at v.items c.in-Some.last.now (omega (arith, c.in-Some.ensures.variant.0 refl))
-    ∙ ap (λ (x : Item). Some (item_view x)) (ap (λ (i : ℕ). get_or v.items (i - 1) c.in-Some.last.now) (sym len) ∙ sym c.in-Some.ensures.value))
+    ∙ ap (λ (x : Item). Some (item_view x)) (ap (λ (i : ℕ). get_or v.items (i - 1) c.in-Some.last.now) (sym len)
+    ∙ sym c.in-Some.ensures.value))
     (ap (λ (i : ℕ). items_view (set v.items (i - 1) y)) len ∙ last-set v.items y)
     c.swap_last.ensures)

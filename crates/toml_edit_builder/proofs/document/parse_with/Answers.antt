@@ -5,7 +5,8 @@ use Rattle.toml_edit_syntax.specs.Grammar.{grammar}
 use Rattle.toml_edit_tree.specs.View.{slots_view}
 use Rattle.toml_edit_repr.specs.Modes.{mode_of}
 use Rattle.toml_edit_builder.proofs.BatchLaws.{last_batch, open_end}
-use Rattle.toml_edit_builder.proofs.LoopLaws.{ahead_set, at_start, built, ended, ends-here, goes_on, in_batch, is-whole, more, next, next_is, refused, stands-here}
+use Rattle.toml_edit_builder.proofs.LoopLaws.{ahead_set, at_start, built, ended, ends-here, goes_on, in_batch, is-whole, more, next}
+use Rattle.toml_edit_builder.proofs.LoopLaws.{next_is, refused, stands-here}
 use Rattle.toml_edit_builder.proofs.WholeLaws.{parsed, short_refusal}
 use Rattle.toml_edit_builder.proofs.document.parse_with.Goals as goal
 
@@ -23,11 +24,13 @@ batches-init c =
       progress = λ d cut.
           let told = c.statements_of.ensures.statements d cut in
           let from = at_start mode version t d rest c.new-building.result cut told (c.new-building.ensures d.has_mark) in
-          in_batch mode version t d rest c.new-building.result b.end b.rest.now es from (c.in_ok-batch.ensures.batch from.left d.final from.grammar cut.0.1 from.rest_is);
+          in_batch mode version t d rest c.new-building.result b.end b.rest.now es from
+          (c.in_ok-batch.ensures.batch from.left d.final from.grammar cut.0.1 from.rest_is);
       last = λ d cut.
           let told = c.statements_of.ensures.statements d cut in
           let from = at_start mode version t d rest c.new-building.result cut told (c.new-building.ensures d.has_mark) in
-          last_batch mode version t d rest c.new-building.result b.end b.rest.now es from (c.in_ok-batch.ensures.batch from.left d.final from.grammar cut.0.1 from.rest_is);
+          last_batch mode version t d rest c.new-building.result b.end b.rest.now es from
+          (c.in_ok-batch.ensures.batch from.left d.final from.grammar cut.0.1 from.rest_is);
     }
 
 pub statements-init : goal.statements-init
@@ -36,7 +39,8 @@ statements-init c =
       spans = rw c.as_slice-left.ensures.value c.batches.invariant.spans;
       progress = λ d cut.
           rw c.as_slice-left.ensures.value
-          (ahead_set (mode_of c.args.mode) (grammar c.args.version) c.args.source.now d c.batches.batch.end c.batches.batch.rest.now c.batches.events.items c.batches.building _ refl refl refl refl
+          (ahead_set (mode_of c.args.mode) (grammar c.args.version) c.args.source.now d c.batches.batch.end c.batches.batch.rest.now
+          c.batches.events.items c.batches.building _ refl refl refl refl
           (c.batches.invariant.progress d cut));
     }
 
@@ -52,9 +56,11 @@ statements-preserved c =
           let behind_it = c.batches.batch.rest.now in
           let es = c.statements.left.now in
           let h = c.statements.building in
-          let n = next mode version t d end behind_it es h (c.statements.invariant.progress d cut) (sym c.starts_statement.ensures ∙ c.statements-test.true) in
+          let n = next mode version t d end behind_it es h (c.statements.invariant.progress d cut) (sym c.starts_statement.ensures
+          ∙ c.statements-test.true) in
           goes_on mode version t d end behind_it es h n _ _ cut.0
-          (c.in-Ok.ensures.statement n.builder n.statement (more mode version t d end behind_it es h n) (is-whole mode version t d end behind_it es h n) (stands-here mode version t d end behind_it es h n)
+          (c.in-Ok.ensures.statement n.builder n.statement (more mode version t d end behind_it es h n)
+          (is-whole mode version t d end behind_it es h n) (stands-here mode version t d end behind_it es h n)
           (ends-here mode version t d end behind_it es h n) n.held n.rest_is);
     }
 
@@ -68,9 +74,11 @@ refused_in-requires-clause-names c =
     let behind_it = c.batches.batch.rest.now in
     let es = c.statements.left.now in
     let h = c.statements.building in
-    let n = next mode version t d end behind_it es h (c.statements.invariant.progress d cut) (sym c.starts_statement.ensures ∙ c.statements-test.true) in
+    let n = next mode version t d end behind_it es h (c.statements.invariant.progress d cut) (sym c.starts_statement.ensures
+    ∙ c.statements-test.true) in
     refused mode version t d end behind_it es h n c.in-Err.fault cut.0
-    (c.in-Err.ensures.statement n.builder n.statement (more mode version t d end behind_it es h n) (is-whole mode version t d end behind_it es h n) (stands-here mode version t d end behind_it es h n)
+    (c.in-Err.ensures.statement n.builder n.statement (more mode version t d end behind_it es h n)
+    (is-whole mode version t d end behind_it es h n) (stands-here mode version t d end behind_it es h n)
     (ends-here mode version t d end behind_it es h n) n.held n.rest_is)
 
 pub batches-preserved : goal.batches-preserved
@@ -86,13 +94,17 @@ batches-preserved c =
       spans = c.in_ok-batch-in-MoreStatements.ensures.spans;
       after = (rest, c.in_ok-batch-in-MoreStatements.ensures.after);
       progress = λ d cut.
-          let end = ended mode version t d c.batches.batch.end rest c.statements.left.now h (c.statements.invariant.progress d cut) (sym c.starts_statement.ensures ∙ c.statements-test.false) in
+          let end = ended mode version t d c.batches.batch.end rest c.statements.left.now h (c.statements.invariant.progress d cut)
+          (sym c.starts_statement.ensures ∙ c.statements-test.false) in
           let from = next_is mode version t d c.batches.batch.end rest c.statements.left.now h end c.in-MoreStatements.is in
-          in_batch mode version t d rest h b.end b.rest.now es from (c.in_ok-batch-in-MoreStatements.ensures.batch from.left d.final from.grammar cut.0.1 from.rest_is);
+          in_batch mode version t d rest h b.end b.rest.now es from
+          (c.in_ok-batch-in-MoreStatements.ensures.batch from.left d.final from.grammar cut.0.1 from.rest_is);
       last = λ d cut.
-          let end = ended mode version t d c.batches.batch.end rest c.statements.left.now h (c.statements.invariant.progress d cut) (sym c.starts_statement.ensures ∙ c.statements-test.false) in
+          let end = ended mode version t d c.batches.batch.end rest c.statements.left.now h (c.statements.invariant.progress d cut)
+          (sym c.starts_statement.ensures ∙ c.statements-test.false) in
           let from = next_is mode version t d c.batches.batch.end rest c.statements.left.now h end c.in-MoreStatements.is in
-          last_batch mode version t d rest h b.end b.rest.now es from (c.in_ok-batch-in-MoreStatements.ensures.batch from.left d.final from.grammar cut.0.1 from.rest_is);
+          last_batch mode version t d rest h b.end b.rest.now es from
+          (c.in_ok-batch-in-MoreStatements.ensures.batch from.left d.final from.grammar cut.0.1 from.rest_is);
     }
 
 pub returns-in-WholeText-clause-parsed : goal.returns-in-WholeText-clause-parsed
@@ -105,8 +117,10 @@ returns-in-WholeText-clause-parsed c =
     let es = c.statements.left.now in
     let h = c.statements.building in
     let (d, cut) = c.batches.invariant.after.1.cut c.in-WholeText.is in
-    let e = ended mode version t d end rest es h (c.statements.invariant.progress d cut) (sym c.starts_statement.ensures ∙ c.statements-test.false) in
-    let tree = built mode version t d end rest es h e (slots_view c.put_in_order.new.slots) c.trailing-after.result cut c.in-WholeText.is (c.in_ok-put_in_order-in-WholeText.ensures ∙ c.whole-slots.ensures e.builder e.held) c.trailing-after.ensures in
+    let e = ended mode version t d end rest es h (c.statements.invariant.progress d cut) (sym c.starts_statement.ensures
+    ∙ c.statements-test.false) in
+    let tree = built mode version t d end rest es h e (slots_view c.put_in_order.new.slots) c.trailing-after.result cut c.in-WholeText.is
+    (c.in_ok-put_in_order-in-WholeText.ensures ∙ c.whole-slots.ensures e.builder e.held) c.trailing-after.ensures in
     let accepted = (later-accepts version t d (cut, tree.0)).1 in
     parsed mode version t d (slots_view c.put_in_order.new.slots) c.trailing-after.result c.ends_open-open_end.result cut tree
     (open_end t d c.batches.events.items c.ends_open-open_end.result (c.batches.invariant.last d cut c.in-WholeText.is) accepted
@@ -122,7 +136,8 @@ returns-in-TooManyBrackets-clause-every c =
     let rest = c.batches.batch.rest.now in
     let es = c.statements.left.now in
     let h = c.statements.building in
-    let e = ended mode version t d end rest es h (c.statements.invariant.progress d accepted.0) (sym c.starts_statement.ensures ∙ c.statements-test.false) in
+    let e = ended mode version t d end rest es h (c.statements.invariant.progress d accepted.0) (sym c.starts_statement.ensures
+    ∙ c.statements-test.false) in
     absurd (e.deep c.in-TooManyBrackets.is)
 
 pub returns-in-TooManyBrackets-clause-refused : goal.returns-in-TooManyBrackets-clause-refused
@@ -136,6 +151,7 @@ returns-in-TooManyBrackets-clause-refused c =
     let h = c.statements.building in
     short_refusal version t _ c.refusal_of_all.result (c.batches.invariant.after.1.brackets c.in-TooManyBrackets.is)
     (λ d cut.
-    let e = ended mode version t d end rest es h (c.statements.invariant.progress d cut) (sym c.starts_statement.ensures ∙ c.statements-test.false) in
+    let e = ended mode version t d end rest es h (c.statements.invariant.progress d cut) (sym c.starts_statement.ensures
+    ∙ c.statements-test.false) in
     e.deep c.in-TooManyBrackets.is)
     c.refusal_of_all.ensures.report (c.refusal_of_all.ensures.listed version)

@@ -16,7 +16,8 @@ invariant-batches l =
     record {
       spans : AreIn l.source l.events.items;
       after : (before : Text) × IsAfter l.source before l.batch.rest.now l.batch.end;
-      progress : (d : Document) → IsCut d l.source → Progress (mode_of l.fn.mode) (grammar l.fn.version) l.source d l.batch.end l.batch.rest.now l.events.items l.building;
+      progress : (d : Document) → IsCut d l.source → Progress (mode_of l.fn.mode) (grammar l.fn.version) l.source d l.batch.end
+          l.batch.rest.now l.events.items l.building;
       last : (d : Document) → IsCut d l.source → l.batch.end ≡ WholeText → LastBatch l.source d l.events.items;
     }
 
@@ -28,7 +29,8 @@ abbrev pub invariant-statements : goal.invariant-statements
 invariant-statements l =
     record {
       spans : AreIn l.source l.left;
-      progress : (d : Document) → IsCut d l.source → Progress (mode_of l.fn.mode) (grammar l.fn.version) l.source d l.batch.end l.batch.rest.now l.left l.building;
+      progress : (d : Document) → IsCut d l.source → Progress (mode_of l.fn.mode) (grammar l.fn.version) l.source d l.batch.end
+          l.batch.rest.now l.left l.building;
     }
 
 abbrev pub decreases-statements : goal.decreases-statements

@@ -25,7 +25,8 @@ returns-clause-put c =
     let n = item_view c.open_item.new.item in
     table-there mode {A = Unit {0}} c.args.source.now (Ok tt) s m k c.args.at (item_view old) ss (slots_view c.put_slot.new.slots) is
     (node-some k.name es c.args.there old c.requires.there c.item_mut.ensures.item)
-    (ap (option_map (λ x. replace_slot k.name k x ss)) (c.in_ok-open_item.ensures.opened mode (header_fields (spanned_in mode) s s.statement) s m k head is)
+    (ap (option_map (λ x. replace_slot k.name k x ss))
+    (c.in_ok-open_item.ensures.opened mode (header_fields (spanned_in mode) s s.statement) s m k head is)
     ∙ ap (λ (us : Slots). Some us) (sym (c.put_slot.ensures
     ∙ ap (λ (x : Item). replace_slot k.name k (item_view x) (slots_view (with_item c.args.there y es))) c.replace.ensures.value
     ∙ ap (replace_slot k.name k n) (with-place k.name es c.args.there y c.requires.there)
@@ -39,6 +40,7 @@ returns-in_err-open_item-clause-put c =
     let old = c.item_mut.result.now in
     let q = err_from_is_err_and c.from_residual.result c.from_residual.ensures.1 in
     rw (q.1, q.2)
-    (table-there mode {A = Unit {0}} c.args.source.now (Err c.in_err-open_item.field-0.0) s m k c.args.at (item_view old) (slots_view es) (slots_view es) is
+    (table-there mode {A = Unit {0}} c.args.source.now (Err c.in_err-open_item.field-0.0) s m k c.args.at (item_view old) (slots_view es)
+    (slots_view es) is
     (node-some k.name es c.args.there old c.requires.there c.item_mut.ensures.item)
     (c.in_err-open_item.ensures.opened mode (header_fields (spanned_in mode) s s.statement) s m k head is))

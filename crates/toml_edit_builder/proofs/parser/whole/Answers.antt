@@ -16,7 +16,8 @@ returns c =
     let root = slots_view h.root in
     let same = ap names c.as_slice.ensures.value ∙ sym held.block in
     ap slots_by_place
-    (whole-again (names c.as_slice.result.now) current root held.left (slots_view c.swap_block.new.others) (slots_view c.swap_block.new.slots)
+    (whole-again (names c.as_slice.result.now) current root held.left (slots_view c.swap_block.new.others)
+    (slots_view c.swap_block.new.slots)
     (ap (λ ks. slots_along ks root) same ∙ held.there) c.swap_block.ensures
     ∙ ap (λ ks. put_along ks current root) same)
     ∙ sym held.slots

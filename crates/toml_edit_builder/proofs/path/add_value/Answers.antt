@@ -23,7 +23,8 @@ returns-in-None-clause-added c =
     let n = item_view c.args.item.now in
     let ss = slots_view c.args.slots.now in
     let k : PathKey = c.in_ok-key.field-0 in
-    last-here mode c.args.source.now c.add_last.result s ms k (a_value n) ss _ (step-of mode c.args.source.now s ms c.args.path k c.in_ok-key.ensures.key at) c.in-None.is
+    last-here mode c.args.source.now c.add_last.result s ms k (a_value n) ss _
+    (step-of mode c.args.source.now s ms c.args.path k c.in_ok-key.ensures.key at) c.in-None.is
     (λ m is. line-put mode c.args.source.now c.add_last.result s m k.key k.span n ss _ is c.add_last.ensures.last)
 
 pub returns-in-Some-clause-added : goal.returns-in-Some-clause-added
@@ -31,8 +32,10 @@ returns-in-Some-clause-added c =
     λ mode s ms at.
     let k : PathKey = c.in_ok-key.field-0 in
     let whole = length c.args.path.events.now in
-    let fewer = subst (λ (o : Option KeyPath). IfSome o (λ inside. AreIn c.args.source.now inside.events.now × (length inside.events.now < whole))) c.in-Some.is c.in_ok-key.ensures.rest in
-    absurd (single-step mode c.args.source.now s ms k _ (step-of mode c.args.source.now s ms c.args.path k c.in_ok-key.ensures.key at) c.in-Some.is (omega (arith, fewer.1)))
+    let fewer = subst (λ (o : Option KeyPath). IfSome o (λ inside. AreIn c.args.source.now inside.events.now
+    × (length inside.events.now < whole))) c.in-Some.is c.in_ok-key.ensures.rest in
+    absurd (single-step mode c.args.source.now s ms k _ (step-of mode c.args.source.now s ms c.args.path k c.in_ok-key.ensures.key at)
+    c.in-Some.is (omega (arith, fewer.1)))
 
 pub returns-then-path-ne1-clause-added : goal.returns-then-path-ne1-clause-added
 returns-then-path-ne1-clause-added c = λ mode s ms at. c.add_path.ensures.added mode s ms tt at

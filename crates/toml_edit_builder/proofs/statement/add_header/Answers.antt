@@ -26,7 +26,8 @@ returns-in_err-open_block-clause-header c =
     let read = c.in_ok-header.ensures.header h end b.start more is.0 stands ended e in
     rw (q.1, q.2) (later-named t (own_faults b.start s) (table_way_faults (clash_at b s)) c.in_err-open_block.field-0.0
     (c.in_err-open_block.ensures.opens (mode_of c.args.reader.now.mode) b h end is stands held
-    (parts-are (mode_of c.args.reader.now.mode) b h end more c.args.leading c.args.opening c.args.is_array c.in_ok-header.header c.in_ok-header.rest.now leading array opening read)))
+    (parts-are (mode_of c.args.reader.now.mode) b h end more c.args.leading c.args.opening c.args.is_array c.in_ok-header.header
+    c.in_ok-header.rest.now leading array opening read)))
 
 pub returns-clause-header : goal.returns-clause-header
 returns-clause-header c =
@@ -35,4 +36,5 @@ returns-clause-header c =
     let read = c.in_ok-header.ensures.header h end b.start more is.0 stands ended e in
     header-is-added (mode_of c.args.reader.now.mode) b h end more c.in_ok-header.header c.in_ok-header.rest.now _ read
     (c.in_ok-open_block.ensures.opens (mode_of c.args.reader.now.mode) b h end is stands held
-    (parts-are (mode_of c.args.reader.now.mode) b h end more c.args.leading c.args.opening c.args.is_array c.in_ok-header.header c.in_ok-header.rest.now leading array opening read))
+    (parts-are (mode_of c.args.reader.now.mode) b h end more c.args.leading c.args.opening c.args.is_array c.in_ok-header.header
+    c.in_ok-header.rest.now leading array opening read))

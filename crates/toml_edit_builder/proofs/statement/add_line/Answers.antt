@@ -26,7 +26,8 @@ returns-in_err-add_value-clause-line c =
     let q = err_from_is_err_and c.from_residual-in_err-add_value.result c.from_residual-in_err-add_value.ensures.1 in
     let read = c.in_ok-path.ensures.line f v end b.start more is.0 is.1 stands ended leading e in
     rw (q.1, q.2) (line-stopped (mode_of c.args.reader.now.mode) b f v end c.args.building.now held t c.in_err-add_value.field-0.0
-    (c.in_err-add_value.ensures.added (mode_of c.args.reader.now.mode) (source_at b s) (mentions_at b s) (line-path (mode_of c.args.reader.now.mode) t b f v end is stands c.in_ok-path.path read.path_is)))
+    (c.in_err-add_value.ensures.added (mode_of c.args.reader.now.mode) (source_at b s) (mentions_at b s)
+    (line-path (mode_of c.args.reader.now.mode) t b f v end is stands c.in_ok-path.path read.path_is)))
 
 pub returns-clause-line : goal.returns-clause-line
 returns-clause-line c =
@@ -35,4 +36,5 @@ returns-clause-line c =
     let s = key_line f v end in
     let read = c.in_ok-path.ensures.line f v end b.start more is.0 is.1 stands ended leading e in
     line-is-added (mode_of c.args.reader.now.mode) b f v end c.args.building.now held more _ c.in_ok-path.path _ _ is read
-    (c.in_ok-add_value.ensures.added (mode_of c.args.reader.now.mode) (source_at b s) (mentions_at b s) (line-path (mode_of c.args.reader.now.mode) t b f v end is stands c.in_ok-path.path read.path_is)) refl refl refl
+    (c.in_ok-add_value.ensures.added (mode_of c.args.reader.now.mode) (source_at b s) (mentions_at b s)
+    (line-path (mode_of c.args.reader.now.mode) t b f v end is stands c.in_ok-path.path read.path_is)) refl refl refl

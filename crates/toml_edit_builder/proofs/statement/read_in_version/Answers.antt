@@ -8,18 +8,22 @@ use Rattle.toml_edit_builder.proofs.statement.read_in_version.Goals as goal
 pub returns-in-Some-clause-statement : goal.returns-in-Some-clause-statement
 returns-in-Some-clause-statement c =
     λ b s more whole stands ended held e.
-    names_late (grammar c.args.reader.now.version) c.args.reader.now.source.now b s c.in-Some.span c.refusal.result (c.in-Some.ensures.found s b.start more whole stands e)
+    names_late (grammar c.args.reader.now.version) c.args.reader.now.source.now b s c.in-Some.span c.refusal.result
+    (c.in-Some.ensures.found s b.start more whole stands e)
     c.in-Some.ensures.span c.refusal.ensures.report
 
 pub returns-in-None-clause-statement : goal.returns-in-None-clause-statement
 returns-in-None-clause-statement c =
     λ b s more whole stands ended held e.
-    reads_in_version (mode_of c.args.reader.now.mode) (grammar c.args.reader.now.version) c.args.reader.now.source.now b s more c.read_statement.new.building c.read_statement.result
-    (λ shallow. c.in-None.ensures.none s b.start more whole stands e shallow refl) (c.read_statement.ensures.statement b s more whole stands ended held e)
+    reads_in_version (mode_of c.args.reader.now.mode) (grammar c.args.reader.now.version) c.args.reader.now.source.now b s more
+    c.read_statement.new.building c.read_statement.result
+    (λ shallow. c.in-None.ensures.none s b.start more whole stands e shallow refl)
+    (c.read_statement.ensures.statement b s more whole stands ended held e)
 
 pub returns-in-Some-clause-listed : goal.returns-in-Some-clause-listed
 returns-in-Some-clause-listed c =
-    c.refusal.ensures.listed (grammar c.args.reader.now.version) (late-message (grammar c.args.reader.now.version) (c.in-Some.ensures.early refl))
+    c.refusal.ensures.listed (grammar c.args.reader.now.version)
+    (late-message (grammar c.args.reader.now.version) (c.in-Some.ensures.early refl))
 
 pub returns-in-None-clause-listed : goal.returns-in-None-clause-listed
 returns-in-None-clause-listed c = listed-in (grammar c.args.reader.now.version) c.read_statement.result c.read_statement.ensures.listed

@@ -12,7 +12,8 @@ pub keys-init : goal.keys-init
 keys-init c =
     record {
       spans = c.requires;
-      named = λ own p start ends stands read. names-begin c.args.source.now own p start c.args.path _ ends stands read (ap names c.clear.ensures.items);
+      named = λ own p start ends stands read. names-begin c.args.source.now own p start c.args.path _ ends stands read
+          (ap names c.clear.ensures.items);
     }
 
 pub returns-in_err-name-clause-names : goal.returns-in_err-name-clause-names
@@ -31,7 +32,8 @@ keys-preserved c =
           let done = names c.keys.names.items in
           let first = c.in_ok-name.ensures.name own n.segments n.start n.ends n.stands n.read in
           names-next c.args.source.now own p done _ c.keys.left first.0 c.in-Some.inside n first.1
-          (ap names c.in_ok-push.ensures.items ∙ map-append cow_str_bytes c.keys.names.items (c.in_ok-name.field-0.name ∷ []) ∙ ap (λ (x : Text). done ++ (x ∷ [])) (sym first.2))
+          (ap names c.in_ok-push.ensures.items ∙ map-append cow_str_bytes c.keys.names.items (c.in_ok-name.field-0.name ∷ [])
+          ∙ ap (λ (x : Text). done ++ (x ∷ [])) (sym first.2))
           (first.3 ∙ c.in-Some.is);
     }
 
@@ -42,5 +44,6 @@ returns-in-None-clause-names c =
     let done = names c.keys.names.items in
     let first = c.in_ok-name.ensures.name own n.segments n.start n.ends n.stands n.read in
     names-end c.args.source.now own p done _ c.keys.left first.0 n first.1
-    (ap names c.in_ok-push.ensures.items ∙ map-append cow_str_bytes c.keys.names.items (c.in_ok-name.field-0.name ∷ []) ∙ ap (λ (x : Text). done ++ (x ∷ [])) (sym first.2))
+    (ap names c.in_ok-push.ensures.items ∙ map-append cow_str_bytes c.keys.names.items (c.in_ok-name.field-0.name ∷ [])
+    ∙ ap (λ (x : Text). done ++ (x ∷ [])) (sym first.2))
     (first.3 ∙ c.in-None.is)

@@ -14,7 +14,8 @@ abbrev pub invariant-keys : goal.invariant-keys
 invariant-keys l =
     record {
       spans : AreIn l.source l.left.events.now;
-      named : (own : Decor) (p : List Segment) (start : ℕ) → IsEndOfPath p → Stands l.source start (path_text p) → IsPathFrom own start p l.fn.path
+      named : (own : Decor) (p : List Segment) (start : ℕ) → IsEndOfPath p → Stands l.source start (path_text p)
+          → IsPathFrom own start p l.fn.path
           → NamesLeft l.source own p (names l.names.items) l.left;
     }
 

@@ -1,7 +1,7 @@
 -- A command is done as its action, along the texts of its keys.
 use Rattle.std.proofs.Common.{◌≡◌, sym, ap, subst, ◌∙◌, Result, OnOk, IfErr}
 use Rattle.toml_edit_tree.specs.View.{value_view}
-use Rattle.toml_edit_change.specs.Changes.{names}
+use Rattle.toml_edit_paths.specs.Changes.{names}
 use Rattle.toml_edit_command.specs.Run.{OutputChange, written}
 use Rattle.toml_edit_command.specs.Steps.{StopsActing, Wrote, action_of}
 use Rattle.toml_edit_command.specs.Words.{Action, getting, setting, removing}
@@ -9,10 +9,12 @@ use Rattle.toml_edit_command.specs.Written.{Held, held}
 use Rattle.toml_edit_command.specs.declared.error.RunError.{RunError}
 use Rattle.toml_edit_command.proofs.act.act.Goals as goal
 
-wrote-as : {A : Type 0} (r : Result A RunError) (a b : Action) (h : Held) (s : OutputChange) → a ≡ b → OnOk r (Wrote a h s) → OnOk r (Wrote b h s)
+wrote-as : {A : Type 0} (r : Result A RunError) (a b : Action) (h : Held) (s : OutputChange) → a ≡ b → OnOk r (Wrote a h s)
+    → OnOk r (Wrote b h s)
 wrote-as r a b h s same = subst (λ x. OnOk r (Wrote x h s)) same
 
-stops-as : {A : Type 0} (r : Result A RunError) (a b : Action) (h : Held) (s : OutputChange) → a ≡ b → IfErr r (StopsActing a h s) → IfErr r (StopsActing b h s)
+stops-as : {A : Type 0} (r : Result A RunError) (a b : Action) (h : Held) (s : OutputChange) → a ≡ b → IfErr r (StopsActing a h s)
+    → IfErr r (StopsActing b h s)
 stops-as r a b h s same = subst (λ x. IfErr r (StopsActing x h s)) same
 
 pub returns-in-Get-clause-wrote : goal.returns-in-Get-clause-wrote
@@ -31,13 +33,15 @@ returns-in-Set-clause-wrote g c =
     wrote-as c.set.result (setting (names c.as_slice-in-Set.result.now) (value_view c.in-Set.value)) (action_of c.args.command)
     (held c.args.document.now)
     (written g.O.Output.contents g.O.Output.has_failed c.args.output.now c.set.new.output)
-    (ap (λ ks. setting (names ks) (value_view c.in-Set.value)) c.as_slice-in-Set.ensures.value ∙ sym (ap action_of c.in-Set.is)) c.set.ensures.wrote
+    (ap (λ ks. setting (names ks) (value_view c.in-Set.value)) c.as_slice-in-Set.ensures.value
+    ∙ sym (ap action_of c.in-Set.is)) c.set.ensures.wrote
 
 pub returns-in-Set-clause-err : goal.returns-in-Set-clause-err
 returns-in-Set-clause-err g c =
     stops-as c.set.result (setting (names c.as_slice-in-Set.result.now) (value_view c.in-Set.value)) (action_of c.args.command)
     (held c.args.document.now) _
-    (ap (λ ks. setting (names ks) (value_view c.in-Set.value)) c.as_slice-in-Set.ensures.value ∙ sym (ap action_of c.in-Set.is)) c.set.ensures.err
+    (ap (λ ks. setting (names ks) (value_view c.in-Set.value)) c.as_slice-in-Set.ensures.value
+    ∙ sym (ap action_of c.in-Set.is)) c.set.ensures.err
 
 pub returns-in-Remove-clause-wrote : goal.returns-in-Remove-clause-wrote
 returns-in-Remove-clause-wrote g c =

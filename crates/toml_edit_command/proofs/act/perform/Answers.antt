@@ -13,7 +13,8 @@ returns-in-Ok-clause-err g c =
     IfErr-weaker c.act-done.result (StopsActing (action_of c.args.command) (held c.in-Ok.document) s)
     (StopsDoing (mode_of c.args.options) (version_of c.args.options) (action_of c.args.command) (g.I.Input.remaining c.args.input.now)
     (g.I.Input.has_failed c.read_document.new.input) s)
-    (stops-doing (mode_of c.args.options) (version_of c.args.options) (action_of c.args.command) (held c.in-Ok.document) c.in-Ok.ensures.mode
+    (stops-doing (mode_of c.args.options) (version_of c.args.options) (action_of c.args.command) (held c.in-Ok.document)
+    c.in-Ok.ensures.mode
     (g.I.Input.remaining c.args.input.now) c.in-Ok.ensures.read (g.I.Input.has_failed c.read_document.new.input) c.in-Ok.ensures.ok s)
     c.act-done.ensures.err
 

@@ -4,13 +4,15 @@ use Rattle.toml_edit_command.specs.Run.{written}
 use Rattle.toml_edit_command.specs.Steps.{action_of}
 use Rattle.toml_edit_command.specs.Words.{request}
 use Rattle.toml_edit_parser.specs.Options.{mode_of, version_of}
-use Rattle.toml_edit_command.proofs.Ends.{begins, does, mistaken-at-end, not-misworded, refused-at-end, says-command, tells-mistake, tells-refusal, words-mistaken, words-refuse-none, wrong-words}
+use Rattle.toml_edit_command.proofs.Ends.{begins, does, mistaken-at-end, not-misworded, refused-at-end, says-command, tells-mistake}
+use Rattle.toml_edit_command.proofs.Ends.{tells-refusal, words-mistaken, words-refuse-none, wrong-words}
 use Rattle.toml_edit_command.proofs.command.run.Goals as goal
 
 pub returns-in-Err-clause-wrong_words : goal.returns-in-Err-clause-wrong_words
 returns-in-Err-clause-wrong_words g c =
     λ wrong.
-    let x = wrong-words (request c.args.words.now) c.in-Err.error (written g.E.Output.contents g.E.Output.has_failed c.args.errors.now c.end.new.errors)
+    let x = wrong-words (request c.args.words.now) c.in-Err.error
+    (written g.E.Output.contents g.E.Output.has_failed c.args.errors.now c.end.new.errors)
     c.in-Err.ensures.stops wrong c.end.ensures.told in
     (c.end.ensures.status ∙ x.0, x.1)
 
@@ -45,7 +47,8 @@ returns-in-Err-perform-clause-refused g c =
     tells-refusal (request c.args.words.now) (action_of c.in-Ok.read.0) c.in-Ok.ensures.said (mode_of c.in-Ok.read.1) c.in-Ok.ensures.mode
     (version_of c.in-Ok.read.1) c.in-Ok.ensures.version (g.I.Input.remaining c.args.input.now) (g.I.Input.has_failed c.perform.new.input) _
     c.in-Err-perform.error
-    (written g.E.Output.contents g.E.Output.has_failed c.args.errors.now c.end-in-Err-perform.new.errors) c.in-Err-perform.ensures.err (sym c.end-in-Err-perform.ensures.status ∙ one) c.end-in-Err-perform.ensures.told
+    (written g.E.Output.contents g.E.Output.has_failed c.args.errors.now c.end-in-Err-perform.new.errors) c.in-Err-perform.ensures.err
+    (sym c.end-in-Err-perform.ensures.status ∙ one) c.end-in-Err-perform.ensures.told
 
 pub returns-in-Err-perform-clause-mistaken : goal.returns-in-Err-perform-clause-mistaken
 returns-in-Err-perform-clause-mistaken g c =
@@ -53,7 +56,8 @@ returns-in-Err-perform-clause-mistaken g c =
     tells-mistake (request c.args.words.now) (action_of c.in-Ok.read.0) c.in-Ok.ensures.said (mode_of c.in-Ok.read.1) c.in-Ok.ensures.mode
     (version_of c.in-Ok.read.1) c.in-Ok.ensures.version (g.I.Input.remaining c.args.input.now) (g.I.Input.has_failed c.perform.new.input) _
     c.in-Err-perform.error
-    (written g.E.Output.contents g.E.Output.has_failed c.args.errors.now c.end-in-Err-perform.new.errors) c.in-Err-perform.ensures.err (sym c.end-in-Err-perform.ensures.status ∙ two) c.end-in-Err-perform.ensures.told
+    (written g.E.Output.contents g.E.Output.has_failed c.args.errors.now c.end-in-Err-perform.new.errors) c.in-Err-perform.ensures.err
+    (sym c.end-in-Err-perform.ensures.status ∙ two) c.end-in-Err-perform.ensures.told
 
 pub returns-in-Err-perform-clause-end : goal.returns-in-Err-perform-clause-end
 returns-in-Err-perform-clause-end g c =

@@ -8,6 +8,7 @@ use Rattle.toml_edit_command.proofs.read.document_of.Goals as goal
 pub returns-clause-ok : goal.returns-clause-ok
 returns-clause-ok c =
     read-as (mode_of c.args.options) (version_of c.args.options) c.args.text.now (source c.in_ok-document.document)
-    (tree_read c.in_ok-document.document) (mode_read c.in_ok-document.document) (open_read c.in_ok-document.document) (held c.in_ok-into_mut.field-0)
+    (tree_read c.in_ok-document.document) (mode_read c.in_ok-document.document) (open_read c.in_ok-document.document)
+    (held c.in_ok-into_mut.field-0)
     c.in_ok-document.ensures.source c.in_ok-document.ensures.accepted c.in_ok-document.ensures.mode
     c.in_ok-into_mut.ensures.kept c.in_ok-into_mut.ensures.normal

@@ -1,6 +1,6 @@
 -- The keys of a path have the texts of its segments.
 use Rattle.std.proofs.Common.{ap, ◌∙◌}
-use Rattle.toml_edit_change.specs.Changes.{names}
+use Rattle.toml_edit_paths.specs.Changes.{names}
 use Rattle.toml_edit_command.proofs.Spelled.{lone-names}
 use Rattle.toml_edit_command.proofs.words.path_of.Goals as goal
 

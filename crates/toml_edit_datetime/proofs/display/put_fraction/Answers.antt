@@ -1,7 +1,7 @@
 -- Each turn puts a digit.
 use Rattle.std.proofs.Common.{◌/◌, ◌^◌, [], ◌∷◌, ◌++◌, refl, sym, ap, ◌∙◌, arith, append_assoc}
 use Rattle.toml_edit_model.specs.Spelling.{digit}
-use Rattle.toml_edit_stream.proofs.Puts.{put_none, put_two}
+use Rattle.toml_edit_io.proofs.Puts.{put_none, put_two}
 use Rattle.toml_edit_datetime.specs.FractionText.{fraction_text}
 use Rattle.toml_edit_datetime.proofs.Fractions.{fraction_digits_last, fraction_digits_more}
 use Rattle.toml_edit_datetime.proofs.display.put_fraction.Goals as goal

@@ -41,4 +41,5 @@ pub returns : goal.returns
 returns c =
     let some : parts_of c.args.text.now ≡ Some (parts_view c.in_ok-parts.parts) = grind (arith, common_steps) in
     rw c.ok_or-2.ensures.value (rw (ok_of_some c.new.result _)
-    (joined c.args.text.now (parts_view c.in_ok-parts.parts) _ _ _ _ some c.in_ok-date.ensures c.in_ok-time.ensures c.in_ok-offset.ensures c.new.ensures))
+    (joined c.args.text.now (parts_view c.in_ok-parts.parts) _ _ _ _ some c.in_ok-date.ensures c.in_ok-time.ensures c.in_ok-offset.ensures
+    c.new.ensures))

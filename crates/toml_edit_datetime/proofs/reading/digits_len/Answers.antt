@@ -10,5 +10,6 @@ use Rattle.toml_edit_datetime.proofs.reading.digits_len.Goals as goal
 pub returns-clause-len : goal.returns-clause-len
 returns-clause-len c =
     count_from_yields_List c.take_while.result _ c.count.ensures.ran
-    (YieldsList-from_take_while _ is_ascii_digit (YieldsList-from_slice c.args.text.now cc) c.take_while.ensures.closure c.take_while.ensures.done (λ x b q k. search (rules, tests)))
+    (YieldsList-from_take_while _ is_ascii_digit (YieldsList-from_slice c.args.text.now cc) c.take_while.ensures.closure
+    c.take_while.ensures.done (λ x b q k. search (rules, tests)))
     ∙ length-prefix_len is_ascii_digit c.args.text.now

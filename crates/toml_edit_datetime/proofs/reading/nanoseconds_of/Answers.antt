@@ -16,11 +16,19 @@ loop-place-preserved c =
           let digit = c.requires l.place within in
           let small = digit_below (get_or ds l.place 0) digit in
           let same : c.from.result ≡ get_or ds l.place 0 - 48 = grind (arith, common_steps) in
-          record { small = omega (arith, l.invariant.small); read = rw same (sym (digit_more ds l.place within digit ∙ ap (λ x. x * 10 + (get_or ds l.place 0 - 48)) (sym l.invariant.read))) }
+          record {
+            small = omega (arith, l.invariant.small);
+            read =
+                rw same (sym (digit_more ds l.place within digit ∙ ap (λ x. x * 10 + (get_or ds l.place 0 - 48)) (sym l.invariant.read)));
+          }
       | in-None w ↦
           let past : length ds ≤ l.place = grind (arith, common_steps) in
           let same : c.from.result ≡ 0 = grind (arith, common_steps) in
-          record { small = omega (arith, l.invariant.small); read = rw same (sym (zero_more ds l.place c.loop-place-test.true past ∙ ap (λ x. x * 10) (sym l.invariant.read) ∙ omega arith)) }
+          record {
+            small = omega (arith, l.invariant.small);
+            read =
+                rw same (sym (zero_more ds l.place c.loop-place-test.true past ∙ ap (λ x. x * 10) (sym l.invariant.read) ∙ omega arith));
+          }
     ]
 
 pub overflow_mul-value : goal.overflow_mul-value
@@ -28,7 +36,8 @@ overflow_mul-value c = omega (arith, c.loop-place.invariant.small, power_room c.
 
 pub overflow_add-value : goal.overflow_add-value
 overflow_add-value c =
-    let small : c.loop-place.value < 100000000 = omega (arith, c.loop-place.invariant.small, power_room c.loop-place.place c.loop-place-test.true) in
+    let small : c.loop-place.value < 100000000 =
+    omega (arith, c.loop-place.invariant.small, power_room c.loop-place.place c.loop-place-test.true) in
     elim c.match-get.branch [
       | in-Some w ↦
           let within : c.loop-place.place < length c.args.digits.now = grind (arith, common_steps) in

@@ -7,7 +7,8 @@ use Rattle.toml_edit_error.proofs.excerpt.digit_count.Goals as goal
 
 pub loop-rest-preserved : goal.loop-rest-preserved
 loop-rest-preserved c =
-    let step : length (decimal c.loop-rest.rest) ≡ length (decimal (c.loop-rest.rest / 10) ++ ((48 + c.loop-rest.rest % 10) ∷ [])) = ap length (decimal_step c.loop-rest.rest (omega arith) (omega arith)) in
+    let step : length (decimal c.loop-rest.rest) ≡ length (decimal (c.loop-rest.rest / 10) ++ ((48 + c.loop-rest.rest % 10) ∷ [])) =
+    ap length (decimal_step c.loop-rest.rest (omega arith) (omega arith)) in
     let apart = length-append (decimal (c.loop-rest.rest / 10)) ((48 + c.loop-rest.rest % 10) ∷ []) in
     record {
       all = omega (arith, step, apart);

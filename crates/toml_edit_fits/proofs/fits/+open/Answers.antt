@@ -20,7 +20,8 @@ open_items-returns t c =
     let xs = c.deref-item-items.result.now in
     let past : length xs ≤ c.items.item-index = omega arith in
     subst (λ (ys : List Item). ∥ ItemsAreWellMade (items_view ys) ∥₁) c.deref-item-items.ensures.value
-    (items-made xs (subst (λ (ys : List Item). AllByRecursion (λ x. ∥ IsWellMade (item_view x) ∥₁) ys) (take_all c.items.item-index xs past) c.items.invariant))
+    (items-made xs (subst (λ (ys : List Item). AllByRecursion (λ x. ∥ IsWellMade (item_view x) ∥₁) ys) (take_all c.items.item-index xs past)
+    c.items.invariant))
 
 pub open_slots-returns : goal.open_slots-returns
 open_slots-returns t c =
@@ -29,12 +30,16 @@ open_slots-returns t c =
     let here = c.as_slice-entries.ensures.slots in
     let all = take_all c.slots.slot-index es past in
     subst (λ (ys : List (Slot Item)). ∥ SlotsAreWellMade (slots_view ys) ∥₁) here
-    (slots-made es (subst (λ (ys : List (Slot Item)). (at : ℕ) → ForSome (slice_get ys at) (λ (s : Slot Item). place s.key.name (take at ys) ≡ None)) (sym here) c.as_slice-entries.ensures.apart)
-    (subst (λ (ys : List (Slot Item)). AllByRecursion (λ (s : Slot Item). ∥ HasTrueSpelling (SpellsKey s.key.name) s.key.spelling ∥₁) ys) all c.slots.invariant.keys)
-    (subst (λ (ys : List (Slot Item)). AllByRecursion (λ (s : Slot Item). ∥ IsWellMade (item_view s.item) ∥₁) ys) all c.slots.invariant.items))
+    (slots-made es (subst (λ (ys : List (Slot Item)). (at : ℕ)
+    → ForSome (slice_get ys at) (λ (s : Slot Item). place s.key.name (take at ys) ≡ None)) (sym here) c.as_slice-entries.ensures.apart)
+    (subst (λ (ys : List (Slot Item)). AllByRecursion (λ (s : Slot Item). ∥ HasTrueSpelling (SpellsKey s.key.name) s.key.spelling ∥₁) ys)
+    all c.slots.invariant.keys)
+    (subst (λ (ys : List (Slot Item)). AllByRecursion (λ (s : Slot Item). ∥ IsWellMade (item_view s.item) ∥₁) ys) all
+    c.slots.invariant.items))
 
 pub open_value-returns-in-String : goal.open_value-returns-in-String
-open_value-returns-in-String t c = leaf-made _ _ _ _ (ap value_view c.in-String.is ∙ view-String c.in-String.scalar) c.value.ensures.spelled tt
+open_value-returns-in-String t c =
+    leaf-made _ _ _ _ (ap value_view c.in-String.is ∙ view-String c.in-String.scalar) c.value.ensures.spelled tt
 
 pub open_value-returns-in-Integer : goal.open_value-returns-in-Integer
 open_value-returns-in-Integer t c =
@@ -44,11 +49,14 @@ open_value-returns-in-Integer t c =
 
 pub open_value-returns-in-Float : goal.open_value-returns-in-Float
 open_value-returns-in-Float t c =
-    leaf-made _ _ _ _ (ap value_view c.in-Float.is ∙ view-Float c.in-Float.scalar) c.value-in-Float.ensures.spelled (subst IsFloat c.value-in-Float.ensures.value c.as_str.ensures.float)
+    leaf-made _ _ _ _ (ap value_view c.in-Float.is ∙ view-Float c.in-Float.scalar) c.value-in-Float.ensures.spelled
+    (subst IsFloat c.value-in-Float.ensures.value c.as_str.ensures.float)
 
 pub open_value-returns-in-Boolean : goal.open_value-returns-in-Boolean
-open_value-returns-in-Boolean t c = leaf-made _ _ _ _ (ap value_view c.in-Boolean.is ∙ view-Boolean c.in-Boolean.scalar) c.value-in-Boolean.ensures.spelled tt
+open_value-returns-in-Boolean t c =
+    leaf-made _ _ _ _ (ap value_view c.in-Boolean.is ∙ view-Boolean c.in-Boolean.scalar) c.value-in-Boolean.ensures.spelled tt
 
 pub open_value-returns-in-Datetime : goal.open_value-returns-in-Datetime
 open_value-returns-in-Datetime t c =
-    leaf-made _ _ _ _ (ap value_view c.in-Datetime.is ∙ view-Datetime c.in-Datetime.scalar) c.value-in-Datetime.ensures.spelled c.in-Datetime.scalar.value.real
+    leaf-made _ _ _ _ (ap value_view c.in-Datetime.is ∙ view-Datetime c.in-Datetime.scalar) c.value-in-Datetime.ensures.spelled
+    c.in-Datetime.scalar.value.real

@@ -7,4 +7,5 @@ use Rattle.toml_edit_fits.proofs.fits.tree_fits.Goals as goal
 
 pub returns-clause-fits : goal.returns-clause-fits
 returns-clause-fits c =
-    reports-decide (λ (r : Silent) m. Unit {0}) (mode_of c.args.mode) (tree_view c.args.root.now c.args.trailing.now) c.all_fits.result c.all_fits.new.report c.all_fits.ensures.made c.all_fits.ensures.reports
+    reports-decide (λ (r : Silent) m. Unit {0}) (mode_of c.args.mode) (tree_view c.args.root.now c.args.trailing.now) c.all_fits.result
+    c.all_fits.new.report c.all_fits.ensures.made c.all_fits.ensures.reports

@@ -17,15 +17,18 @@ use Rattle.toml_edit_fits.proofs.value.+lines.Goals as goal
 -- what a slot of a table has in its lines
 abbrev of_slot : Mode → Route → Slot Item → List MisfitView
 of_slot mode r s =
-    pair_misfits mode nesting_limit r s.key (item_view s.item) (value_misfits mode nesting_limit (item_view s.item)) (dotted_misfits mode (then_key mode r s.key) (item_view s.item))
+    pair_misfits mode nesting_limit r s.key (item_view s.item) (value_misfits mode nesting_limit (item_view s.item))
+    (dotted_misfits mode (then_key mode r s.key) (item_view s.item))
 
 pub lines_fit-returns-then-not-slot_fits : goal.lines_fit-returns-then-not-slot_fits
 lines_fit-returns-then-not-slot_fits g t c =
     let all = λ (i : ℕ) (es : List (Slot Item)). lines_misfits (mode_of c.args.mode) c.args.route (slots_view es) in
     let end = c.slot_fits.result in
     turn-ended all (of_slot (mode_of c.args.mode) c.args.route) (λ x. all) (λ i s. s.key.name) (λ i s es. refl)
-    c.as_slice-entries.result.now c.slots.slot-index c.slot-item.result c.slots-test.true c.slot-item.is g.R.Report.tells true false end true _ _ _
-    (c.slots.invariant ∙ ap (λ es. slice_get (all 0 es) 0) c.as_slice-entries.ensures.slots) (λ e. true-false end e c.if-not-slot_fits.true) c.slot_fits.ensures c.under.ensures
+    c.as_slice-entries.result.now c.slots.slot-index c.slot-item.result c.slots-test.true c.slot-item.is g.R.Report.tells true false end
+    true _ _ _
+    (c.slots.invariant ∙ ap (λ es. slice_get (all 0 es) 0) c.as_slice-entries.ensures.slots) (λ e. true-false end e c.if-not-slot_fits.true)
+    c.slot_fits.ensures c.under.ensures
 
 pub lines_fit-slots-preserved : goal.lines_fit-slots-preserved
 lines_fit-slots-preserved g t c =

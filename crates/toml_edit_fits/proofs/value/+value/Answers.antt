@@ -10,7 +10,8 @@ use Rattle.toml_edit_tree.specs.declared.item.Item.{Item}
 use Rattle.toml_edit_tree.specs.View.{item_view, items_view, slots_view}
 use Rattle.toml_edit_fits.specs.declared.route.Route.{Route}
 use Rattle.toml_edit_fits.specs.FitTests.{then_key}
-use Rattle.toml_edit_fits.specs.Misfits.{MisfitView, inside_misfits, item_misfits, items_misfits, pair_misfits, value_misfits, within_misfits}
+use Rattle.toml_edit_fits.specs.Misfits.{MisfitView, inside_misfits, item_misfits, items_misfits, pair_misfits, value_misfits}
+use Rattle.toml_edit_fits.specs.Misfits.{within_misfits}
 use Rattle.toml_edit_fits.proofs.FirstLaws.{passed, turn-ended, turn-passed}
 use Rattle.toml_edit_fits.proofs.value.+value.Goals as goal
 
@@ -20,15 +21,18 @@ of_item mode room x = item_misfits mode (item_view x) (value_misfits mode room (
 
 abbrev of_slot : Mode → ℕ → Route → Slot Item → List MisfitView
 of_slot mode room r s =
-    pair_misfits mode room r s.key (item_view s.item) (value_misfits mode room (item_view s.item)) (within_misfits mode room (then_key mode r s.key) (item_view s.item))
+    pair_misfits mode room r s.key (item_view s.item) (value_misfits mode room (item_view s.item))
+    (within_misfits mode room (then_key mode r s.key) (item_view s.item))
 
 pub items_fit-returns-then-not-item_fits : goal.items_fit-returns-then-not-item_fits
 items_fit-returns-then-not-item_fits g t c =
     let all = λ (i : ℕ) (xs : List Item). items_misfits (mode_of c.args.mode) c.args.room i (items_view xs) in
     let end = c.item_fits.result in
     turn-ended all (of_item (mode_of c.args.mode) c.args.room) (λ x. all) (λ i x. decimal i) (λ i x xs. refl)
-    c.deref-item-items.result.now c.items.number c.item-item.result c.items-test.true c.item-item.is g.R.Report.tells true false end true _ _ _
-    (c.items.invariant ∙ ap (λ xs. slice_get (all 0 xs) 0) c.deref-item-items.ensures.value) (λ e. true-false end e c.if-not-item_fits.true) c.item_fits.ensures c.in_item.ensures
+    c.deref-item-items.result.now c.items.number c.item-item.result c.items-test.true c.item-item.is g.R.Report.tells true false end true _
+    _ _
+    (c.items.invariant ∙ ap (λ xs. slice_get (all 0 xs) 0) c.deref-item-items.ensures.value) (λ e. true-false end e c.if-not-item_fits.true)
+    c.item_fits.ensures c.in_item.ensures
 
 pub items_fit-items-preserved : goal.items_fit-items-preserved
 items_fit-items-preserved g t c =
@@ -43,8 +47,10 @@ inside_fits-returns-then-not-pair_slot_fits g t c =
     let all = λ (i : ℕ) (es : List (Slot Item)). inside_misfits (mode_of c.args.mode) c.args.room c.args.route (slots_view es) in
     let end = c.pair_slot_fits.result in
     turn-ended all (of_slot (mode_of c.args.mode) c.args.room c.args.route) (λ x. all) (λ i s. s.key.name) (λ i s es. refl)
-    c.as_slice-entries.result.now c.slots.slot-index c.slot-item.result c.slots-test.true c.slot-item.is g.R.Report.tells true false end true _ _ _
-    (c.slots.invariant ∙ ap (λ es. slice_get (all 0 es) 0) c.as_slice-entries.ensures.slots) (λ e. true-false end e c.if-not-pair_slot_fits.true) c.pair_slot_fits.ensures c.under.ensures
+    c.as_slice-entries.result.now c.slots.slot-index c.slot-item.result c.slots-test.true c.slot-item.is g.R.Report.tells true false end
+    true _ _ _
+    (c.slots.invariant ∙ ap (λ es. slice_get (all 0 es) 0) c.as_slice-entries.ensures.slots)
+    (λ e. true-false end e c.if-not-pair_slot_fits.true) c.pair_slot_fits.ensures c.under.ensures
 
 pub inside_fits-slots-preserved : goal.inside_fits-slots-preserved
 inside_fits-slots-preserved g t c =

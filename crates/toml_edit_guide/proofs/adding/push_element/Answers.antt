@@ -12,4 +12,5 @@ returns-in-Some-clause-ok c =
     let x = table_node (table_view c.args.element) in
     let items : tables_of c.push.new.self ≡ pushed x (tables_of c.in-Some.tables.now) = search rules in
     view-ArrayOfTables c.push.new.self
-    ∙ last-view x (item_view c.args.item.now) (tables_view c.in-Some.tables.now) (tables_view c.push.new.self) c.in-Some.ensures.tables c.push.ensures.extent items
+    ∙ last-view x (item_view c.args.item.now) (tables_view c.in-Some.tables.now) (tables_view c.push.new.self) c.in-Some.ensures.tables
+    c.push.ensures.extent items

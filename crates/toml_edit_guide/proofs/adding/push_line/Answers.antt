@@ -1,5 +1,6 @@
 -- The last value loses its suffix, and the new one comes after it.
-use Rattle.std.proofs.Common.{◌≡◌, ◌-◌, ◌++◌, [], false, true, None, ap, append_assoc, sym, ◌∙◌, if◌then◌else◌, length, refl, rules, string_bytes}
+use Rattle.std.proofs.Common.{◌≡◌, ◌-◌, ◌++◌, [], false, true, None, ap, append_assoc, sym, ◌∙◌, if◌then◌else◌, length, refl, rules}
+use Rattle.std.proofs.Common.{string_bytes}
 use Rattle.std.specs.Str.{trim_end}
 use Rattle.toml_edit.specs.model.ArrayCalls.{pushed, value_at}
 use Rattle.toml_edit.specs.model.Conversions.{with_decor}
@@ -29,7 +30,8 @@ returns-clause-items c =
     c.indent_of-indent.ensures ∙ ap indent_of (c.text_of-2.ensures ∙ ap side_text c.before_last.ensures) in
     let bytes : string_bytes c.in_ok-format.field-0 ≡ c.trim_end-comment.result.now ++ newline ++ c.indent_of-indent.result.now =
     c.in_ok-format.ensures.ok ∙ sym (append_assoc c.trim_end-comment.result.now newline c.indent_of-indent.result.now) in
-    let prefix : c.from-prefix.result ≡ owned (line_prefix f value) = c.from-prefix.ensures ∙ ap owned (bytes ∙ (λ i. comment i ++ newline ++ indent i)) in
+    let prefix : c.from-prefix.result ≡ owned (line_prefix f value) = c.from-prefix.ensures
+    ∙ ap owned (bytes ∙ (λ i. comment i ++ newline ++ indent i)) in
     let seen : value_view c.decorated-value.result ≡ v =
     c.decorated-value.ensures ∙ (λ i. with_decor (both_sides (prefix i) (c.default.ensures i)) (c.in_ok-string.ensures i)) in
     let added : items_of c.push.new.self ≡ pushed (value_view c.decorated-value.result) xs = search rules in
@@ -40,7 +42,8 @@ returns-clause-items c =
       | then-not-trailing_comma w ↦
           let off : f.comma ≡ false = sym comma ∙ search rules in
           let place : w.saturating_sub.result ≡ at = search rules in
-          ap items_of w.array-is ∙ w.clear_suffix.ensures.items ∙ (λ i. changed_at (place i) without_suffix (pushed_is i)) ∙ suffix-pushed v xs refl
+          ap items_of w.array-is ∙ w.clear_suffix.ensures.items ∙ (λ i. changed_at (place i) without_suffix (pushed_is i))
+          ∙ suffix-pushed v xs refl
           ∙ ap (λ b. pushed v (if b then xs else changed_at at without_suffix xs)) (sym off)
       | else-not-trailing_comma w ↦
           let on : f.comma ≡ true = sym comma ∙ search rules in

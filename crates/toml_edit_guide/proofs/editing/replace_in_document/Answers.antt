@@ -24,8 +24,10 @@ returns-clause-tree c =
     let w = c.replace_below.new.root in
     let same : tree_under (items.Table w) d.trailing ≡ tree_view w d.trailing = root-tree w d.trailing in
     let set = c.replace_below.ensures.slots h in
-    let was = subst (λ (ss : Slots). SetsBelow c.args.name.now c.args.key.now (value_view c.args.value) (slot_list ss) (slot_list (table_slots w))) c.as_table_mut.ensures.slots set in (
+    let was = subst (λ (ss : Slots). SetsBelow c.args.name.now c.args.key.now (value_view c.args.value) (slot_list ss)
+    (slot_list (table_slots w))) c.as_table_mut.ensures.slots set in (
       ap (λ (t : Tree). t.root) same ∙ c.replace_below.ensures.fields h ∙ c.as_table_mut.ensures.fields,
       ap (λ (t : Tree). t.trailing) same ∙ sym (trailing-at (item_view d.root) d.trailing),
-      subst (λ (t : Tree). SetsBelow c.args.name.now c.args.key.now (value_view c.args.value) (slot_list (tree_owned d).slots) (slot_list t.slots)) (sym same) was,
+      subst (λ (t : Tree). SetsBelow c.args.name.now c.args.key.now (value_view c.args.value) (slot_list (tree_owned d).slots)
+          (slot_list t.slots)) (sym same) was,
     )

@@ -12,7 +12,8 @@ use Rattle.toml_edit_guide.proofs.editing.replace_in_item_table.Goals as goal
 pub returns-in-Some-clause-found : goal.returns-in-Some-clause-found
 returns-in-Some-clause-found c =
     c.replace_in_table.ensures.found
-    ∙ ap (λ (o : Option TableView). is_some (option_and_then (λ x. value_under c.args.key.now (slot_list x.slots)) o)) c.in-Some.ensures.table
+    ∙ ap (λ (o : Option TableView). is_some (option_and_then (λ x. value_under c.args.key.now (slot_list x.slots)) o))
+    c.in-Some.ensures.table
 
 pub returns-in-Some-clause-item : goal.returns-in-Some-clause-item
 returns-in-Some-clause-item c =

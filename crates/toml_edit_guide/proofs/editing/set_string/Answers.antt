@@ -18,7 +18,8 @@ pub returns-in_err-document-clause-fails : goal.returns-in_err-document-clause-f
 returns-in_err-document-clause-fails c =
     let fails = SetFails c.args.text.now c.args.name.now c.args.key.now c.args.value.now in
     passed-on c.from_residual.result (parsing_fault c.in_err-document.field-0.0) fails c.from_residual.ensures.1
-    (refusal-set c.args.text.now c.args.name.now c.args.key.now c.args.value.now c.in_err-document.field-0.0 c.in_err-document.ensures.refused)
+    (refusal-set c.args.text.now c.args.name.now c.args.key.now c.args.value.now c.in_err-document.field-0.0
+    c.in_err-document.ensures.refused)
 
 pub returns-then-not-replace_in_document-clause-fails : goal.returns-then-not-replace_in_document-clause-fails
 returns-then-not-replace_in_document-clause-fails c = (
@@ -36,7 +37,8 @@ returns-clause-fails c =
     let mode : mode_owned e ≡ plain = c.replace_in_document.ensures.printed.0 ∙ c.in_ok-document.ensures.plain.0 in
     IfErr-weaker c.print_edited.result (FailsToFit (FitsIn (mode_owned e) (tree_owned e)))
     (SetFails c.args.text.now c.args.name.now c.args.key.now c.args.value.now)
-    (λ x h. unfit-set c.args.text.now c.args.name.now c.args.key.now c.args.value.now (tree_owned d) (tree_owned e) c.in_ok-document.ensures.accepted sets x
+    (λ x h. unfit-set c.args.text.now c.args.name.now c.args.key.now c.args.value.now (tree_owned d) (tree_owned e)
+    c.in_ok-document.ensures.accepted sets x
     (subst (λ (m : Mode). FailsToFit (FitsIn m (tree_owned e)) x) mode h))
     c.print_edited.ensures.fails
 
@@ -54,5 +56,6 @@ returns-clause-set c =
     (λ s h. ∥∥₁_map h.1
     (λ back. told c.args.text.now c.args.name.now c.args.key.now c.args.value.now (string_bytes s) (tree_owned d) (tree_owned e)
     c.edits.ensures c.replaced.ensures.frame c.in_ok-document.ensures.accepted sets (h.0 ∙ print)
-    (subst (λ (m : Mode). MeansWhatIsShown m false (tree_owned e)) mode (subst (λ (b : Bool). MeansWhatIsShown (mode_owned e) b (tree_owned e)) end back))))
+    (subst (λ (m : Mode). MeansWhatIsShown m false (tree_owned e)) mode
+    (subst (λ (b : Bool). MeansWhatIsShown (mode_owned e) b (tree_owned e)) end back))))
     (both-ok c.print_edited.result _ _ c.print_edited.ensures.text c.print_edited.ensures.means)

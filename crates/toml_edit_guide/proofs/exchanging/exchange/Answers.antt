@@ -19,14 +19,16 @@ pub returns-in_err-document-clause-fails : goal.returns-in_err-document-clause-f
 returns-in_err-document-clause-fails c =
     let fails = ExchangeFails c.args.text.now c.args.table.now c.args.key.now c.args.value.now in
     passed-on c.from_residual.result (parsing_fault c.in_err-document.field-0.0) fails c.from_residual.ensures.1
-    (refusal-exchange c.args.text.now c.args.table.now c.args.key.now c.args.value.now c.in_err-document.field-0.0 c.in_err-document.ensures.refused)
+    (refusal-exchange c.args.text.now c.args.table.now c.args.key.now c.args.value.now c.in_err-document.field-0.0
+    c.in_err-document.ensures.refused)
 
 pub returns-in_err-exchange_in_document-clause-fails : goal.returns-in_err-exchange_in_document-clause-fails
 returns-in_err-exchange_in_document-clause-fails c =
     let fails = ExchangeFails c.args.text.now c.args.table.now c.args.key.now c.args.value.now in
     let r = c.from_residual-in_err-exchange_in_document in
     passed-on r.result c.in_err-exchange_in_document.field-0.0 fails r.ensures.1
-    (stays-exchange c.args.text.now c.args.table.now c.args.key.now c.args.value.now (tree_owned c.in_ok-document.document) c.in_ok-document.ensures.accepted
+    (stays-exchange c.args.text.now c.args.table.now c.args.key.now c.args.value.now (tree_owned c.in_ok-document.document)
+    c.in_ok-document.ensures.accepted
     c.in_err-exchange_in_document.field-0.0 c.in_err-exchange_in_document.ensures.fails)
 
 pub returns-clause-fails : goal.returns-clause-fails
@@ -34,11 +36,13 @@ returns-clause-fails c =
     let d = c.in_ok-document.document in
     let e = c.exchange_in_document.new.document in
     let seen = view-Value c.in_ok-string.field-0 ∙ c.in_ok-string.ensures in
-    let sets = subst (λ (n : Node). ExchangesInTree c.args.table.now c.args.key.now n (tree_owned d) (tree_owned e)) seen c.in_ok-exchange_in_document.ensures.tree in
+    let sets = subst (λ (n : Node). ExchangesInTree c.args.table.now c.args.key.now n (tree_owned d) (tree_owned e)) seen
+    c.in_ok-exchange_in_document.ensures.tree in
     let mode : mode_owned e ≡ plain = c.exchange_in_document.ensures.printed.0 ∙ c.in_ok-document.ensures.plain.0 in
     IfErr-weaker c.print_edited.result (FailsToFit (FitsIn (mode_owned e) (tree_owned e)))
     (ExchangeFails c.args.text.now c.args.table.now c.args.key.now c.args.value.now)
-    (λ x h. unfit-exchange c.args.text.now c.args.table.now c.args.key.now c.args.value.now (tree_owned d) (tree_owned e) c.in_ok-document.ensures.accepted sets x
+    (λ x h. unfit-exchange c.args.text.now c.args.table.now c.args.key.now c.args.value.now (tree_owned d) (tree_owned e)
+    c.in_ok-document.ensures.accepted sets x
     (subst (λ (m : Mode). FailsToFit (FitsIn m (tree_owned e)) x) mode h))
     c.print_edited.ensures.fails
 
@@ -47,7 +51,8 @@ returns-clause-exchanged c =
     let d = c.in_ok-document.document in
     let e = c.exchange_in_document.new.document in
     let seen = view-Value c.in_ok-string.field-0 ∙ c.in_ok-string.ensures in
-    let sets = subst (λ (n : Node). ExchangesInTree c.args.table.now c.args.key.now n (tree_owned d) (tree_owned e)) seen c.in_ok-exchange_in_document.ensures.tree in
+    let sets = subst (λ (n : Node). ExchangesInTree c.args.table.now c.args.key.now n (tree_owned d) (tree_owned e)) seen
+    c.in_ok-exchange_in_document.ensures.tree in
     let mode : mode_owned e ≡ plain = c.exchange_in_document.ensures.printed.0 ∙ c.in_ok-document.ensures.plain.0 in
     let end : open_owned e ≡ false = c.exchange_in_document.ensures.printed.1 ∙ c.in_ok-document.ensures.plain.1 in
     let print : print_of e ≡ print_in plain false (tree_owned e) =
@@ -56,5 +61,6 @@ returns-clause-exchanged c =
     (λ s h. ∥∥₁_map h.1
     (λ back. told c.args.text.now c.args.table.now c.args.key.now c.args.value.now (string_bytes s) (tree_owned d) (tree_owned e)
     c.edits.ensures c.in_ok-document.ensures.accepted sets (h.0 ∙ print)
-    (subst (λ (m : Mode). MeansWhatIsShown m false (tree_owned e)) mode (subst (λ (b : Bool). MeansWhatIsShown (mode_owned e) b (tree_owned e)) end back))))
+    (subst (λ (m : Mode). MeansWhatIsShown m false (tree_owned e)) mode
+    (subst (λ (b : Bool). MeansWhatIsShown (mode_owned e) b (tree_owned e)) end back))))
     (both-ok c.print_edited.result _ _ c.print_edited.ensures.text c.print_edited.ensures.means)

@@ -15,7 +15,8 @@ use Rattle.toml_edit_guide.proofs.exchanging.exchange_in_document.Goals as goal
 
 pub returns-clause-fails : goal.returns-clause-fails
 returns-clause-fails c =
-    subst (λ (ss : Slots). IfErr c.exchange_in_table.result (SlotsStay c.args.table.now c.args.key.now (slot_list ss))) c.as_table_mut.ensures.slots
+    subst (λ (ss : Slots). IfErr c.exchange_in_table.result (SlotsStay c.args.table.now c.args.key.now (slot_list ss)))
+    c.as_table_mut.ensures.slots
     c.exchange_in_table.ensures.fails
 
 pub returns-clause-tree : goal.returns-clause-tree
@@ -30,6 +31,7 @@ returns-clause-tree c =
     c.as_table_mut.ensures.slots set in (
       ap (λ (t : Tree). t.root) same ∙ c.exchange_in_table.ensures.fields ∙ c.as_table_mut.ensures.fields,
       ap (λ (t : Tree). t.trailing) same ∙ sym (trailing-at (item_view d.root) d.trailing),
-      subst (λ (t : Tree). Exchanges c.args.table.now c.args.key.now (item_view c.args.item) (slot_list (tree_owned d).slots) (slot_list t.slots)) (sym same) was,
+      subst (λ (t : Tree). Exchanges c.args.table.now c.args.key.now (item_view c.args.item) (slot_list (tree_owned d).slots)
+          (slot_list t.slots)) (sym same) was,
     ))
     c.exchange_in_table.ensures.slots

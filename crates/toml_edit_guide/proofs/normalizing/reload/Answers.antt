@@ -14,7 +14,8 @@ returns-in_err-reloaded-clause-fails c =
     let p = c.in_err-reloaded.field-0.0 in
     let fits = c.in_ok-fits.ensures.fits.0 c.if-not-branch.false in
     let is = c.as_str.ensures.value ∙ c.in_ok-text.ensures in
-    passed-on c.from_residual-in_err-reloaded.result (parsing_fault p) (FailsToFit (FitsIn (mode_owned d) (tree_owned d))) c.from_residual-in_err-reloaded.ensures.1
+    passed-on c.from_residual-in_err-reloaded.result (parsing_fault p) (FailsToFit (FitsIn (mode_owned d) (tree_owned d)))
+    c.from_residual-in_err-reloaded.ensures.1
     (never-refused (FitsIn (mode_owned d) (tree_owned d)) (mode_owned d) (open_owned d) (tree_owned d) c.as_str.result.now p
     c.cut.ensures.print c.agree.ensures fits c.in_ok-fits.ensures.made is c.in_err-reloaded.ensures.every)
 

@@ -15,7 +15,8 @@ use Rattle.toml_edit_guide.proofs.removing.remove_key.Goals as goal
 
 pub returns-in_err-document-clause-fails : goal.returns-in_err-document-clause-fails
 returns-in_err-document-clause-fails c =
-    passed-on c.from_residual.result (parsing_fault c.in_err-document.field-0.0) (RemovalFails c.args.text.now c.args.name.now) c.from_residual.ensures.1
+    passed-on c.from_residual.result (parsing_fault c.in_err-document.field-0.0) (RemovalFails c.args.text.now c.args.name.now)
+    c.from_residual.ensures.1
     (refusal-removal c.args.text.now c.args.name.now c.in_err-document.field-0.0 c.in_err-document.ensures.refused)
 
 pub returns-then-not-remove_in_document-clause-fails : goal.returns-then-not-remove_in_document-clause-fails
@@ -48,7 +49,9 @@ returns-clause-removed c =
     ∙ ap (print_in plain false) c.remove_in_document.ensures.tree in
     IfOk-weaker c.print_edited.result _ _
     (λ s h. ∥∥₁_map h.1
-    (λ back. told c.args.text.now c.args.name.now (string_bytes s) (tree_owned d) c.removed.ensures.slot c.in_ok-document.ensures.accepted there (h.0 ∙ print)
+    (λ back. told c.args.text.now c.args.name.now (string_bytes s) (tree_owned d) c.removed.ensures.slot c.in_ok-document.ensures.accepted
+    there (h.0 ∙ print)
     (subst (MeansWhatIsShown plain false) c.remove_in_document.ensures.tree
-    (subst (λ (m : Mode). MeansWhatIsShown m false (tree_owned e)) mode (subst (λ (b : Bool). MeansWhatIsShown (mode_owned e) b (tree_owned e)) end back)))))
+    (subst (λ (m : Mode). MeansWhatIsShown m false (tree_owned e)) mode
+    (subst (λ (b : Bool). MeansWhatIsShown (mode_owned e) b (tree_owned e)) end back)))))
     (both-ok c.print_edited.result _ _ c.print_edited.ensures.text c.print_edited.ensures.means)

@@ -7,4 +7,5 @@ use Rattle.toml_edit_lists.proofs.list.retain.Goals as goal
 
 pub returns : goal.returns
 returns g c =
-    retains_by _ (λ item. SaysOfHeld (FnReturnsAt g.F.Fn c.args.keep) (g.T.Holds.held item)) _ (λ x b f k. search rules) _ _ c.retain.ensures.filtered
+    retains_by _ (λ item. SaysOfHeld (FnReturnsAt g.F.Fn c.args.keep) (g.T.Holds.held item)) _ (λ x b f k. search rules) _ _
+    c.retain.ensures.filtered

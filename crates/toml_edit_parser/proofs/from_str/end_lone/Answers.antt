@@ -20,7 +20,8 @@ returns-then-are_cut_short-clause-refused c =
     (no_value c.args.text.now c.args.events.now c.requires.cut (value_view c.args.value.now) c.requires.read.0 c.requires.read.1
     (sym c.are_cut_short.ensures ∙ c.if-are_cut_short.true)) c.refusal_of_all.ensures.report
     (c.refusal_of_all.ensures.listed v1_1)
-    (brackets_refused c.args.text.now c.args.events.now c.refusal_of_all.result c.requires.cut (sym c.are_cut_short.ensures ∙ c.if-are_cut_short.true))
+    (brackets_refused c.args.text.now c.args.events.now c.refusal_of_all.result c.requires.cut (sym c.are_cut_short.ensures
+    ∙ c.if-are_cut_short.true))
 
 pub despan-requires-clause-fits : goal.despan-requires-clause-fits
 despan-requires-clause-fits c =
@@ -30,7 +31,8 @@ despan-requires-clause-fits c =
 pub despan-requires-clause-spelled : goal.despan-requires-clause-spelled
 despan-requires-clause-spelled c =
     let P : Node → Type 0 = λ n. IsWellMade (owned_node c.args.text.now n) in
-    ∣ subst P (sym c.undecorate.ensures) (lone_made c.args.text.now c.args.events.now c.requires.cut (value_view c.args.value.now) c.requires.read.0 c.requires.read.1
+    ∣ subst P (sym c.undecorate.ensures) (lone_made c.args.text.now c.args.events.now c.requires.cut (value_view c.args.value.now)
+    c.requires.read.0 c.requires.read.1
     (sym c.are_cut_short.ensures ∙ c.if-are_cut_short.false)) ∣₁
 
 pub returns-clause-read : goal.returns-clause-read

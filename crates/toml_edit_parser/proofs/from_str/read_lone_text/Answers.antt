@@ -9,13 +9,15 @@ use Rattle.toml_edit_parser.proofs.from_str.read_lone_text.Goals as goal
 
 pub returns-in-Err-Text-clause-every : goal.returns-in-Err-Text-clause-every
 returns-in-Err-Text-clause-every c =
-    λ v lone ok. absurd (not_text _ c.in-Err-Text.field-0 c.in-Err-Text.mistake c.in-Err-Text.span refl c.in-Err-Text.field-0-is (c.in-Err-Text.ensures.every v lone))
+    λ v lone ok. absurd (not_text _ c.in-Err-Text.field-0 c.in-Err-Text.mistake c.in-Err-Text.span refl c.in-Err-Text.field-0-is
+    (c.in-Err-Text.ensures.every v lone))
 
 pub returns-in-Err-Text-clause-refused : goal.returns-in-Err-Text-clause-refused
 returns-in-Err-Text-clause-refused c =
     fault_in (grammar c.args.version) c.args.text.now c.refusal_with.result
     (refused_whole c.args.text.now _ _ c.refusal_with.result
-    (λ v lone. not_text _ c.in-Err-Text.field-0 c.in-Err-Text.mistake c.in-Err-Text.span refl c.in-Err-Text.field-0-is (c.in-Err-Text.ensures.every v lone)) c.refusal_with.ensures.report
+    (λ v lone. not_text _ c.in-Err-Text.field-0 c.in-Err-Text.mistake c.in-Err-Text.span refl c.in-Err-Text.field-0-is
+    (c.in-Err-Text.ensures.every v lone)) c.refusal_with.ensures.report
     (c.refusal_with.ensures.listed v1_1 (inl c.message.ensures.listed))
     (syntax_refused _ _ _ c.refusal_with.result c.message.ensures.listed c.refusal_with.ensures.report))
 
@@ -27,8 +29,10 @@ returns-in_ok-refuse_late-in-Ok-clause-read c =
 
 pub returns-in_ok-refuse_late-in-Ok-clause-refused :
     goal.returns-in_ok-refuse_late-in-Ok-clause-refused
-returns-in_ok-refuse_late-in-Ok-clause-refused c = refused_in (grammar c.args.version) c.args.text.now c.read_lone.result c.read_lone.ensures.refused
+returns-in_ok-refuse_late-in-Ok-clause-refused c =
+    refused_in (grammar c.args.version) c.args.text.now c.read_lone.result c.read_lone.ensures.refused
 
 pub returns-in_ok-refuse_late-in-Ok-clause-every :
     goal.returns-in_ok-refuse_late-in-Ok-clause-every
-returns-in_ok-refuse_late-in-Ok-clause-every c = λ v lone ok. c.read_lone.ensures.every v lone (accepted_of_all (grammar c.args.version) v ok)
+returns-in_ok-refuse_late-in-Ok-clause-every c =
+    λ v lone ok. c.read_lone.ensures.every v lone (accepted_of_all (grammar c.args.version) v ok)

@@ -15,7 +15,8 @@ pub returns-in-Some-clause-every : goal.returns-in-Some-clause-every
 returns-in-Some-clause-every c =
     λ v lone ok.
     absurd (false≢true (sym (not_early c.args.text.now c.in-Some.span
-    (λ v lone. c.in-Some.ensures.found v (length lone.before) lone.value (stands c.args.text.now v lone) (c.requires.cut.every v lone)) v lone)
+    (λ v lone. c.in-Some.ensures.found v (length lone.before) lone.value (stands c.args.text.now v lone) (c.requires.cut.every v lone)) v
+    lone)
     ∙ ap (λ (x : Version). is_value_of (grammar x) v) (sym c.in-V1_0.is) ∙ ok))
 
 pub returns-in-Some-clause-refused : goal.returns-in-Some-clause-refused

@@ -14,15 +14,19 @@ returns-in_err-name-clause-key c =
 pub returns-in-None-clause-key : goal.returns-in-None-clause-key
 returns-in-None-clause-key c =
     λ own p start are stands at.
-    last-read c.args.source.now own p start c.args.path c.in-Some.first c.in-Some.rest.now (string_bytes c.in_ok-name.name) c.last_key-key.result
-    (record { are = are; stands = stands; at = at; split = c.in-Some.ensures }) c.in_ok-name.ensures.name c.in-None.ensures c.last_key-key.ensures.key
+    last-read c.args.source.now own p start c.args.path c.in-Some.first c.in-Some.rest.now (string_bytes c.in_ok-name.name)
+    c.last_key-key.result
+    (record { are = are; stands = stands; at = at; split = c.in-Some.ensures }) c.in_ok-name.ensures.name c.in-None.ensures
+    c.last_key-key.ensures.key
 
 pub returns-in-Some-split_dot-clause-key : goal.returns-in-Some-split_dot-clause-key
 returns-in-Some-split_dot-clause-key c =
     λ own p start are stands at.
-    passed-read c.args.source.now own p start c.args.path c.in-Some.first c.in-Some.rest.now (string_bytes c.in_ok-name.name) c.passed_key-key.result
+    passed-read c.args.source.now own p start c.args.path c.in-Some.first c.in-Some.rest.now (string_bytes c.in_ok-name.name)
+    c.passed_key-key.result
     c.in-Some-split_dot.after c.in-Some-split_dot.inside
-    (record { are = are; stands = stands; at = at; split = c.in-Some.ensures }) c.in_ok-name.ensures.name c.in-Some-split_dot.ensures c.passed_key-key.ensures.key
+    (record { are = are; stands = stands; at = at; split = c.in-Some.ensures }) c.in_ok-name.ensures.name c.in-Some-split_dot.ensures
+    c.passed_key-key.ensures.key
 
 pub returns-in-Some-split_dot-clause-span : goal.returns-in-Some-split_dot-clause-span
 returns-in-Some-split_dot-clause-span c =

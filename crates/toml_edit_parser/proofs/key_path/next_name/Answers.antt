@@ -36,7 +36,8 @@ returns-in-Some-split_dot-clause-name c =
       record { key = k; span = c.in-Some.first.span; rest = Some c.in-Some-split_dot.inside },
       passed-read c.args.source.now own p start c.args.path c.in-Some.first c.in-Some.rest.now name k
           c.in-Some-split_dot.field-0-0 c.in-Some-split_dot.inside
-          (record { are = are; stands = stands; at = at; split = c.in-Some.ensures }) c.in_ok-name.ensures.name c.in-Some-split_dot.ensures refl,
+          (record { are = are; stands = stands; at = at; split = c.in-Some.ensures }) c.in_ok-name.ensures.name c.in-Some-split_dot.ensures
+          refl,
       refl,
       refl,
     )

@@ -22,32 +22,45 @@ returns-clause-pair c =
     λ f v start end more is stands parts e.
     let first = same_parts c.in-Some.after _ c.in-Some.rest.now _ (c.in-Some.ensures ∙ ap split_first e) in
     let item = c.decorate.ensures ∙ ap (λ d. with_decor d (item_view c.args.item.now)) (
-    value-decor start end f c.raw.result c.raw-2.result c.in-Some.after.span (c.raw.ensures.raw ∙ ap (λ (q : FrameParts). spanned_raw q.after_equals) parts)
+    value-decor start end f c.raw.result c.raw-2.result c.in-Some.after.span (c.raw.ensures.raw
+    ∙ ap (λ (q : FrameParts). spanned_raw q.after_equals) parts)
     c.raw-2.ensures.raw (ap (λ (x : Event). x.span) first.0)
     ) in
-    let own = key-decor start f _ _ (ap (λ (q : FrameParts). spanned_raw q.leading) parts) (ap (λ (q : FrameParts). spanned_raw q.before_equals) parts) in
-    let path = path-from (frame_leaf spanned_form start f) start f.leading f.path c.args.frame.leading c.args.frame.before_equals c.args.frame.path.now
-    c.path_behind-path.result is.1 c.path_behind-path.ensures own (ap (λ (q : FrameParts). q.leading) parts) (ap (λ (q : FrameParts). q.path) parts) in (
+    let own = key-decor start f _ _ (ap (λ (q : FrameParts). spanned_raw q.leading) parts)
+    (ap (λ (q : FrameParts). spanned_raw q.before_equals) parts) in
+    let path = path-from (frame_leaf spanned_form start f) start f.leading f.path c.args.frame.leading c.args.frame.before_equals
+    c.args.frame.path.now
+    c.path_behind-path.result is.1 c.path_behind-path.ensures own (ap (λ (q : FrameParts). q.leading) parts)
+    (ap (λ (q : FrameParts). q.path) parts) in (
       first.1,
-      subst (λ (n : Node). add_entry spanned_form (pair_path spanned_form start f v) n (slots_view c.args.slots.now) ≡ Some (slots_view c.add_entry.new.slots)) item
-          (c.in_ok-add_entry.ensures.entry (entry_of spanned_form start f v) f.path (start + length f.leading) [] (path-ends f.path is.1) stands path),
+      subst (λ (n : Node). add_entry spanned_form (pair_path spanned_form start f v) n (slots_view c.args.slots.now)
+          ≡ Some (slots_view c.add_entry.new.slots)) item
+          (c.in_ok-add_entry.ensures.entry (entry_of spanned_form start f v) f.path (start
+          + length f.leading) [] (path-ends f.path is.1) stands path),
     )
 
 pub returns-in_err-add_entry-clause-pair : goal.returns-in_err-add_entry-clause-pair
 returns-in_err-add_entry-clause-pair c =
     λ f v start end more is stands parts e.
     let p = err_from_is_err_and c.from_residual.result c.from_residual.ensures.1 in
-    let own = key-decor start f _ _ (ap (λ (q : FrameParts). spanned_raw q.leading) parts) (ap (λ (q : FrameParts). spanned_raw q.before_equals) parts) in
-    let path = path-from (frame_leaf spanned_form start f) start f.leading f.path c.args.frame.leading c.args.frame.before_equals c.args.frame.path.now
-    c.path_behind-path.result is.1 c.path_behind-path.ensures own (ap (λ (q : FrameParts). q.leading) parts) (ap (λ (q : FrameParts). q.path) parts) in
-    rw (p.1, p.2) (c.in_err-add_entry.ensures.entry (entry_of spanned_form start f v) f.path (start + length f.leading) [] (path-ends f.path is.1) stands path)
+    let own = key-decor start f _ _ (ap (λ (q : FrameParts). spanned_raw q.leading) parts)
+    (ap (λ (q : FrameParts). spanned_raw q.before_equals) parts) in
+    let path = path-from (frame_leaf spanned_form start f) start f.leading f.path c.args.frame.leading c.args.frame.before_equals
+    c.args.frame.path.now
+    c.path_behind-path.result is.1 c.path_behind-path.ensures own (ap (λ (q : FrameParts). q.leading) parts)
+    (ap (λ (q : FrameParts). q.path) parts) in
+    rw (p.1, p.2) (c.in_err-add_entry.ensures.entry (entry_of spanned_form start f v) f.path (start
+    + length f.leading) [] (path-ends f.path is.1) stands path)
 
 pub returns-clause-fits : goal.returns-clause-fits
 returns-clause-fits c =
     λ item slots.
     let t = c.args.source.now in
     let after = (first_in t c.args.events.now c.in-Some.after c.in-Some.rest.now c.in-Some.ensures c.requires.spans).0 in
-    let put = fits-with_decor t (item_view c.args.item.now) _ item (c.raw.ensures.fits t c.requires.after_equals, c.raw-2.ensures.fits t after) in
+    let put = fits-with_decor t (item_view c.args.item.now) _ item (
+      c.raw.ensures.fits t c.requires.after_equals,
+      c.raw-2.ensures.fits t after,
+    ) in
     c.in_ok-add_entry.ensures.fits (subst (λ (n : Node). NodeFits t n) (sym c.decorate.ensures) put) slots
 
 pub returns-clause-rest : goal.returns-clause-rest

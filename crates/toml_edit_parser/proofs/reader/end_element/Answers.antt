@@ -16,4 +16,5 @@ returns-clause-fits c =
     let put = fits-with_decor t (value_view c.args.value) _ value (c.raw.ensures.fits t c.requires.before, c.raw-2.ensures.fits t after) in
     let P : Node → Type 0 = λ n. NodeFits t n in
     let Q : List Item → Type 0 = λ xs. ItemsFit t (items_view xs) in
-    subst Q (sym c.in_ok-put_value.ensures) (fits-item t c.args.values.now.items _ items (subst P (sym (view-Value c.decorated.result ∙ c.decorated.ensures)) put))
+    subst Q (sym c.in_ok-put_value.ensures) (fits-item t c.args.values.now.items _ items
+    (subst P (sym (view-Value c.decorated.result ∙ c.decorated.ensures)) put))

@@ -27,7 +27,8 @@ returns-in-Some-clause-value c =
     let same : s ≡ scalar_view c.in-Some.scalar =
     subst (λ (o : Option code.Scalar). MatchOption o (is_in_range s text ≡ false) (λ x. s ≡ scalar_view x)) is
     (read.only s (subst (λ (x : Text). Spells s x) (sym text_is) spells)) in
-    let found : IsSpelling text (scalar_view c.in-Some.scalar) = subst (λ (o : Option code.Scalar). IfSome o (λ x. IsSpelling text (scalar_view x))) is read.found in
+    let found : IsSpelling text (scalar_view c.in-Some.scalar) =
+    subst (λ (o : Option code.Scalar). IfSome o (λ x. IsSpelling text (scalar_view x))) is read.found in
     let fits : is_in_range s t ≡ true =
     ap (λ (x : scalars.Scalar). is_in_range x t) same ∙ ap (is_in_range (scalar_view c.in-Some.scalar)) (sym text_is) ∙ found.in_range in
     let blank : c.default.result ≡ unset = search rules in (
@@ -47,7 +48,8 @@ returns-in-None-clause-value c =
     let text_is : text ≡ t = c.cut-text.ensures ∙ cut_is in
     let own = subst (λ (x : Text). Spells s x) (sym text_is) spells in
     let past : is_in_range s text ≡ false =
-    subst (λ (o : Option code.Scalar). MatchOption o (is_in_range s text ≡ false) (λ x. s ≡ scalar_view x)) c.in-None.is (c.in_ok-scalar.ensures.only s own) in
+    subst (λ (o : Option code.Scalar). MatchOption o (is_in_range s text ≡ false) (λ x. s ≡ scalar_view x)) c.in-None.is
+    (c.in_ok-scalar.ensures.only s own) in
     let told : c.range_message.result.now ≡ range_message s = c.range_message.ensures.message s own past in
     mapped c.refusal_with.result _ _
     (λ r known. (
@@ -61,7 +63,8 @@ pub returns-in-None-clause-listed : goal.returns-in-None-clause-listed
 returns-in-None-clause-listed c = c.refusal_with.ensures.listed v1_1 (inr c.range_message.ensures.listed)
 
 pub returns-in-None-clause-input : goal.returns-in-None-clause-input
-returns-in-None-clause-input c = mapped c.refusal_with.result _ _ (λ r known. ap (λ (x : Report). x.input) known) c.refusal_with.ensures.report
+returns-in-None-clause-input c =
+    mapped c.refusal_with.result _ _ (λ r known. ap (λ (x : Report). x.input) known) c.refusal_with.ensures.report
 
 pub returns-in-Some-clause-fits : goal.returns-in-Some-clause-fits
 returns-in-Some-clause-fits c =

@@ -36,7 +36,8 @@ returns-in-Some-decode_integer-clause-element c =
     view-Integer c.spanned.result ∙ ap (λ (f : FormattedView ℤ). leaf (scalars.integer f.value) f.repr f.decor) c.spanned.ensures
     ∙ ap (λ (z : ℤ). leaf (scalars.integer z) (Some (span place.start place.end)) c.new-decor.result) own
     ∙ ap (λ (x : scalars.Scalar). leaf x (Some (span place.start place.end)) c.new-decor.result) (sym same) in
-    scalar_added a s t start level more c.args.values.now.items c.put_value.new.values.items c.args.before place c.in-Some.after c.args.events.now c.in-Some.rest.now
+    scalar_added a s t start level more c.args.values.now.items c.put_value.new.values.items c.args.before place c.in-Some.after
+    c.args.events.now c.in-Some.rest.now
     (values.Integer c.spanned.result) c.new-decor.result spells before_is place_is events_are c.in-Some.ensures
     (ap (λ (x : scalars.Scalar). is_in_range x t) same ∙ found.in_range) view decor c.in_ok-put_value.ensures
 
@@ -51,8 +52,13 @@ returns-in-Some-decode_integer-clause-fits c =
     let view =
     view-Integer c.spanned.result ∙ ap (λ (f : FormattedView ℤ). leaf (scalars.integer f.value) f.repr f.decor) c.spanned.ensures
     ∙ ap (λ (z : ℤ). leaf (scalars.integer z) (Some (span place.start place.end)) c.new-decor.result) own in
-    scalar_fits t c.args.values.now.items c.put_value.new.values.items (values.Integer c.spanned.result) (scalars.integer c.in-Some-decode_integer.number) place.start place.end
-    c.new-decor.result c.raw.result c.raw-2.result view (c.requires.span.start, c.requires.span.end, c.requires.span.order) c.new-decor.ensures
+    scalar_fits t c.args.values.now.items c.put_value.new.values.items (values.Integer c.spanned.result)
+    (scalars.integer c.in-Some-decode_integer.number) place.start place.end
+    c.new-decor.result c.raw.result c.raw-2.result view (
+      c.requires.span.start,
+      c.requires.span.end,
+      c.requires.span.order,
+    ) c.new-decor.ensures
     (c.raw.ensures.fits t c.requires.before) (c.raw-2.ensures.fits t after) c.in_ok-put_value.ensures fit
 
 pub returns-in-Some-decode_integer-clause-rest : goal.returns-in-Some-decode_integer-clause-rest
@@ -71,7 +77,8 @@ returns-in_ok-put_value-in-Some-2-clause-element c =
     let same : s ≡ scalar_view c.in-Some-2.scalar =
     subst (λ (o : Option code.Scalar). MatchOption o (is_in_range s text ≡ false) (λ x. s ≡ scalar_view x)) is
     (read.only s (subst (λ (x : Text). Spells s x) (sym text_is) spells)) in
-    let found : IsSpelling text (scalar_view c.in-Some-2.scalar) = subst (λ (o : Option code.Scalar). IfSome o (λ x. IsSpelling text (scalar_view x))) is read.found in
+    let found : IsSpelling text (scalar_view c.in-Some-2.scalar) =
+    subst (λ (o : Option code.Scalar). IfSome o (λ x. IsSpelling text (scalar_view x))) is read.found in
     let fits : is_in_range s t ≡ true =
     ap (λ (x : scalars.Scalar). is_in_range x t) same ∙ ap (is_in_range (scalar_view c.in-Some-2.scalar)) (sym text_is) ∙ found.in_range in
     let decor =
@@ -80,8 +87,10 @@ returns-in_ok-put_value-in-Some-2-clause-element c =
     ∙ ap (λ (r : Raw). record { prefix = Some (spanned_raw c.args.before); suffix = Some r }) c.raw-2.ensures.raw in
     let view =
     c.spanned-in-Some-2.ensures ∙ ap (λ (x : scalars.Scalar). leaf x (Some (span place.start place.end)) c.new-decor.result) (sym same) in
-    scalar_added a s t start level more c.args.values.now.items c.put_value-in-Some-2.new.values.items c.args.before place c.in-Some.after c.args.events.now c.in-Some.rest.now
-    c.spanned-in-Some-2.result c.new-decor.result spells before_is place_is events_are c.in-Some.ensures fits view decor c.in_ok-put_value-in-Some-2.ensures
+    scalar_added a s t start level more c.args.values.now.items c.put_value-in-Some-2.new.values.items c.args.before place c.in-Some.after
+    c.args.events.now c.in-Some.rest.now
+    c.spanned-in-Some-2.result c.new-decor.result spells before_is place_is events_are c.in-Some.ensures fits view decor
+    c.in_ok-put_value-in-Some-2.ensures
 
 pub returns-in_ok-put_value-in-Some-2-clause-fits : goal.returns-in_ok-put_value-in-Some-2-clause-fits
 returns-in_ok-put_value-in-Some-2-clause-fits c =
@@ -89,8 +98,13 @@ returns-in_ok-put_value-in-Some-2-clause-fits c =
     let t = c.args.source.now in
     let place = c.args.span in
     let after = (first_in t c.args.events.now c.in-Some.after c.in-Some.rest.now c.in-Some.ensures c.requires.spans).0 in
-    scalar_fits t c.args.values.now.items c.put_value-in-Some-2.new.values.items c.spanned-in-Some-2.result (scalar_view c.in-Some-2.scalar) place.start place.end
-    c.new-decor.result c.raw.result c.raw-2.result c.spanned-in-Some-2.ensures (c.requires.span.start, c.requires.span.end, c.requires.span.order) c.new-decor.ensures
+    scalar_fits t c.args.values.now.items c.put_value-in-Some-2.new.values.items c.spanned-in-Some-2.result (scalar_view c.in-Some-2.scalar)
+    place.start place.end
+    c.new-decor.result c.raw.result c.raw-2.result c.spanned-in-Some-2.ensures (
+      c.requires.span.start,
+      c.requires.span.end,
+      c.requires.span.order,
+    ) c.new-decor.ensures
     (c.raw.ensures.fits t c.requires.before) (c.raw-2.ensures.fits t after) c.in_ok-put_value-in-Some-2.ensures fit
 
 pub returns-in-None-clause-element : goal.returns-in-None-clause-element
@@ -102,7 +116,8 @@ returns-in-None-clause-element c =
     let text_is = c.cut-text.ensures ∙ place_cut c.args.source.now place at t place_is stands in
     let own = subst (λ (x : Text). Spells s x) (sym text_is) spells in
     let past : is_in_range s text ≡ false =
-    subst (λ (o : Option code.Scalar). MatchOption o (is_in_range s text ≡ false) (λ x. s ≡ scalar_view x)) c.in-None.is (c.in_ok-scalar.ensures.only s own) in
+    subst (λ (o : Option code.Scalar). MatchOption o (is_in_range s text ≡ false) (λ x. s ≡ scalar_view x)) c.in-None.is
+    (c.in_ok-scalar.ensures.only s own) in
     scalar_refusal c.args.source.now s t at place c.range_message.result.now c.refusal_with.result place_is
     (ap (is_in_range s) (sym text_is) ∙ past) (c.range_message.ensures.message s own past) c.refusal_with.ensures.report
 
@@ -110,4 +125,5 @@ pub returns-in-None-clause-listed : goal.returns-in-None-clause-listed
 returns-in-None-clause-listed c = c.refusal_with.ensures.listed v1_1 (inr c.range_message.ensures.listed)
 
 pub returns-in-None-clause-input : goal.returns-in-None-clause-input
-returns-in-None-clause-input c = mapped c.refusal_with.result _ _ (λ r known. ap (λ (x : Report). x.input) known) c.refusal_with.ensures.report
+returns-in-None-clause-input c =
+    mapped c.refusal_with.result _ _ (λ r known. ap (λ (x : Report). x.input) known) c.refusal_with.ensures.report

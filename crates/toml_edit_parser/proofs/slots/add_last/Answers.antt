@@ -24,7 +24,8 @@ returns-in-Ok-clause-fits c =
 pub returns-in-Some-clause-last : goal.returns-in-Some-clause-last
 returns-in-Some-clause-last c =
     let there = rw c.in-Err.is at c.add-added.ensures.refused in
-    last-refused c.args.source.now c.args.span c.args.key (item_view c.args.item.now) c.args.slots.now c.in-Err.there c.args.key.name c.refusal.result
+    last-refused c.args.source.now c.args.span c.args.key (item_view c.args.item.now) c.args.slots.now c.in-Err.there c.args.key.name
+    c.refusal.result
     there refl (sym (ap is_some c.in-Some.is)) c.refusal.ensures.report
 
 pub returns-in-Some-clause-listed : goal.returns-in-Some-clause-listed

@@ -25,7 +25,8 @@ returns-in_default-clause-line c =
 pub returns-then-frame-gt-MOST_PATH_EVENTS-clause-line : goal.returns-then-frame-gt-MOST_PATH_EVENTS-clause-line
 returns-then-frame-gt-MOST_PATH_EVENTS-clause-line c =
     λ f v end start more is value stands ended same e.
-    let parts = the-frame start f v 0 _ c.args.leading c.args.events.now (parts_of c.in-Some.frame) c.in-Some.rest.now is.1 same (e ∙ key-whole 0 start f _) c.in-Some.ensures in
+    let parts = the-frame start f v 0 _ c.args.leading c.args.events.now (parts_of c.in-Some.frame) c.in-Some.rest.now is.1 same (e
+    ∙ key-whole 0 start f _) c.in-Some.ensures in
     line-too-long c.args.reader.now.source.now f v end start c.refusal_of_all.result is.1
     (subst (λ (q : FrameParts). 238 < length q.path) parts.0 c.if-frame-gt-MOST_PATH_EVENTS.true) c.refusal_of_all.ensures.report
 
@@ -33,37 +34,50 @@ pub returns-in_err-rest-clause-line : goal.returns-in_err-rest-clause-line
 returns-in_err-rest-clause-line c =
     λ f v end start more is value stands ended same e.
     let p = err_from_is_err_and c.from_residual.result c.from_residual.ensures.1 in
-    let parts = the-frame start f v 0 _ c.args.leading c.args.events.now (parts_of c.in-Some.frame) c.in-Some.rest.now is.1 same (e ∙ key-whole 0 start f _) c.in-Some.ensures in
+    let parts = the-frame start f v 0 _ c.args.leading c.args.events.now (parts_of c.in-Some.frame) c.in-Some.rest.now is.1 same (e
+    ∙ key-whole 0 start f _) c.in-Some.ensures in
     rw (p.1, p.2) (line-refused c.args.reader.now.source.now f v end start c.in_err-rest.field-0.0
-    (c.in_err-rest.ensures.value v (value_at_byte start f) f.trailing (with_return (mode_of c.args.reader.now.mode) f.trailing end) more value
-    (value-stands c.args.reader.now.source.now start f (value_text v) (stands-left c.args.reader.now.source.now start (frame_text f (value_text v)) end stands)) parts.1
+    (c.in_err-rest.ensures.value v (value_at_byte start f) f.trailing (with_return (mode_of c.args.reader.now.mode) f.trailing end) more
+    value
+    (value-stands c.args.reader.now.source.now start f (value_text v)
+    (stands-left c.args.reader.now.source.now start (frame_text f (value_text v)) end stands)) parts.1
     (line-suffix (mode_of c.args.reader.now.mode) c.args.reader.now.source.now start f v end stands ended)))
 
 pub returns-clause-line : goal.returns-clause-line
 returns-clause-line c =
     λ f v end start more is value stands ended same e.
     let s = c.args.reader.now.source.now in
-    let parts = the-frame start f v 0 _ c.args.leading c.args.events.now (parts_of c.in-Some.frame) c.in-Some.rest.now is.1 same (e ∙ key-whole 0 start f _) c.in-Some.ensures in
+    let parts = the-frame start f v 0 _ c.args.leading c.args.events.now (parts_of c.in-Some.frame) c.in-Some.rest.now is.1 same (e
+    ∙ key-whole 0 start f _) c.in-Some.ensures in
     let short = short-path f.path (start + length f.leading) (path-some f.path is.1)
     (subst (λ (q : FrameParts). length q.path ≤ 238) parts.0 c.if-frame-gt-MOST_PATH_EVENTS.false) in
     let mode = mode_of c.args.reader.now.mode in
     let h = c.in_ok-rest.ensures.value v (value_at_byte start f) f.trailing (with_return mode f.trailing end) more value
-    (value-stands s start f (value_text v) (stands-left s start (frame_text f (value_text v)) end stands)) parts.1 (line-suffix mode s start f v end stands ended) in
-    let own = key-decor start f _ _ (ap (λ (q : FrameParts). spanned_raw q.leading) parts.0) (ap (λ (q : FrameParts). spanned_raw q.before_equals) parts.0) in
+    (value-stands s start f (value_text v) (stands-left s start (frame_text f (value_text v)) end stands)) parts.1
+    (line-suffix mode s start f v end stands ended) in
+    let own = key-decor start f _ _ (ap (λ (q : FrameParts). spanned_raw q.leading) parts.0)
+    (ap (λ (q : FrameParts). spanned_raw q.before_equals) parts.0) in
     line-read mode f v end start more _ c.in-Some.frame.after_equals _ _ short (ap (λ (q : FrameParts). q.after_equals) parts.0) h
-    (path-from (frame_leaf spanned_form start f) start f.leading f.path c.in-Some.frame.leading c.in-Some.frame.before_equals c.in-Some.frame.path.now
-    c.path_behind-path.result is.1 c.path_behind-path.ensures own (ap (λ (q : FrameParts). q.leading) parts.0) (ap (λ (q : FrameParts). q.path) parts.0))
+    (path-from (frame_leaf spanned_form start f) start f.leading f.path c.in-Some.frame.leading c.in-Some.frame.before_equals
+    c.in-Some.frame.path.now
+    c.path_behind-path.result is.1 c.path_behind-path.ensures own (ap (λ (q : FrameParts). q.leading) parts.0)
+    (ap (λ (q : FrameParts). q.path) parts.0))
 
 pub read_line_value-requires : goal.read_line_value-requires
-read_line_value-requires c = (frame-in c.args.reader.now.source.now c.args.leading c.args.events.now (parts_of c.in-Some.frame) c.in-Some.rest.now c.in-Some.ensures c.requires.spans).others
+read_line_value-requires c =
+    (frame-in c.args.reader.now.source.now c.args.leading c.args.events.now (parts_of c.in-Some.frame) c.in-Some.rest.now c.in-Some.ensures
+    c.requires.spans).others
 
 pub returns-clause-path : goal.returns-clause-path
 returns-clause-path c =
-    subst (AreIn c.args.reader.now.source.now) (sym (ap (λ (v : PathView). v.events) c.path_behind-path.ensures)) (frame-in c.args.reader.now.source.now c.args.leading c.args.events.now (parts_of c.in-Some.frame) c.in-Some.rest.now c.in-Some.ensures c.requires.spans).path
+    subst (AreIn c.args.reader.now.source.now) (sym (ap (λ (v : PathView). v.events) c.path_behind-path.ensures))
+    (frame-in c.args.reader.now.source.now c.args.leading c.args.events.now (parts_of c.in-Some.frame) c.in-Some.rest.now
+    c.in-Some.ensures c.requires.spans).path
 
 pub returns-clause-rest : goal.returns-clause-rest
 returns-clause-rest c =
-    let one = (frame-in c.args.reader.now.source.now c.args.leading c.args.events.now (parts_of c.in-Some.frame) c.in-Some.rest.now c.in-Some.ensures c.requires.spans).fewer in
+    let one = (frame-in c.args.reader.now.source.now c.args.leading c.args.events.now (parts_of c.in-Some.frame) c.in-Some.rest.now
+    c.in-Some.ensures c.requires.spans).fewer in
     let two = c.in_ok-rest.ensures.rest.1 in
     (c.in_ok-rest.ensures.rest.0, omega (arith, one, two))
 
@@ -71,4 +85,5 @@ pub returns-then-frame-gt-MOST_PATH_EVENTS-clause-listed : goal.returns-then-fra
 returns-then-frame-gt-MOST_PATH_EVENTS-clause-listed c = c.refusal_of_all.ensures.listed v1_1
 
 pub returns-then-frame-gt-MOST_PATH_EVENTS-clause-input : goal.returns-then-frame-gt-MOST_PATH_EVENTS-clause-input
-returns-then-frame-gt-MOST_PATH_EVENTS-clause-input c = mapped c.refusal_of_all.result _ _ (λ r known. ap (λ (x : Report). x.input) known) c.refusal_of_all.ensures.report
+returns-then-frame-gt-MOST_PATH_EVENTS-clause-input c =
+    mapped c.refusal_of_all.result _ _ (λ r known. ap (λ (x : Report). x.input) known) c.refusal_of_all.ensures.report

@@ -23,7 +23,8 @@ pub returns-in_err-value-clause-value : goal.returns-in_err-value-clause-value
 returns-in_err-value-clause-value c =
     λ v start after suffix more is stands e counted.
     let p = err_from_is_err_and c.from_residual.result c.from_residual.ensures.1 in
-    rw (p.1, p.2) (c.in_err-value.ensures.value v start 0 (event LineEnd (start + length (value_text v)) after ∷ more) is stands (omega arith) e)
+    rw (p.1, p.2) (c.in_err-value.ensures.value v start 0 (event LineEnd (start + length (value_text v)) after
+    ∷ more) is stands (omega arith) e)
 
 pub returns-in_default-clause-value : goal.returns-in_default-clause-value
 returns-in_default-clause-value c =
@@ -38,14 +39,17 @@ returns-clause-value c =
     let h = c.in_ok-value.ensures.value v start 0 behind is stands (omega arith) e in
     let P : Node → Type 0 = λ n. IsRead v start 0 behind n c.in_ok-value.rest.now in
     let last = same_parts c.in-Some.end _ c.in-Some.rest.now _ (c.in-Some.ensures ∙ ap split_first h.rest_is) in
-    line-value (mode_of c.args.reader.now.mode) v start c.args.before after suffix more _ _ c.raw.result c.raw-2.result c.suffix.result c.in_ok-value.rest.now c.in-Some.rest.now
+    line-value (mode_of c.args.reader.now.mode) v start c.args.before after suffix more _ _ c.raw.result c.raw-2.result c.suffix.result
+    c.in_ok-value.rest.now c.in-Some.rest.now
     (subst P (sym (view-Value c.in_ok-value.value)) h) c.raw.ensures.raw c.raw-2.ensures.raw
-    (c.suffix.ensures ∙ ap (λ (x : Event). suffix_span (mode_of c.args.reader.now.mode) c.args.reader.now.source.now x.span) last.0 ∙ counted)
+    (c.suffix.ensures ∙ ap (λ (x : Event). suffix_span (mode_of c.args.reader.now.mode) c.args.reader.now.source.now x.span) last.0
+    ∙ counted)
     (c.decorate.ensures ∙ ap (λ (x : Item). with_decor (both_sides c.raw.result c.raw-2.result) (item_view x)) c.put.ensures) last.1
 
 pub returns-clause-rest : goal.returns-clause-rest
 returns-clause-rest c =
-    let behind = first_in c.args.reader.now.source.now c.in_ok-value.rest.now c.in-Some.end c.in-Some.rest.now c.in-Some.ensures c.in_ok-value.ensures.rest.0 in
+    let behind = first_in c.args.reader.now.source.now c.in_ok-value.rest.now c.in-Some.end c.in-Some.rest.now c.in-Some.ensures
+    c.in_ok-value.ensures.rest.0 in
     let two = c.in_ok-value.ensures.rest.1 in
     let three = behind.2 in
     (behind.1, omega (arith, two, three))

@@ -25,7 +25,9 @@ use Rattle.toml_edit_parser.proofs.ViewLaws.{view-Integer}
 use Rattle.toml_edit_parser.proofs.statement.read_line_scalar.Goals as goal
 
 pub returns-in_default-clause-value : goal.returns-in_default-clause-value
-returns-in_default-clause-value c = λ s t start after suffix more spells stands place_is events_are counted. absurd (let none = c.in_default.ensures ∙ ap split_first events_are in cc)
+returns-in_default-clause-value c =
+    λ s t start after suffix more spells stands place_is events_are counted. absurd (let none = c.in_default.ensures
+    ∙ ap split_first events_are in cc)
 
 pub returns-in-Some-integer_of-clause-value : goal.returns-in-Some-integer_of-clause-value
 returns-in-Some-integer_of-clause-value c =
@@ -49,8 +51,10 @@ returns-in-Some-integer_of-clause-value c =
     view-Integer c.spanned.result ∙ ap (λ (f : FormattedView ℤ). leaf (scalars.integer f.value) f.repr f.decor) c.spanned.ensures
     ∙ ap (λ (z : ℤ). leaf (scalars.integer z) (Some (span place.start place.end)) c.new-decor.result) own
     ∙ ap (λ (x : scalars.Scalar). leaf x (Some (span place.start place.end)) c.new-decor.result) (sym same) in
-    subst (λ (x : Item). IsLineValue (mode_of c.args.reader.now.mode) (syntax.scalar s t) start c.args.before suffix more (item_view x) c.in-Some.rest.now) (sym c.put.ensures)
-    (scalar_put (mode_of c.args.reader.now.mode) c.args.reader.now.source.now s t start c.args.before after suffix more place c.in-Some.end c.args.events.now c.in-Some.rest.now
+    subst (λ (x : Item). IsLineValue (mode_of c.args.reader.now.mode) (syntax.scalar s t) start c.args.before suffix more (item_view x)
+    c.in-Some.rest.now) (sym c.put.ensures)
+    (scalar_put (mode_of c.args.reader.now.mode) c.args.reader.now.source.now s t start c.args.before after suffix more place c.in-Some.end
+    c.args.events.now c.in-Some.rest.now
     (values.Integer c.spanned.result) c.new-decor.result spells place_is events_are c.in-Some.ensures counted fits view decor)
 
 pub returns-in-Some-integer_of-clause-rest : goal.returns-in-Some-integer_of-clause-rest
@@ -69,7 +73,8 @@ returns-in-Some-2-clause-value c =
     let same : s ≡ scalar_view c.in-Some-2.scalar =
     subst (λ (o : Option code.Scalar). MatchOption o (is_in_range s text ≡ false) (λ x. s ≡ scalar_view x)) is
     (read.only s (subst (λ (x : Text). Spells s x) (sym text_is) spells)) in
-    let found : IsSpelling text (scalar_view c.in-Some-2.scalar) = subst (λ (o : Option code.Scalar). IfSome o (λ x. IsSpelling text (scalar_view x))) is read.found in
+    let found : IsSpelling text (scalar_view c.in-Some-2.scalar) =
+    subst (λ (o : Option code.Scalar). IfSome o (λ x. IsSpelling text (scalar_view x))) is read.found in
     let fits : is_in_range s t ≡ true =
     ap (λ (x : scalars.Scalar). is_in_range x t) same ∙ ap (is_in_range (scalar_view c.in-Some-2.scalar)) (sym text_is) ∙ found.in_range in
     let decor =
@@ -79,8 +84,10 @@ returns-in-Some-2-clause-value c =
     ∙ ap (λ (x : Span). record { prefix = Some (spanned_raw c.args.before); suffix = Some (spanned_raw x) }) c.suffix.ensures in
     let view =
     c.spanned-value.ensures ∙ ap (λ (x : scalars.Scalar). leaf x (Some (span place.start place.end)) c.new-decor.result) (sym same) in
-    subst (λ (x : Item). IsLineValue (mode_of c.args.reader.now.mode) (syntax.scalar s t) start c.args.before suffix more (item_view x) c.in-Some.rest.now) (sym c.put-in-Some-2.ensures)
-    (scalar_put (mode_of c.args.reader.now.mode) c.args.reader.now.source.now s t start c.args.before after suffix more place c.in-Some.end c.args.events.now c.in-Some.rest.now
+    subst (λ (x : Item). IsLineValue (mode_of c.args.reader.now.mode) (syntax.scalar s t) start c.args.before suffix more (item_view x)
+    c.in-Some.rest.now) (sym c.put-in-Some-2.ensures)
+    (scalar_put (mode_of c.args.reader.now.mode) c.args.reader.now.source.now s t start c.args.before after suffix more place c.in-Some.end
+    c.args.events.now c.in-Some.rest.now
     c.spanned-value.result c.new-decor.result spells place_is events_are c.in-Some.ensures counted fits view decor)
 
 pub returns-in-Some-2-clause-rest : goal.returns-in-Some-2-clause-rest
@@ -96,7 +103,8 @@ returns-in-None-clause-value c =
     let text_is = c.cut-text.ensures ∙ place_cut c.args.reader.now.source.now place start t place_is stands in
     let own = subst (λ (x : Text). Spells s x) (sym text_is) spells in
     let past : is_in_range s text ≡ false =
-    subst (λ (o : Option code.Scalar). MatchOption o (is_in_range s text ≡ false) (λ x. s ≡ scalar_view x)) c.in-None.is (c.in_ok-scalar.ensures.only s own) in
+    subst (λ (o : Option code.Scalar). MatchOption o (is_in_range s text ≡ false) (λ x. s ≡ scalar_view x)) c.in-None.is
+    (c.in_ok-scalar.ensures.only s own) in
     scalar_refusal c.args.reader.now.source.now s t start place c.range_message.result.now c.refusal_with.result place_is
     (ap (is_in_range s) (sym text_is) ∙ past) (c.range_message.ensures.message s own past) c.refusal_with.ensures.report
 
@@ -104,4 +112,5 @@ pub returns-in-None-clause-listed : goal.returns-in-None-clause-listed
 returns-in-None-clause-listed c = c.refusal_with.ensures.listed v1_1 (inr c.range_message.ensures.listed)
 
 pub returns-in-None-clause-input : goal.returns-in-None-clause-input
-returns-in-None-clause-input c = mapped c.refusal_with.result _ _ (λ r known. ap (λ (x : Report). x.input) known) c.refusal_with.ensures.report
+returns-in-None-clause-input c =
+    mapped c.refusal_with.result _ _ (λ r known. ap (λ (x : Report). x.input) known) c.refusal_with.ensures.report

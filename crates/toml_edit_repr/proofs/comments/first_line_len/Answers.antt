@@ -2,7 +2,8 @@
 use Rattle.std.proofs.Common.{◌-◌, arith}
 use Rattle.toml_edit_repr.proofs.CommentLines.{EndsAt, end-place, first_line-empty, line-cut, line-kept}
 use Rattle.toml_edit_repr.proofs.comments.first_line_len.Goals as goal
-use Rattle.toml_edit_repr.proofs.comments.first_line_len.Goals.{then-end-eq0-via-then-end-eq0, then-end-eq0-via-else-end-eq0+then-bytes-end-ne13}
+use Rattle.toml_edit_repr.proofs.comments.first_line_len.Goals.{then-end-eq0-via-then-end-eq0}
+use Rattle.toml_edit_repr.proofs.comments.first_line_len.Goals.{then-end-eq0-via-else-end-eq0+then-bytes-end-ne13}
 
 pub returns-then-end-eq0-clause-line : goal.returns-then-end-eq0-clause-line
 returns-then-end-eq0-clause-line c =

@@ -14,4 +14,5 @@ returns-in-Some-clause-parts c =
 
 pub returns-in-None-clause-parts : goal.returns-in-None-clause-parts
 returns-in-None-clause-parts c =
-    lines-whole c.args.text.now c.as_bytes.result.now c.as_bytes.ensures.value (sym c.is_empty.ensures ∙ c.if-is_empty.false) c.in-None.ensures
+    lines-whole c.args.text.now c.as_bytes.result.now c.as_bytes.ensures.value (sym c.is_empty.ensures
+    ∙ c.if-is_empty.false) c.in-None.ensures

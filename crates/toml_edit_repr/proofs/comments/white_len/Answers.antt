@@ -5,7 +5,8 @@ use Rattle.toml_edit_repr.proofs.comments.white_len.Goals as goal
 
 pub returns-then-not-is_blank-clause-boundary : goal.returns-then-not-is_blank-clause-boundary
 returns-then-not-is_blank-clause-boundary c =
-    white-boundary c.args.text.now c.as_bytes-bytes.result.now c.loop-at.at c.as_bytes-bytes.ensures.value c.utf8.text (omega arith) c.loop-at.invariant
+    white-boundary c.args.text.now c.as_bytes-bytes.result.now c.loop-at.at c.as_bytes-bytes.ensures.value c.utf8.text (omega arith)
+    c.loop-at.invariant
 
 pub returns-then-not-is_blank-clause-place : goal.returns-then-not-is_blank-clause-place
 returns-then-not-is_blank-clause-place c =

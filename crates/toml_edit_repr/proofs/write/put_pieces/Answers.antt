@@ -1,7 +1,7 @@
 -- Each turn puts what stands before a carriage return.
 use Rattle.std.proofs.Common.{◌≡◌, [], ◌++◌, refl, ap, sym, ◌∙◌, rules, append_assoc}
 use Rattle.toml_edit_model.specs.Text.{without_returns}
-use Rattle.toml_edit_stream.proofs.Puts.{put_none, put_two}
+use Rattle.toml_edit_io.proofs.Puts.{put_none, put_two}
 use Rattle.toml_edit_repr.proofs.write.put_pieces.Goals as goal
 
 pub pieces-init : goal.pieces-init
@@ -10,7 +10,8 @@ pieces-init g c = (search rules, [], put_none _ _ refl, refl)
 pub pieces-preserved : goal.pieces-preserved
 pieces-preserved g c =
     let (_, done, wrote, more) = c.pieces.invariant in
-    let parts : without_returns c.pieces.rest.now ≡ c.in-Some.piece.now ++ without_returns c.in-Some.after.now = c.in-Some.ensures.parts in (
+    let parts : without_returns c.pieces.rest.now ≡ c.in-Some.piece.now ++ without_returns c.in-Some.after.now =
+    c.in-Some.ensures.parts in (
       search rules,
       done ++ c.in-Some.piece.now,
       put_two _ _ _ _ _ _ wrote c.put.ensures refl,

@@ -13,7 +13,8 @@ pub returns-in-Some-walk-clause-ok : goal.returns-in-Some-walk-clause-ok
 returns-in-Some-walk-clause-ok g c =
     let us = names c.args.entries.now in
     subst (IsIndexed c.args.index.now)
-    (sym (with_text-there c.args.name.now us c.in-Some-walk.at (sym (c.in-Some-walk.ensures ∙ place-position c.args.name.now c.args.entries.now))))
+    (sym (with_text-there c.args.name.now us c.in-Some-walk.at (sym (c.in-Some-walk.ensures
+    ∙ place-position c.args.name.now c.args.entries.now))))
     c.requires.indexed
 
 pub index_with-requires-clause-new : goal.index_with-requires-clause-new
@@ -31,7 +32,8 @@ returns-in_ok-index_with-in-None-clause-place g c = c.in-None.ensures ∙ place-
 pub returns-in_ok-index_with-in-None-clause-ok : goal.returns-in_ok-index_with-in-None-clause-ok
 returns-in_ok-index_with-in-None-clause-ok g c =
     let us = names c.args.entries.now in
-    let new : place c.args.name.now c.args.entries.now ≡ None = sym (c.in-None.ensures ∙ place-position c.args.name.now c.args.entries.now) in
+    let new : place c.args.name.now c.args.entries.now ≡ None =
+    sym (c.in-None.ensures ∙ place-position c.args.name.now c.args.entries.now) in
     subst (IsIndex c.in_ok-index_with-in-None.field-0.value) (sym (with_text-new c.args.name.now us new)) c.in_ok-index_with-in-None.ensures
 
 pub returns-else-entries-ge-FEW-clause-place : goal.returns-else-entries-ge-FEW-clause-place

@@ -17,7 +17,8 @@ move_down-requires-clause-names g c =
     let us = names c.args.entries.now in
     let u = c.args.name.now in
     let is : IsIndexOf c.in-Sorted.places us = subst (λ x. IsIndex x us) c.in-Sorted.is c.requires.indexed in
-    texts-left us c.requires.apart c.in-Sorted.places c.remove-in-Sorted.new.self c.args.gap u (place_in-is u us c.args.gap c.requires.gap) is
+    texts-left us c.requires.apart c.in-Sorted.places c.remove-in-Sorted.new.self c.args.gap u (place_in-is u us c.args.gap c.requires.gap)
+    is
     c.remove-in-Sorted.ensures.own c.remove-in-Sorted.ensures.others
 
 pub move_down-requires-clause-before : goal.move_down-requires-clause-before
@@ -25,7 +26,8 @@ move_down-requires-clause-before g c =
     let us = names c.args.entries.now in
     let u = c.args.name.now in
     let is : IsIndexOf c.in-Sorted.places us = subst (λ x. IsIndex x us) c.in-Sorted.is c.requires.indexed in
-    right-left us c.requires.apart c.in-Sorted.places c.remove-in-Sorted.new.self c.args.gap u (place_in-is u us c.args.gap c.requires.gap) is
+    right-left us c.requires.apart c.in-Sorted.places c.remove-in-Sorted.new.self c.args.gap u (place_in-is u us c.args.gap c.requires.gap)
+    is
     c.remove-in-Sorted.ensures.own c.remove-in-Sorted.ensures.others
 
 pub move_all_down-requires-clause-gap : goal.move_all_down-requires-clause-gap

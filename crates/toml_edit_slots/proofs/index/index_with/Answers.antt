@@ -15,7 +15,8 @@ put_new_place-requires-clause-apart g c =
     subst (IsDistinct same_text) (sym (names-take es c.loop-at.at)) (distinct-taken (names es) c.loop-at.at c.requires.apart)
 
 pub put_new_place-requires-clause-indexed : goal.put_new_place-requires-clause-indexed
-put_new_place-requires-clause-indexed g c = subst (IsIndex c.loop-at.index) (sym (names-take c.args.entries.now c.loop-at.at)) c.loop-at.invariant
+put_new_place-requires-clause-indexed g c =
+    subst (IsIndex c.loop-at.index) (sym (names-take c.args.entries.now c.loop-at.at)) c.loop-at.invariant
 
 pub loop-at-preserved : goal.loop-at-preserved
 loop-at-preserved g c =
@@ -25,10 +26,12 @@ loop-at-preserved g c =
     let s = c.index-entries-at.result in
     let x = c.get.result.now in
     let within : at < length es = omega arith in
-    let here : slice_get us at ≡ Some x = names-get es at (get_or es at s) (slice_get-get_or es at s within) ∙ ap Some (sym c.get.ensures.name) in
+    let here : slice_get us at ≡ Some x = names-get es at (get_or es at s) (slice_get-get_or es at s within)
+    ∙ ap Some (sym c.get.ensures.name) in
     let one : suc at ≡ at + 1 = omega arith in
     let is : with_text x (names (take at es)) ≡ take (at + 1) us =
-    ap (with_text x) (names-take es at) ∙ with_text-new x (take at us) (take-new us at x here c.requires.apart) ∙ sym (take-next us at x here) ∙ ap (λ k. take k us) one in
+    ap (with_text x) (names-take es at) ∙ with_text-new x (take at us) (take-new us at x here c.requires.apart)
+    ∙ sym (take-next us at x here) ∙ ap (λ k. take k us) one in
     subst (IsIndex c.put_new_place.new.index) is c.in_ok-put_new_place.ensures.ok
 
 pub put_new_place-requires-2-clause-indexed : goal.put_new_place-requires-2-clause-indexed

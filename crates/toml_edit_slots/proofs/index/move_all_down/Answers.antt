@@ -12,7 +12,12 @@ pub returns : goal.returns
 returns g c =
     let us = names c.args.entries.now in
     hashed-all (remove us c.args.gap) c.loop-at.hashed (c.loop-at.at - 1)
-    (omega (arith, long-removed us c.args.gap (omega (arith, length-names c.args.entries.now, c.requires.gap)), length-names c.args.entries.now, c.loop-at.invariant.0))
+    (omega (
+      arith,
+      long-removed us c.args.gap (omega (arith, length-names c.args.entries.now, c.requires.gap)),
+      length-names c.args.entries.now,
+      c.loop-at.invariant.0,
+    ))
     c.loop-at.invariant.1 c.loop-at.invariant.2
 
 pub set-requires : goal.set-requires
@@ -23,7 +28,9 @@ set-requires g c =
     let x = c.get.result.now in
     let us = remove (names es) c.args.gap in
     let within : at < length es = omega arith in
-    let here : slice_get us (at - 1) ≡ Some x = name-behind es c.args.gap at (get_or es at s) c.loop-at.invariant.0 (slice_get-get_or es at s within) ∙ ap Some (sym c.get.ensures.name) in
+    let here : slice_get us (at - 1) ≡ Some x =
+    name-behind es c.args.gap at (get_or es at s) c.loop-at.invariant.0 (slice_get-get_or es at s within)
+    ∙ ap Some (sym c.get.ensures.name) in
     c.loop-at.invariant.1 x ∙ ap is_some (place_in-own us (at - 1) x here (distinct-removed (names es) c.args.gap c.requires.apart))
 
 pub loop-at-preserved : goal.loop-at-preserved
@@ -37,7 +44,9 @@ loop-at-preserved g c =
     let us = remove (names es) c.args.gap in
     let apart = distinct-removed (names es) c.args.gap c.requires.apart in
     let within : at < length es = omega arith in
-    let here : slice_get us (at - 1) ≡ Some x = name-behind es c.args.gap at (get_or es at s) c.loop-at.invariant.0 (slice_get-get_or es at s within) ∙ ap Some (sym c.get.ensures.name) in
+    let here : slice_get us (at - 1) ≡ Some x =
+    name-behind es c.args.gap at (get_or es at s) c.loop-at.invariant.0 (slice_get-get_or es at s within)
+    ∙ ap Some (sym c.get.ensures.name) in
     let put : IsPutAt (at - 1) x m n = c.set.ensures in
     let more : at - 1 + 1 ≡ at + 1 - 1 = omega (arith, c.loop-at.invariant.0) in (
       omega (arith, c.loop-at.invariant.0),

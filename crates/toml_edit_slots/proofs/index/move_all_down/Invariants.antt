@@ -7,4 +7,5 @@ use Rattle.toml_edit_slots.proofs.index.move_all_down.Given as goal
 
 abbrev pub invariant-loop-at : goal.invariant-loop-at
 invariant-loop-at g l =
-    (l.gap < l.at) × ((t : Text) → is_some (place_of l.hashed t) ≡ is_some (place_in t (remove (names l.entries) l.gap))) × IsHashedBefore (l.at - 1) l.hashed (remove (names l.entries) l.gap)
+    (l.gap < l.at) × ((t : Text) → is_some (place_of l.hashed t) ≡ is_some (place_in t (remove (names l.entries) l.gap)))
+    × IsHashedBefore (l.at - 1) l.hashed (remove (names l.entries) l.gap)

@@ -24,7 +24,9 @@ set-requires g c =
     let x = c.get.result.now in
     let us = remove (names es) c.args.gap in
     let within : at < length es = omega arith in
-    let here : slice_get us (at - 1) ≡ Some x = name-behind es c.args.gap at (get_or es at s) c.loop-at.invariant.0 (slice_get-get_or es at s within) ∙ ap Some (sym c.get.ensures.name) in
+    let here : slice_get us (at - 1) ≡ Some x =
+    name-behind es c.args.gap at (get_or es at s) c.loop-at.invariant.0 (slice_get-get_or es at s within)
+    ∙ ap Some (sym c.get.ensures.name) in
     c.loop-at.invariant.1.noted (at - 1) x here
 
 pub loop-at-preserved : goal.loop-at-preserved
@@ -38,9 +40,12 @@ loop-at-preserved g c =
     let us = remove (names es) c.args.gap in
     let apart = distinct-removed (names es) c.args.gap c.requires.apart in
     let within : at < length es = omega arith in
-    let here : slice_get us (at - 1) ≡ Some x = name-behind es c.args.gap at (get_or es at s) c.loop-at.invariant.0 (slice_get-get_or es at s within) ∙ ap Some (sym c.get.ensures.name) in
+    let here : slice_get us (at - 1) ≡ Some x =
+    name-behind es c.args.gap at (get_or es at s) c.loop-at.invariant.0 (slice_get-get_or es at s within)
+    ∙ ap Some (sym c.get.ensures.name) in
     let more : at - 1 + 1 ≡ at + 1 - 1 = omega (arith, c.loop-at.invariant.0) in (
       omega (arith, c.loop-at.invariant.0),
       texts-set us apart m n (at - 1) x here c.set.ensures c.loop-at.invariant.1,
-      subst (λ k. IsRightBefore k n us) more (right-more us apart m n (at - 1) x here c.set.ensures c.loop-at.invariant.1 c.loop-at.invariant.2),
+      subst (λ k. IsRightBefore k n us) more (right-more us apart m n (at - 1) x here c.set.ensures c.loop-at.invariant.1
+          c.loop-at.invariant.2),
     )

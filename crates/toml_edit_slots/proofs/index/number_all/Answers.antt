@@ -18,7 +18,8 @@ set-requires g c =
     let s = c.index-entries-at.result in
     let x = c.get.result.now in
     let within : at < length es = omega arith in
-    let here : slice_get us at ≡ Some x = names-get es at (get_or es at s) (slice_get-get_or es at s within) ∙ ap Some (sym c.get.ensures.name) in
+    let here : slice_get us at ≡ Some x = names-get es at (get_or es at s) (slice_get-get_or es at s within)
+    ∙ ap Some (sym c.get.ensures.name) in
     c.loop-at.invariant.0 x (ap is_some (place_in-own us at x here c.requires.apart))
 
 pub loop-at-preserved : goal.loop-at-preserved
@@ -31,6 +32,9 @@ loop-at-preserved g c =
     let m = c.loop-at.hashed in
     let n = c.set.new.self in
     let within : at < length es = omega arith in
-    let here : slice_get us at ≡ Some x = names-get es at (get_or es at s) (slice_get-get_or es at s within) ∙ ap Some (sym c.get.ensures.name) in
-    let apart = c.requires.apart in
-    (names-put us apart m n at x here c.set.ensures c.loop-at.invariant.0, hashed-more us apart m n at x here c.set.ensures c.loop-at.invariant.1)
+    let here : slice_get us at ≡ Some x = names-get es at (get_or es at s) (slice_get-get_or es at s within)
+    ∙ ap Some (sym c.get.ensures.name) in
+    let apart = c.requires.apart in (
+      names-put us apart m n at x here c.set.ensures c.loop-at.invariant.0,
+      hashed-more us apart m n at x here c.set.ensures c.loop-at.invariant.1,
+    )

@@ -25,10 +25,12 @@ loop-at-preserved g c =
     let s = c.index-entries-at.result in
     let x = c.get.result.now in
     let within : at < length es = omega arith in
-    let here : slice_get us at ≡ Some x = names-get es at (get_or es at s) (slice_get-get_or es at s within) ∙ ap Some (sym c.get.ensures.name) in
+    let here : slice_get us at ≡ Some x = names-get es at (get_or es at s) (slice_get-get_or es at s within)
+    ∙ ap Some (sym c.get.ensures.name) in
     let one : suc at ≡ at + 1 = omega arith in
     let is : with_text x (names (take at es)) ≡ take (at + 1) us =
-    ap (with_text x) (names-take es at) ∙ with_text-new x (take at us) (take-new us at x here c.requires.apart) ∙ sym (take-next us at x here) ∙ ap (λ k. take k us) one in
+    ap (with_text x) (names-take es at) ∙ with_text-new x (take at us) (take-new us at x here c.requires.apart)
+    ∙ sym (take-next us at x here) ∙ ap (λ k. take k us) one in
     subst (IsIndexOf c.add.new.self) is c.in_ok-add.ensures.ok
 
 pub add-requires-2-clause-indexed : goal.add-requires-2-clause-indexed

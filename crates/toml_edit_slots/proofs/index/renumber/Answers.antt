@@ -17,7 +17,8 @@ set-requires g c =
     let s = c.index-entries-at.result in
     let x = c.get.result.now in
     let within : at < length es = omega arith in
-    let here : slice_get (names es) at ≡ Some x = names-get es at (get_or es at s) (slice_get-get_or es at s within) ∙ ap Some (sym c.get.ensures.name) in
+    let here : slice_get (names es) at ≡ Some x = names-get es at (get_or es at s) (slice_get-get_or es at s within)
+    ∙ ap Some (sym c.get.ensures.name) in
     c.loop-at.invariant.0.noted at x here
 
 pub loop-at-preserved : goal.loop-at-preserved
@@ -30,7 +31,8 @@ loop-at-preserved g c =
     let m = c.loop-at.places in
     let n = c.set.new.self in
     let within : at < length es = omega arith in
-    let here : slice_get us at ≡ Some x = names-get es at (get_or es at s) (slice_get-get_or es at s within) ∙ ap Some (sym c.get.ensures.name) in
+    let here : slice_get us at ≡ Some x = names-get es at (get_or es at s) (slice_get-get_or es at s within)
+    ∙ ap Some (sym c.get.ensures.name) in
     let apart = c.requires.apart in (
       texts-set us apart m n at x here c.set.ensures c.loop-at.invariant.0,
       right-more us apart m n at x here c.set.ensures c.loop-at.invariant.0 c.loop-at.invariant.1,

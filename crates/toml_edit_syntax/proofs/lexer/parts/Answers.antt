@@ -28,7 +28,8 @@ statements-init c =
       shorter = le_refl _;
       less = λ some. absurd (let none = ap length c.requires.none in omega (arith, some, none));
       read = λ n h. (n, h, refl);
-      batch = λ ss final are last is. batch.none_gone (length c.args.source.now) ss final c.args.s.now c.args.events.now.items are is c.requires.none (fits_in c.args.source.now c.args.s.now c.requires.ends);
+      batch = λ ss final are last is. batch.none_gone (length c.args.source.now) ss final c.args.s.now c.args.events.now.items are is
+          c.requires.none (fits_in c.args.source.now c.args.s.now c.requires.ends);
       spans = subst (AreSpans c.args.source.now) (sym c.requires.none) tt;
     }
 
@@ -40,7 +41,9 @@ returns-then-is_empty-clause-reads c n h =
     let nothing : length c.split_at.result.1.now ≡ 0 = grind (arith, common_steps) in
     let pushed = added l.events.items c.push.new.self.items c.part.result _ c.in_ok-push.ensures.items c.part.ensures in
     read
-    ∙ ap (preceded l.events.items) (loop.ends whole l.rest.now (fits_in c.args.source.now l.rest.now l.invariant.ends) k room c.trivia-len.result.1 c.trivia-len.result.0 c.split_at.result.0.now c.split_at.result.1.now c.trivia-len.ensures.value c.split_at.ensures.front c.split_at.ensures.back nothing)
+    ∙ ap (preceded l.events.items) (loop.ends whole l.rest.now (fits_in c.args.source.now l.rest.now l.invariant.ends) k room
+    c.trivia-len.result.1 c.trivia-len.result.0 c.split_at.result.0.now c.split_at.result.1.now c.trivia-len.ensures.value
+    c.split_at.ensures.front c.split_at.ensures.back nothing)
     ∙ ap (λ (es : List Event). got es l.rest.now) (sym pushed)
 
 pub returns-then-is_empty-clause-batch : goal.returns-then-is_empty-clause-batch
@@ -49,22 +52,28 @@ returns-then-is_empty-clause-batch c ss final are last is =
     let whole = length c.args.source.now in
     let g = l.invariant.batch ss final are last is in
     let nothing : length c.split_at.result.1.now ≡ 0 = grind (arith, common_steps) in
-    batch.batch_ends whole (whole - length c.args.s.now) ss final l.events.items l.rest.now g last c.split_at.result.0.now c.split_at.result.1.now c.trivia-len.result.0 c.trivia-len.result.1 c.trivia-len.ensures.value c.split_at.ensures.front c.split_at.ensures.back
+    batch.batch_ends whole (whole - length c.args.s.now) ss final l.events.items l.rest.now g last c.split_at.result.0.now
+    c.split_at.result.1.now c.trivia-len.result.0 c.trivia-len.result.1 c.trivia-len.ensures.value c.split_at.ensures.front
+    c.split_at.ensures.back
     c.part.result c.push.new.self.items l.rest.now nothing c.part.ensures c.in_ok-push.ensures.items
 
 pub returns-then-is_empty-clause-spans : goal.returns-then-is_empty-clause-spans
 returns-then-is_empty-clause-spans c =
     let l = c.statements in
     let nothing : length c.split_at.result.1.now ≡ 0 = grind (arith, common_steps) in
-    batch.end_spans l.rest.now c.split_at.result.0.now c.split_at.result.1.now c.trivia-len.result.0 c.trivia-len.result.1 c.trivia-len.ensures.value c.split_at.ensures.front c.split_at.ensures.back
-    c.args.source.now c.part.result l.events.items c.push.new.self.items l.invariant.ends nothing c.part.ensures c.in_ok-push.ensures.items l.invariant.spans
+    batch.end_spans l.rest.now c.split_at.result.0.now c.split_at.result.1.now c.trivia-len.result.0 c.trivia-len.result.1
+    c.trivia-len.ensures.value c.split_at.ensures.front c.split_at.ensures.back
+    c.args.source.now c.part.result l.events.items c.push.new.self.items l.invariant.ends nothing c.part.ensures c.in_ok-push.ensures.items
+    l.invariant.spans
 
 pub returns-then-len-ge-BATCH_SIZE-clause-batch : goal.returns-then-len-ge-BATCH_SIZE-clause-batch
 returns-then-len-ge-BATCH_SIZE-clause-batch c ss final are last is =
     let l = c.statements in
     let whole = length c.args.source.now in
     let g = l.invariant.batch ss final are last is in
-    batch.batch_stops whole (whole - length c.args.s.now) ss final l.events.items l.rest.now g last c.split_at.result.0.now c.split_at.result.1.now c.trivia-len.result.0 c.trivia-len.result.1 c.trivia-len.ensures.value c.split_at.ensures.front c.split_at.ensures.back
+    batch.batch_stops whole (whole - length c.args.s.now) ss final l.events.items l.rest.now g last c.split_at.result.0.now
+    c.split_at.result.1.now c.trivia-len.result.0 c.trivia-len.result.1 c.trivia-len.ensures.value c.split_at.ensures.front
+    c.split_at.ensures.back
     (grind (arith, common_steps))
 
 pub returns-then-inside-clause-reads : goal.returns-then-inside-clause-reads
@@ -72,7 +81,10 @@ returns-then-inside-clause-reads c n h =
     let l = c.statements in
     let (k, room, read) = l.invariant.read n h in
     read
-    ∙ ap (preceded l.events.items) (loop.stops_inside (length c.args.source.now) l.rest.now (fits_in c.args.source.now l.rest.now l.invariant.ends) k room c.trivia-len.result.1 c.trivia-len.result.0 c.split_at.result.0.now c.split_at.result.1.now c.trivia-len.ensures.value c.split_at.ensures.front c.split_at.ensures.back (grind (arith, common_steps)) c.if-inside.true)
+    ∙ ap (preceded l.events.items) (loop.stops_inside (length c.args.source.now) l.rest.now
+    (fits_in c.args.source.now l.rest.now l.invariant.ends) k room c.trivia-len.result.1 c.trivia-len.result.0 c.split_at.result.0.now
+    c.split_at.result.1.now c.trivia-len.ensures.value c.split_at.ensures.front c.split_at.ensures.back (grind (arith, common_steps))
+    c.if-inside.true)
 
 pub returns-in_err-rest-clause-reads : goal.returns-in_err-rest-clause-reads
 returns-in_err-rest-clause-reads c n h =
@@ -83,9 +95,15 @@ returns-in_err-rest-clause-reads c n h =
     let new = c.statement.new.events.items in
     let leading = c.split_at.result.0.now in
     let tail = c.split_at.result.1.now in
-    let (m, more, turn) = loop.turns whole l.rest.now (fits_in c.args.source.now l.rest.now l.invariant.ends) k room c.trivia-len.result.1 c.trivia-len.result.0 leading tail c.trivia-len.ensures.value c.split_at.ensures.front c.split_at.ensures.back (grind (arith, common_steps)) c.if-inside.false in
+    let (m, more, turn) =
+    loop.turns whole l.rest.now (fits_in c.args.source.now l.rest.now l.invariant.ends) k room c.trivia-len.result.1
+    c.trivia-len.result.0 leading tail c.trivia-len.ensures.value c.split_at.ensures.front c.split_at.ensures.back (grind (
+      arith,
+      common_steps,
+    )) c.if-inside.false in
     batch.matches_err c.from_residual-in_err-rest.result why _ _ c.from_residual-in_err-rest.ensures.1
-    (subst (λ (r : Reading (List Event)). StopsAs new r why) (sym (read ∙ ap (preceded l.events.items) turn)) (stops new l.events.items (statement_read whole leading tail) (rest_read m whole) why c.in_err-rest.ensures.adds))
+    (subst (λ (r : Reading (List Event)). StopsAs new r why) (sym (read ∙ ap (preceded l.events.items) turn))
+    (stops new l.events.items (statement_read whole leading tail) (rest_read m whole) why c.in_err-rest.ensures.adds))
 
 pub returns-in_err-rest-clause-batch : goal.returns-in_err-rest-clause-batch
 returns-in_err-rest-clause-batch c ss final are last is =
@@ -97,7 +115,8 @@ returns-in_err-rest-clause-batch c ss final are last is =
     let g = l.invariant.batch ss final are last is in
     batch.matches_err c.from_residual-in_err-rest.result c.in_err-rest.field-0.0 _ _ c.from_residual-in_err-rest.ensures.1
     (λ deep-is any.
-    batch.batch_deep whole (whole - length c.args.s.now) ss final l.events.items l.rest.now g last leading tail c.trivia-len.result.0 c.trivia-len.result.1 c.trivia-len.ensures.value c.split_at.ensures.front c.split_at.ensures.back (grind (arith, common_steps))
+    batch.batch_deep whole (whole - length c.args.s.now) ss final l.events.items l.rest.now g last leading tail c.trivia-len.result.0
+    c.trivia-len.result.1 c.trivia-len.ensures.value c.split_at.ensures.front c.split_at.ensures.back (grind (arith, common_steps))
     new any (subst (StopsAs new (preceded l.events.items (statement_read whole leading tail))) deep-is c.in_err-rest.ensures.adds))
 
 pub returns-in_err-rest-clause-spans : goal.returns-in_err-rest-clause-spans
@@ -111,9 +130,12 @@ returns-in_err-rest-clause-spans c =
     let inside = c.trivia-len.result.1 in
     batch.matches_err c.from_residual-in_err-rest.result c.in_err-rest.field-0.0 _ _ c.from_residual-in_err-rest.ensures.1
     (λ deep-is.
-    batch.stopped c.args.source.now l.rest.now leading tail c.utf8.source l.invariant.ends (batch.both_parts l.rest.now leading tail n inside c.trivia-len.ensures.value c.split_at.ensures.front c.split_at.ensures.back)
-    (batch.leading_trivia l.rest.now leading tail n inside c.trivia-len.ensures.value c.split_at.ensures.front c.split_at.ensures.back c.if-inside.false)
-    l.events.items new l.invariant.spans (subst (StopsAs new (preceded l.events.items (statement_read whole leading tail))) deep-is c.in_err-rest.ensures.adds))
+    batch.stopped c.args.source.now l.rest.now leading tail c.utf8.source l.invariant.ends
+    (batch.both_parts l.rest.now leading tail n inside c.trivia-len.ensures.value c.split_at.ensures.front c.split_at.ensures.back)
+    (batch.leading_trivia l.rest.now leading tail n inside c.trivia-len.ensures.value c.split_at.ensures.front c.split_at.ensures.back
+    c.if-inside.false)
+    l.events.items new l.invariant.spans (subst (StopsAs new (preceded l.events.items (statement_read whole leading tail))) deep-is
+    c.in_err-rest.ensures.adds))
 
 pub statements-preserved : goal.statements-preserved
 statements-preserved c =
@@ -129,8 +151,10 @@ statements-preserved c =
     let new = c.statement.new.events.items in
     let next = c.in_ok-rest.rest.now in
     let (spans, ends) =
-    batch.took c.args.source.now l.rest.now leading tail c.utf8.source l.invariant.ends (batch.both_parts l.rest.now leading tail n inside c.trivia-len.ensures.value c.split_at.ensures.front c.split_at.ensures.back)
-    (batch.leading_trivia l.rest.now leading tail n inside c.trivia-len.ensures.value c.split_at.ensures.front c.split_at.ensures.back c.if-inside.false) l.events.items new next l.invariant.spans c.in_ok-rest.ensures.adds in
+    batch.took c.args.source.now l.rest.now leading tail c.utf8.source l.invariant.ends
+    (batch.both_parts l.rest.now leading tail n inside c.trivia-len.ensures.value c.split_at.ensures.front c.split_at.ensures.back)
+    (batch.leading_trivia l.rest.now leading tail n inside c.trivia-len.ensures.value c.split_at.ensures.front c.split_at.ensures.back
+    c.if-inside.false) l.events.items new next l.invariant.spans c.in_ok-rest.ensures.adds in
     record {
       utf8 = search rules;
       ends = ends;
@@ -138,10 +162,20 @@ statements-preserved c =
       less = λ _. omega (arith, l.invariant.shorter);
       read = λ m h.
           let (k, room, read) = l.invariant.read m h in
-          let (j, more, turn) = loop.turns whole l.rest.now (fits_in c.args.source.now l.rest.now l.invariant.ends) k room inside n leading tail c.trivia-len.ensures.value c.split_at.ensures.front c.split_at.ensures.back (grind (arith, common_steps)) c.if-inside.false in
-          (j, omega (arith, more), read ∙ ap (preceded l.events.items) turn ∙ goes l.events.items new (statement_read whole leading tail) next (rest_read j whole) c.in_ok-rest.ensures.adds);
+          let (j, more, turn) =
+          loop.turns whole l.rest.now (fits_in c.args.source.now l.rest.now l.invariant.ends) k room inside n leading tail
+          c.trivia-len.ensures.value c.split_at.ensures.front c.split_at.ensures.back (grind (arith, common_steps)) c.if-inside.false in (
+            j,
+            omega (arith, more),
+            read ∙ ap (preceded l.events.items) turn
+                ∙ goes l.events.items new (statement_read whole leading tail) next (rest_read j whole) c.in_ok-rest.ensures.adds,
+          );
       batch = λ ss final are last is.
-          batch.batch_goes whole (whole - length c.args.s.now) ss final l.events.items l.rest.now (l.invariant.batch ss final are last is) last leading tail n inside c.trivia-len.ensures.value c.split_at.ensures.front c.split_at.ensures.back (grind (arith, common_steps))
+          batch.batch_goes whole (whole - length c.args.s.now) ss final l.events.items l.rest.now (l.invariant.batch ss final are last is)
+          last leading tail n inside c.trivia-len.ensures.value c.split_at.ensures.front c.split_at.ensures.back (grind (
+            arith,
+            common_steps,
+          ))
           new next c.in_ok-rest.ensures.adds;
       spans = spans;
     }

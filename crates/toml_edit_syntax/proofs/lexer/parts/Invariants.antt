@@ -17,8 +17,11 @@ invariant-statements l = record {
   ends : EndsWith l.source l.rest;
   shorter : length l.rest ≤ length l.fn.s;
   less : 0 < length l.events.items → length l.rest < length l.fn.s;
-  read : (n : ℕ) → length l.fn.s < n → (k : ℕ) × (length l.rest < k) × (preceded l.fn.events.items (rest_read n (length l.source) l.fn.s) ≡ preceded l.events.items (rest_read k (length l.source) l.rest));
-  batch : (ss : List Statement) (final : Text) → AreStatements final ss → IsFinalTrivia final → l.fn.s ≡ joined (map statement_text ss) ++ final
+  read : (n : ℕ) → length l.fn.s < n → (k : ℕ) × (length l.rest < k)
+      × (preceded l.fn.events.items (rest_read n (length l.source) l.fn.s)
+      ≡ preceded l.events.items (rest_read k (length l.source) l.rest));
+  batch : (ss : List Statement) (final : Text) → AreStatements final ss → IsFinalTrivia final → l.fn.s ≡ joined (map statement_text ss)
+      ++ final
       → Gone (length l.source) (length l.source - length l.fn.s) ss final l.events.items l.rest;
   spans : AreSpans l.source l.events.items;
 }

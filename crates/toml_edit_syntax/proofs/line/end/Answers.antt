@@ -15,5 +15,6 @@ returns-clause-adds c =
     let rest = c.in-Some.rest.now in
     let found : newline_rest end ≡ Some rest = grind (arith, common_steps) in
     let pushed = added old c.push.new.self.items c.part.result _ c.in_ok-push.ensures.items c.part.ensures in
-    ap (preceded old) (end_found c.args.whole c.args.s.now end rest c.requires c.after_line_end-behind.ensures.within c.after_line_end-behind.ensures.rest found)
+    ap (preceded old) (end_found c.args.whole c.args.s.now end rest c.requires c.after_line_end-behind.ensures.within
+    c.after_line_end-behind.ensures.rest found)
     ∙ ap (λ (es : List Event). got es rest) (sym pushed)

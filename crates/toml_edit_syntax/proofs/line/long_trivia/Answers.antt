@@ -20,7 +20,8 @@ returns-in-None-clause-value c =
 pub returns-in-None-clause-boundary : goal.returns-in-None-clause-boundary
 returns-in-None-clause-boundary c =
     let within : c.bytes.at < length c.args.s.now = omega (arith, c.as_bytes-bytes.ensures.len) in
-    let stops : turn c.bytes.inside (get_or c.args.s.now c.bytes.at 0) (get_or c.args.s.now (c.bytes.at + 1) 0) ≡ None = grind (arith, common_steps) in
+    let stops : turn c.bytes.inside (get_or c.args.s.now c.bytes.at 0) (get_or c.args.s.now (c.bytes.at + 1) 0) ≡ None =
+    grind (arith, common_steps) in
     elim (cases_Bool c.bytes.inside) [
       | inl inside ↦ IsCharBoundary-before_ascii c.args.s.now c.bytes.at within (turn_stops _ _ (rw inside at stops))
       | inr outside ↦ c.bytes.invariant.boundary outside
@@ -30,11 +31,13 @@ pub bytes-preserved : goal.bytes-preserved
 bytes-preserved c =
     let s = c.args.s.now in
     let within : c.bytes.at < length s = omega (arith, c.as_bytes-bytes.ensures.len) in
-    let goes : turn c.bytes.inside (get_or s c.bytes.at 0) (get_or s (c.bytes.at + 1) 0) ≡ Some c.in-Some.state = grind (arith, common_steps) in
+    let goes : turn c.bytes.inside (get_or s c.bytes.at 0) (get_or s (c.bytes.at + 1) 0) ≡ Some c.in-Some.state =
+    grind (arith, common_steps) in
     let next = scan_goes _ c.bytes.inside c.in-Some.state s c.bytes.at within goes c.bytes.invariant.scanned in
     let len : c.comment_len-at.result ≡ passed c.in-Some.state (drop (c.bytes.at + 1) s) =
     c.comment_len-at.ensures.len
-    ∙ ap (passed c.in-Some.state) (take_rest c.as_bytes-bytes.result.now (c.bytes.at + 1) ∙ ap (λ (t : Text). drop (c.bytes.at + 1) t) c.as_bytes-bytes.ensures.value) in
+    ∙ ap (passed c.in-Some.state) (take_rest c.as_bytes-bytes.result.now (c.bytes.at + 1)
+    ∙ ap (λ (t : Text). drop (c.bytes.at + 1) t) c.as_bytes-bytes.ensures.value) in
     record {
       within = omega (arith, within, c.comment_len-at.ensures.within);
       scanned = skipped c.in-Some.state _ s (c.bytes.at + 1) c.comment_len-at.result len next;
@@ -45,4 +48,5 @@ bytes-preserved c =
 pub returns-clause-value : goal.returns-clause-value
 returns-clause-value c =
     let len : c.bytes.at ≡ length c.as_bytes-bytes.result.now = omega arith in
-    rw (← len) (sym (scan_ends _ c.bytes.inside c.args.s.now c.bytes.at (omega (arith, c.as_bytes-bytes.ensures.len)) c.bytes.invariant.scanned))
+    rw (← len) (sym (scan_ends _ c.bytes.inside c.args.s.now c.bytes.at (omega (arith, c.as_bytes-bytes.ensures.len))
+    c.bytes.invariant.scanned))

@@ -18,7 +18,8 @@ returns-in_err-rest c =
     let why = c.in_err-rest.field-0.0 in
     let n = 2 * length start + 2 in
     leaves_err new c.from_residual.result _ why _ c.from_residual.ensures.1 (λ y e. e)
-    (subst (λ (r : Reading (List Event)). StopsAs new r why) (sym (ap (preceded old) (lone_turn s c.split_run.result.0.now start c.split_run.ensures.parts c.split_run.ensures.lens)))
+    (subst (λ (r : Reading (List Event)). StopsAs new r why)
+    (sym (ap (preceded old) (lone_turn s c.split_run.result.0.now start c.split_run.ensures.parts c.split_run.ensures.lens)))
     (stops new old (value_read n 0 (length s) start) nothing_read why (c.in_err-rest.ensures.adds n (le_refl _))))
 
 pub returns-then-not-is_empty : goal.returns-then-not-is_empty

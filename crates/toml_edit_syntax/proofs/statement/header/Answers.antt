@@ -23,14 +23,20 @@ returns-in_err-rest-clause-adds c =
     let old = c.args.events.now.items in
     let why = c.in_err-rest.field-0.0 in
     let new = c.path.new.events.items in
-    let es = heads whole leading s c.requires.fits is_array inside before key c.opened-is_array.ensures.value c.opened-is_array.ensures.lens c.split_run.ensures.parts c.split_run.ensures.lens in
+    let es = heads whole leading s c.requires.fits is_array inside before key c.opened-is_array.ensures.value c.opened-is_array.ensures.lens
+    c.split_run.ensures.parts c.split_run.ensures.lens in
     let keyed = path_read (length key) whole [] key in
-    let pushed = added_three old c.push.new.self.items c.push-2.new.self.items c.push-3.new.self.items c.part.result c.part-2.result c.part-3.result _ _ _ c.in_ok-push.ensures.items c.in_ok-push-2.ensures.items c.in_ok-push-3.ensures.items c.part.ensures (c.part-2.ensures ∙ ap (λ (k : EventKind). between k (whole - length s) (whole - length inside)) c.opening.ensures) c.part-3.ensures in
-    let all = ap (preceded old) (header_turn whole leading s c.requires.fits is_array inside before key c.opened-is_array.ensures.value c.opened-is_array.ensures.lens c.split_run.ensures.parts c.split_run.ensures.lens)
+    let pushed = added_three old c.push.new.self.items c.push-2.new.self.items c.push-3.new.self.items c.part.result c.part-2.result
+    c.part-3.result _ _ _ c.in_ok-push.ensures.items c.in_ok-push-2.ensures.items c.in_ok-push-3.ensures.items c.part.ensures
+    (c.part-2.ensures ∙ ap (λ (k : EventKind). between k (whole - length s) (whole - length inside)) c.opening.ensures)
+    c.part-3.ensures in
+    let all = ap (preceded old) (header_turn whole leading s c.requires.fits is_array inside before key c.opened-is_array.ensures.value
+    c.opened-is_array.ensures.lens c.split_run.ensures.parts c.split_run.ensures.lens)
     ∙ preceded-twice old es (followed keyed (header_end_read whole is_array))
     ∙ ap (λ (x : List Event). preceded x (followed keyed (header_end_read whole is_array))) (sym pushed) in
     leaves_err new c.from_residual-in_err-rest.result _ why _ c.from_residual-in_err-rest.ensures.1 (λ y e. e)
-    (subst (λ (r : Reading (List Event)). StopsAs new r why) (sym all) (stops new c.push-3.new.self.items keyed (header_end_read whole is_array) why c.in_err-rest.ensures.adds))
+    (subst (λ (r : Reading (List Event)). StopsAs new r why) (sym all)
+    (stops new c.push-3.new.self.items keyed (header_end_read whole is_array) why c.in_err-rest.ensures.adds))
 
 pub returns-clause-adds : goal.returns-clause-adds
 returns-clause-adds c =
@@ -42,11 +48,17 @@ returns-clause-adds c =
     let before = c.split_run.result.0.now in
     let key = c.split_run.result.1.now in
     let old = c.args.events.now.items in
-    let es = heads whole leading s c.requires.fits is_array inside before key c.opened-is_array.ensures.value c.opened-is_array.ensures.lens c.split_run.ensures.parts c.split_run.ensures.lens in
+    let es = heads whole leading s c.requires.fits is_array inside before key c.opened-is_array.ensures.value c.opened-is_array.ensures.lens
+    c.split_run.ensures.parts c.split_run.ensures.lens in
     let keyed = path_read (length key) whole [] key in
-    let pushed = added_three old c.push.new.self.items c.push-2.new.self.items c.push-3.new.self.items c.part.result c.part-2.result c.part-3.result _ _ _ c.in_ok-push.ensures.items c.in_ok-push-2.ensures.items c.in_ok-push-3.ensures.items c.part.ensures (c.part-2.ensures ∙ ap (λ (k : EventKind). between k (whole - length s) (whole - length inside)) c.opening.ensures) c.part-3.ensures in
-    let all = ap (preceded old) (header_turn whole leading s c.requires.fits is_array inside before key c.opened-is_array.ensures.value c.opened-is_array.ensures.lens c.split_run.ensures.parts c.split_run.ensures.lens)
+    let pushed = added_three old c.push.new.self.items c.push-2.new.self.items c.push-3.new.self.items c.part.result c.part-2.result
+    c.part-3.result _ _ _ c.in_ok-push.ensures.items c.in_ok-push-2.ensures.items c.in_ok-push-3.ensures.items c.part.ensures
+    (c.part-2.ensures ∙ ap (λ (k : EventKind). between k (whole - length s) (whole - length inside)) c.opening.ensures)
+    c.part-3.ensures in
+    let all = ap (preceded old) (header_turn whole leading s c.requires.fits is_array inside before key c.opened-is_array.ensures.value
+    c.opened-is_array.ensures.lens c.split_run.ensures.parts c.split_run.ensures.lens)
     ∙ preceded-twice old es (followed keyed (header_end_read whole is_array))
     ∙ ap (λ (x : List Event). preceded x (followed keyed (header_end_read whole is_array))) (sym pushed)
-    ∙ goes c.push-3.new.self.items c.path.new.events.items keyed c.in_ok-rest.rest.now (header_end_read whole is_array) c.in_ok-rest.ensures.adds in
+    ∙ goes c.push-3.new.self.items c.path.new.events.items keyed c.in_ok-rest.rest.now (header_end_read whole is_array)
+    c.in_ok-rest.ensures.adds in
     subst (Leaves c.header_end.new.events.items c.header_end.result) (sym all) c.header_end.ensures.adds

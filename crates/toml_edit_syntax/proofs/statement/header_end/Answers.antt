@@ -14,7 +14,8 @@ pub returns-in_default-clause-adds : goal.returns-in_default-clause-adds
 returns-in_default-clause-adds c =
     let brackets = c.split_run.result.1.now in
     let none : closing_rest c.args.is_array brackets ≡ None = grind (arith, common_steps) in
-    ap (preceded c.args.events.now.items) (header_end_wrong c.args.whole c.args.is_array c.args.s.now c.split_run.result.0.now brackets c.requires c.split_run.ensures.parts none)
+    ap (preceded c.args.events.now.items) (header_end_wrong c.args.whole c.args.is_array c.args.s.now c.split_run.result.0.now brackets
+    c.requires c.split_run.ensures.parts none)
 
 pub returns-clause-adds : goal.returns-clause-adds
 returns-clause-adds c =
@@ -22,8 +23,10 @@ returns-clause-adds c =
     let rest = c.in-Some.rest.now in
     let brackets = c.split_run.result.1.now in
     let found : closing_rest c.args.is_array brackets ≡ Some rest = grind (arith, common_steps) in
-    let pushed = added_two old c.push.new.self.items c.push-2.new.self.items c.part.result c.part-2.result _ _ c.in_ok-push.ensures.items c.in_ok-push-2.ensures.items c.part.ensures c.part-2.ensures in
-    let all = ap (preceded old) (header_end_found c.args.whole c.args.is_array c.args.s.now c.split_run.result.0.now brackets c.requires c.split_run.ensures.parts rest found c.split_run.ensures.lens)
+    let pushed = added_two old c.push.new.self.items c.push-2.new.self.items c.part.result c.part-2.result _ _ c.in_ok-push.ensures.items
+    c.in_ok-push-2.ensures.items c.part.ensures c.part-2.ensures in
+    let all = ap (preceded old) (header_end_found c.args.whole c.args.is_array c.args.s.now c.split_run.result.0.now brackets c.requires
+    c.split_run.ensures.parts rest found c.split_run.ensures.lens)
     ∙ preceded-twice old _ (end_read c.args.whole rest)
     ∙ ap (λ (es : List Event). preceded es (end_read c.args.whole rest)) (sym pushed) in
     subst (Leaves c.end.new.events.items c.end.result) (sym all) c.end.ensures.adds

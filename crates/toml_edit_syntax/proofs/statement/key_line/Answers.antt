@@ -19,7 +19,8 @@ returns-in_err-text-clause-adds c =
     let why = c.in_err-text.field-0.0 in
     let after = λ (value : Text). followed (value_read (2 * length value + 2) 0 whole value) (end_read whole) in
     leaves_err new c.from_residual.result _ why _ c.from_residual.ensures.1 (λ y e. e)
-    (subst (λ (r : Reading (List Event)). StopsAs new r why) (sym (ap (preceded old) (key_line_turn whole c.args.leading.now c.args.s.now c.requires)))
+    (subst (λ (r : Reading (List Event)). StopsAs new r why)
+    (sym (ap (preceded old) (key_line_turn whole c.args.leading.now c.args.s.now c.requires)))
     (stops new old (frame_read whole c.args.leading.now c.args.s.now) after why c.in_err-text.ensures.adds))
 
 pub returns-in_err-rest-clause-adds : goal.returns-in_err-rest-clause-adds
@@ -31,10 +32,12 @@ returns-in_err-rest-clause-adds c =
     let text = c.in_ok-text.text.now in
     let why = c.in_err-rest.field-0.0 in
     let after = λ (value : Text). followed (value_read (2 * length value + 2) 0 whole value) (end_read whole) in
-    let all = ap (preceded old) (key_line_turn whole c.args.leading.now c.args.s.now c.requires) ∙ goes old fronted (frame_read whole c.args.leading.now c.args.s.now) text after c.in_ok-text.ensures.adds in
+    let all = ap (preceded old) (key_line_turn whole c.args.leading.now c.args.s.now c.requires)
+    ∙ goes old fronted (frame_read whole c.args.leading.now c.args.s.now) text after c.in_ok-text.ensures.adds in
     leaves_err new c.from_residual-in_err-rest.result _ why _ c.from_residual-in_err-rest.ensures.1 (λ y e. e)
     (subst (λ (r : Reading (List Event)). StopsAs new r why) (sym all)
-    (stops new fronted (value_read (2 * length text + 2) 0 whole text) (end_read whole) why (c.in_err-rest.ensures.adds (2 * length text + 2) (le_refl _))))
+    (stops new fronted (value_read (2 * length text + 2) 0 whole text) (end_read whole) why (c.in_err-rest.ensures.adds (2 * length text
+    + 2) (le_refl _))))
 
 pub returns-clause-adds : goal.returns-clause-adds
 returns-clause-adds c =
@@ -47,5 +50,6 @@ returns-clause-adds c =
     let after = λ (value : Text). followed (value_read (2 * length value + 2) 0 whole value) (end_read whole) in
     let all = ap (preceded old) (key_line_turn whole c.args.leading.now c.args.s.now c.requires)
     ∙ goes old fronted (frame_read whole c.args.leading.now c.args.s.now) text after c.in_ok-text.ensures.adds
-    ∙ goes fronted valued (value_read (2 * length text + 2) 0 whole text) rest (end_read whole) (c.in_ok-rest.ensures.adds (2 * length text + 2) (le_refl _)) in
+    ∙ goes fronted valued (value_read (2 * length text + 2) 0 whole text) rest (end_read whole) (c.in_ok-rest.ensures.adds (2 * length text
+    + 2) (le_refl _)) in
     subst (Leaves c.end.new.events.items c.end.result) (sym all) c.end.ensures.adds

@@ -10,9 +10,13 @@ use Rattle.toml_edit_syntax.proofs.statement.statement.Goals as goal
 pub returns-then-first-eq91-clause-adds : goal.returns-then-first-eq91-clause-adds
 returns-then-first-eq91-clause-adds c =
     let here : first c.args.s.now ≡ 0x5B = grind (arith, common_steps) in
-    subst (Leaves c.header.new.events.items c.header.result) (sym (ap (preceded c.args.events.now.items) (statement_header c.args.whole c.args.leading.now c.args.s.now c.requires here))) c.header.ensures.adds
+    subst (Leaves c.header.new.events.items c.header.result)
+    (sym (ap (preceded c.args.events.now.items) (statement_header c.args.whole c.args.leading.now c.args.s.now c.requires here)))
+    c.header.ensures.adds
 
 pub returns-else-first-eq91-clause-adds : goal.returns-else-first-eq91-clause-adds
 returns-else-first-eq91-clause-adds c =
     let other : first c.args.s.now ≢ 0x5B = grind (arith, common_steps) in
-    subst (Leaves c.key_line.new.events.items c.key_line.result) (sym (ap (preceded c.args.events.now.items) (statement_line c.args.whole c.args.leading.now c.args.s.now c.requires other))) c.key_line.ensures.adds
+    subst (Leaves c.key_line.new.events.items c.key_line.result)
+    (sym (ap (preceded c.args.events.now.items) (statement_line c.args.whole c.args.leading.now c.args.s.now c.requires other)))
+    c.key_line.ensures.adds

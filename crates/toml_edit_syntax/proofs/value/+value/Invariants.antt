@@ -17,7 +17,8 @@ invariant-items-items l = record {
   shorter : length l.rest ≤ length l.fn.s;
   behind : l.comma ≡ true → length l.rest < length l.fn.s;
   read : (n : ℕ) → 2 * length l.fn.s + 3 ≤ n → (k : ℕ) × (2 * length l.rest + 3 ≤ k)
-      × (preceded l.fn.events.items (items_read l.brackets n l.level l.whole false l.fn.s) ≡ preceded l.events.items (items_read l.brackets k l.level l.whole l.comma l.rest));
+      × (preceded l.fn.events.items (items_read l.brackets n l.level l.whole false l.fn.s)
+      ≡ preceded l.events.items (items_read l.brackets k l.level l.whole l.comma l.rest));
 }
 
 abbrev pub decreases-items-items : goal.decreases-items-items

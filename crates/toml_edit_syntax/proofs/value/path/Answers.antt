@@ -14,13 +14,23 @@ use Rattle.toml_edit_syntax.proofs.PathTurns.{path_wrong, path_ends, path_goes, 
 use Rattle.toml_edit_syntax.proofs.value.path.Goals as goal
 
 pub segments-init : goal.segments-init
-segments-init c = record { utf8 = search rules; shorter = le_refl _; before = []; fuel = length c.args.s.now; room = le_refl _; fits = omega (arith, c.requires); read = refl }
+segments-init c = record {
+  utf8 = search rules;
+  shorter = le_refl _;
+  before = [];
+  fuel = length c.args.s.now;
+  room = le_refl _;
+  fits =
+      omega (arith, c.requires);
+  read = refl;
+}
 
 pub returns-in_default-clause-adds : goal.returns-in_default-clause-adds
 returns-in_default-clause-adds c =
     let l = c.segments in
     let none : option_map (λ (p : Text × Text). p.1) (key_at l.rest.now) ≡ None = grind (arith, common_steps) in
-    l.invariant.read ∙ ap (preceded l.events.items) (path_wrong l.invariant.fuel c.args.whole l.invariant.before l.rest.now (map_none (key_at l.rest.now) (λ (p : Text × Text). p.1) none))
+    l.invariant.read ∙ ap (preceded l.events.items) (path_wrong l.invariant.fuel c.args.whole l.invariant.before l.rest.now
+    (map_none (key_at l.rest.now) (λ (p : Text × Text). p.1) none))
 
 pub returns-then-first-ne46-clause-adds : goal.returns-then-first-ne46-clause-adds
 returns-then-first-ne46-clause-adds c =
@@ -28,7 +38,8 @@ returns-then-first-ne46-clause-adds c =
     let end = c.in-Some.end.now in
     let found : option_map (λ (p : Text × Text). p.1) (key_at l.rest.now) ≡ Some end = grind (arith, common_steps) in
     let other : first c.split_run.result.1.now ≢ 46 = grind (arith, common_steps) in
-    let ended = path_ends l.invariant.fuel c.args.whole l.invariant.before l.rest.now end l.invariant.fits c.in-Some.ensures.within found c.split_run.result.0.now c.split_run.result.1.now c.split_run.ensures.parts l.invariant.room other in
+    let ended = path_ends l.invariant.fuel c.args.whole l.invariant.before l.rest.now end l.invariant.fits c.in-Some.ensures.within found
+    c.split_run.result.0.now c.split_run.result.1.now c.split_run.ensures.parts l.invariant.room other in
     let new = added l.events.items c.push.new.self.items c.part.result _ c.in_ok-push.ensures.items c.part.ensures in
     l.invariant.read ∙ ap (preceded l.events.items) ended ∙ ap (λ (es : List Event). got es end) (sym new)
 
@@ -44,9 +55,13 @@ segments-preserved c =
     let less : length after + length next + 1 ≡ length dot = omega (arith, c.split_run-in-segments.ensures.lens, c.skip.ensures.len) in
     let found : option_map (λ (p : Text × Text). p.1) (key_at l.rest.now) ≡ Some end = grind (arith, common_steps) in
     let here : first dot ≡ 46 = grind (arith, common_steps) in
-    let (m, is, went) = path_goes l.invariant.fuel c.args.whole l.invariant.before l.rest.now end l.invariant.fits within found c.split_run.result.0.now dot c.split_run.ensures.parts after next (c.split_run-in-segments.ensures.parts ∙ ap (split_while is_blank) c.skip.ensures.rest) lens less l.invariant.room here in
-    let new = added_three l.events.items c.push.new.self.items c.push-in-segments.new.self.items c.push-in-segments-2.new.self.items c.part.result c.part-in-segments.result c.part-in-segments-2.result _ _ _
-    c.in_ok-push.ensures.items c.in_ok-push-2.ensures.items c.in_ok-push-3.ensures.items c.part.ensures c.part-in-segments.ensures c.part-in-segments-2.ensures in
+    let (m, is, went) = path_goes l.invariant.fuel c.args.whole l.invariant.before l.rest.now end l.invariant.fits within found
+    c.split_run.result.0.now dot c.split_run.ensures.parts after next (c.split_run-in-segments.ensures.parts
+    ∙ ap (split_while is_blank) c.skip.ensures.rest) lens less l.invariant.room here in
+    let new = added_three l.events.items c.push.new.self.items c.push-in-segments.new.self.items c.push-in-segments-2.new.self.items
+    c.part.result c.part-in-segments.result c.part-in-segments-2.result _ _ _
+    c.in_ok-push.ensures.items c.in_ok-push-2.ensures.items c.in_ok-push-3.ensures.items c.part.ensures c.part-in-segments.ensures
+    c.part-in-segments-2.ensures in
     record {
       utf8 = search rules;
       shorter = omega (arith, l.invariant.shorter);
@@ -54,5 +69,6 @@ segments-preserved c =
       fuel = m;
       room = omega (arith, l.invariant.room);
       fits = omega (arith, l.invariant.fits);
-      read = l.invariant.read ∙ ap (preceded l.events.items) went ∙ preceded-twice l.events.items _ (path_read m c.args.whole after next) ∙ ap (λ (es : List Event). preceded es (path_read m c.args.whole after next)) (sym new);
+      read = l.invariant.read ∙ ap (preceded l.events.items) went ∙ preceded-twice l.events.items _ (path_read m c.args.whole after next)
+          ∙ ap (λ (es : List Event). preceded es (path_read m c.args.whole after next)) (sym new);
     }

@@ -13,7 +13,8 @@ invariant-segments l = record {
   fuel : ℕ;
   room : length l.rest ≤ fuel;
   fits : length before + length l.rest ≤ l.whole;
-  read : preceded l.fn.events.items (path_read (length l.fn.s) l.whole [] l.fn.s) ≡ preceded l.events.items (path_read fuel l.whole before l.rest);
+  read : preceded l.fn.events.items (path_read (length l.fn.s) l.whole [] l.fn.s)
+      ≡ preceded l.events.items (path_read fuel l.whole before l.rest);
 }
 
 abbrev pub decreases-segments : goal.decreases-segments

@@ -22,6 +22,7 @@ split_at-requires-then-is_solid-2 c =
 
 pub returns-then-is_solid-2-clause-value : goal.returns-then-is_solid-2-clause-value
 returns-then-is_solid-2-clause-value c =
-    let is_none = λ (next : ℕ). subst (λ b. turn false b next ≡ None) c.byte_at.ensures (c.is_solid-then-first-eq32.ensures next c.if-is_solid-2.true) in
+    let is_none = λ (next : ℕ). subst (λ b. turn false b next
+    ≡ None) c.byte_at.ensures (c.is_solid-then-first-eq32.ensures next c.if-is_solid-2.true) in
     let parts = c.split_at-then-is_solid-2.ensures in
     rw (parts.front, parts.back) (spaced_trivia c.args.s.now (sym c.first-2.ensures ∙ c.if-first-eq32.true) is_none)

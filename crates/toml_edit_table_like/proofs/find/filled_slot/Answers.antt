@@ -17,7 +17,8 @@ use Rattle.toml_edit_table_like.proofs.ShownLaws.{apart-shown, lookup_slot-of}
 use Rattle.toml_edit_table_like.proofs.find.filled_slot.Goals as goal
 
 -- by the slot of any kind
-found : (k : Text) (es : List (Slot Item)) (o : Option (Bor Key × Bor Item)) → model.AreApart (seen es) → option_map pair_read o ≡ model.lookup_slot k (seen es)
+found : (k : Text) (es : List (Slot Item)) (o : Option (Bor Key × Bor Item)) → model.AreApart (seen es) → option_map pair_read o
+    ≡ model.lookup_slot k (seen es)
     → get_slot k (shown es) ≡ option_and_then (passing is_item k) (option_map slot_read o)
 found k es o apart is =
     found-those is_item k (shown es) (apart-shown es apart)
@@ -30,14 +31,19 @@ found k es o apart is =
 pub returns-in_err-key : goal.returns-in_err-key
 returns-in_err-key c =
     ap (option_map slot_read) c.from_residual.ensures
-    ∙ sym (found c.args.key.now c.args.slots.now c.get_key_value.result c.get_key_value.ensures.apart c.get_key_value.ensures.slot ∙ ap (λ o. option_and_then (passing is_item c.args.key.now) (option_map slot_read o)) c.in_err-key.was)
+    ∙ sym (found c.args.key.now c.args.slots.now c.get_key_value.result c.get_key_value.ensures.apart c.get_key_value.ensures.slot
+    ∙ ap (λ o. option_and_then (passing is_item c.args.key.now) (option_map slot_read o)) c.in_err-key.was)
 
 pub returns-then-is_none : goal.returns-then-is_none
 returns-then-is_none c =
-    sym (found c.args.key.now c.args.slots.now c.get_key_value.result c.get_key_value.ensures.apart c.get_key_value.ensures.slot ∙ ap (λ o. option_and_then (passing is_item c.args.key.now) (option_map slot_read o)) c.in_ok-key.was
-    ∙ ap (λ b. cond b (Some (slot_read (c.in_ok-key.key, c.in_ok-key.item))) None) (sym (is_item-not _ _ c.is_none.ensures) ∙ ap not c.if-is_none.true))
+    sym (found c.args.key.now c.args.slots.now c.get_key_value.result c.get_key_value.ensures.apart c.get_key_value.ensures.slot
+    ∙ ap (λ o. option_and_then (passing is_item c.args.key.now) (option_map slot_read o)) c.in_ok-key.was
+    ∙ ap (λ b. cond b (Some (slot_read (c.in_ok-key.key, c.in_ok-key.item))) None) (sym (is_item-not _ _ c.is_none.ensures)
+    ∙ ap not c.if-is_none.true))
 
 pub returns-else-is_none : goal.returns-else-is_none
 returns-else-is_none c =
-    sym (found c.args.key.now c.args.slots.now c.get_key_value.result c.get_key_value.ensures.apart c.get_key_value.ensures.slot ∙ ap (λ o. option_and_then (passing is_item c.args.key.now) (option_map slot_read o)) c.in_ok-key.was
-    ∙ ap (λ b. cond b (Some (slot_read (c.in_ok-key.key, c.in_ok-key.item))) None) (sym (is_item-not _ _ c.is_none.ensures) ∙ ap not c.if-is_none.false))
+    sym (found c.args.key.now c.args.slots.now c.get_key_value.result c.get_key_value.ensures.apart c.get_key_value.ensures.slot
+    ∙ ap (λ o. option_and_then (passing is_item c.args.key.now) (option_map slot_read o)) c.in_ok-key.was
+    ∙ ap (λ b. cond b (Some (slot_read (c.in_ok-key.key, c.in_ok-key.item))) None) (sym (is_item-not _ _ c.is_none.ensures)
+    ∙ ap not c.if-is_none.false))

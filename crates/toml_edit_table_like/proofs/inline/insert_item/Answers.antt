@@ -15,7 +15,8 @@ pub returns-in-Ok-clause-old : goal.returns-in-Ok-clause-old
 returns-in-Ok-clause-old c =
     let t = c.args.table.now in
     c.old_value_item.ensures ∙ ap (λ o. option_and_then into_value (option_map item_view o)) c.in-Ok.ensures.old
-    ∙ sym (ap (old_value c.args.key.now) (inline_shows t) ∙ ap (option_and_then into_value) (lookup-shown c.args.key.now (out-InlineTable t).items))
+    ∙ sym (ap (old_value c.args.key.now) (inline_shows t)
+    ∙ ap (option_and_then into_value) (lookup-shown c.args.key.now (out-InlineTable t).items))
 
 pub returns-in-Ok-clause-slots : goal.returns-in-Ok-clause-slots
 returns-in-Ok-clause-slots c =
@@ -30,4 +31,5 @@ returns-in-Ok-clause-slots c =
 pub returns-in-Err-clause-present : goal.returns-in-Err-clause-present
 returns-in-Err-clause-present c h =
     let t = c.args.table.now in
-    c.in-Err.ensures.present (sym (ap (has_slot c.args.key.now) (inline_shows t) ∙ has_slot-shown c.args.key.now (out-InlineTable t).items) ∙ h)
+    c.in-Err.ensures.present (sym (ap (has_slot c.args.key.now) (inline_shows t) ∙ has_slot-shown c.args.key.now (out-InlineTable t).items)
+    ∙ h)

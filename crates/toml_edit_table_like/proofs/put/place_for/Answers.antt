@@ -8,7 +8,8 @@ use Rattle.toml_edit_tree.specs.View.{item_view}
 use Rattle.toml_edit_table_like.proofs.put.place_for.Goals as goal
 
 pub returns-in_default-clause-leaves : goal.returns-in_default-clause-leaves
-returns-in_default-clause-leaves c = put-leaves (new_key c.args.key.now) c.args.slots.now (apart-first c.args.slots.now c.as_slice-entries.ensures.apart)
+returns-in_default-clause-leaves c =
+    put-leaves (new_key c.args.key.now) c.args.slots.now (apart-first c.args.slots.now c.as_slice-entries.ensures.apart)
 
 pub returns-in_default-clause-present : goal.returns-in_default-clause-present
 returns-in_default-clause-present c h =
@@ -21,7 +22,8 @@ returns-in-Some-clause-item c =
     item-there (new_key c.args.key.now) c.args.slots.now c.in-Some.at at c.in-Some.ensures.within (item_view c.args.item)
 
 pub returns-in-Some-clause-leaves : goal.returns-in-Some-clause-leaves
-returns-in-Some-clause-leaves c = put-leaves (new_key c.args.key.now) c.args.slots.now (apart-first c.args.slots.now c.as_slice-entries.ensures.apart)
+returns-in-Some-clause-leaves c =
+    put-leaves (new_key c.args.key.now) c.args.slots.now (apart-first c.args.slots.now c.as_slice-entries.ensures.apart)
 
 pub returns-in-Ok-push-clause-item : goal.returns-in-Ok-push-clause-item
 returns-in-Ok-push-clause-item c =
@@ -29,7 +31,8 @@ returns-in-Ok-push-clause-item c =
     let es = c.args.slots.now in
     let none : place k.name es ≡ None = sym c.in-None.ensures.place in
     let left : c.push.new.self ≡ es ++ record { key = k; item = c.args.item } ∷ [] = search rules in
-    rw (left, c.len-at.ensures) (ap (option_map item_view) (item-last es (record { key = k; item = c.args.item })) ∙ item-gone k es none (item_view c.args.item))
+    rw (left, c.len-at.ensures) (ap (option_map item_view) (item-last es (record { key = k; item = c.args.item }))
+    ∙ item-gone k es none (item_view c.args.item))
 
 pub returns-in-Ok-push-clause-rest : goal.returns-in-Ok-push-clause-rest
 returns-in-Ok-push-clause-rest c w =
@@ -40,10 +43,12 @@ returns-in-Ok-push-clause-rest c w =
     rw (left, c.len-at.ensures) (with_item-last es (record { key = k; item = c.args.item }) w ∙ put-gone k es none w)
 
 pub returns-in-Ok-push-clause-leaves : goal.returns-in-Ok-push-clause-leaves
-returns-in-Ok-push-clause-leaves c = put-leaves (new_key c.args.key.now) c.args.slots.now (apart-first c.args.slots.now c.as_slice-entries.ensures.apart)
+returns-in-Ok-push-clause-leaves c =
+    put-leaves (new_key c.args.key.now) c.args.slots.now (apart-first c.args.slots.now c.as_slice-entries.ensures.apart)
 
 pub returns-in-Err-clause-leaves : goal.returns-in-Err-clause-leaves
-returns-in-Err-clause-leaves c = put-leaves (new_key c.args.key.now) c.args.slots.now (apart-first c.args.slots.now c.as_slice-entries.ensures.apart)
+returns-in-Err-clause-leaves c =
+    put-leaves (new_key c.args.key.now) c.args.slots.now (apart-first c.args.slots.now c.as_slice-entries.ensures.apart)
 
 pub returns-in-Err-clause-present : goal.returns-in-Err-clause-present
 returns-in-Err-clause-present c h =

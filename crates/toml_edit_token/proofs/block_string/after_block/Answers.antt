@@ -21,5 +21,6 @@ pieces-preserved c =
     let within = c.in_ok-piece.ensures.within in (
       search rules,
       omega (arith, l.invariant.1),
-      piece_goes c.in_ok-form.form _ l.invariant.2.0 l.rest.now c.in_ok-piece.next.now l.invariant.2.1 c.in_ok-piece.piece c.in_ok-piece.ensures.piece c.in_default.not-Last,
+      piece_goes c.in_ok-form.form _ l.invariant.2.0 l.rest.now c.in_ok-piece.next.now l.invariant.2.1 c.in_ok-piece.piece
+          c.in_ok-piece.ensures.piece c.in_default.not-Last,
     )

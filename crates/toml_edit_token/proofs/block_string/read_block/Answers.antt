@@ -15,7 +15,8 @@ returns-in_default c = sym (ap whole (unopened c.args.text.now c.in_default.ensu
 pub pieces-init : goal.pieces-init
 pieces-init c = (
   search rules,
-  rw c.in_ok-value.ensures.bytes (opened c.args.text.now c.in-Some.form c.in-Some.rest.now c.in-Some.ensures.value c.in-Some.ensures.within),
+  rw c.in_ok-value.ensures.bytes (opened c.args.text.now c.in-Some.form c.in-Some.rest.now c.in-Some.ensures.value
+      c.in-Some.ensures.within),
 )
 
 pub pieces-preserved-in_ok-push_str-in-Own : goal.pieces-preserved-in_ok-push_str-in-Own
@@ -25,7 +26,8 @@ pieces-preserved-in_ok-push_str-in-Own c =
       search rules,
       subst (λ (x : List ℕ). GoesOn c.in-Some.form (block_at c.args.text.now) x c.in-Some-next_piece.next.now) grown
           (own_goes c.in-Some.form _ (string_bytes l.value) l.rest.now c.in-Some-next_piece.next.now l.invariant.1 c.in-Own.own.now
-          (subst (λ (p : Piece). Next c.in-Some.form l.rest.now p c.in-Some-next_piece.next.now) c.in-Own.is c.in-Some-next_piece.ensures.piece)),
+          (subst (λ (p : Piece). Next c.in-Some.form l.rest.now p c.in-Some-next_piece.next.now) c.in-Own.is
+          c.in-Some-next_piece.ensures.piece)),
     )
 
 pub pieces-preserved-in_ok-push-in-Escaped-Some : goal.pieces-preserved-in_ok-push-in-Escaped-Some
@@ -36,6 +38,7 @@ pieces-preserved-in_ok-push-in-Escaped-Some c =
     let grown : string_bytes l.value ++ encode_utf8 c.in-Escaped-Some.c ≡ string_bytes c.push.new.self = grind (arith, common_steps) in (
       search rules,
       subst (λ (x : List ℕ). GoesOn c.in-Some.form (block_at c.args.text.now) x c.in-Some-next_piece.next.now) grown
-          (own_goes c.in-Some.form _ (string_bytes l.value) l.rest.now c.in-Some-next_piece.next.now l.invariant.1 (encode_utf8 c.in-Escaped-Some.c)
+          (own_goes c.in-Some.form _ (string_bytes l.value) l.rest.now c.in-Some-next_piece.next.now l.invariant.1
+          (encode_utf8 c.in-Escaped-Some.c)
           (subst (λ (p : Piece). Next c.in-Some.form l.rest.now p c.in-Some-next_piece.next.now) same c.in-Some-next_piece.ensures.piece)),
     )

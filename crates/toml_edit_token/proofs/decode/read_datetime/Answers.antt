@@ -4,4 +4,5 @@ use Rattle.toml_edit_token.proofs.Decoding.{datetime_read}
 use Rattle.toml_edit_token.proofs.decode.read_datetime.Goals as goal
 
 pub returns : goal.returns
-returns c = rw c.ok.ensures.value (datetime_read c.args.word.now datetime_view c.from_str.result c.from_str.ensures.spelled c.from_str.ensures.read)
+returns c = rw c.ok.ensures.value (datetime_read c.args.word.now datetime_view c.from_str.result c.from_str.ensures.spelled
+    c.from_str.ensures.read)

@@ -12,4 +12,5 @@ pub returns-then-is_word : goal.returns-then-is_word
 returns-then-is_word c =
     let t = c.args.text.now in
     let begins = sym (c.is_word.ensures ∙ ap is_word_byte c.first.ensures) ∙ c.if-is_word.true in
-    subst (λ (o : Option scalars.Scalar). IfOk c.read_word.result (λ r. option_map scalar_view r ≡ ranged t o)) (sym (word_whole t begins)) c.read_word.ensures
+    subst (λ (o : Option scalars.Scalar). IfOk c.read_word.result (λ r. option_map scalar_view r ≡ ranged t o)) (sym (word_whole t begins))
+    c.read_word.ensures

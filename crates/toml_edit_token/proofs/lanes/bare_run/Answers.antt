@@ -9,7 +9,9 @@ pub returns : goal.returns
 returns c =
     let v = chunk c.args.at 16 c.args.bytes.now in
     let long = length-chunk c.args.at 16 c.args.bytes.now c.requires in
-    let letters = joined (λ a b. cond (leb a b) 255 0) _ _ v (splat_is_map v 16 26 long) (joined _ _ _ v (zip2_splat {Y = ℕ} _ v 16 32 long) (splat_is_map v 16 97 long)) in
+    let letters = joined (λ a b. cond (leb a b) 255 0) _ _ v (splat_is_map v 16 26 long)
+    (joined _ _ _ v (zip2_splat {Y = ℕ} _ v 16 32 long) (splat_is_map v 16 97 long)) in
     let digits = joined (λ a b. cond (leb a b) 255 0) _ _ v (splat_is_map v 16 10 long) (zip2_splat {Y = ℕ} _ v 16 48 long) in
     passes_in is_bare_byte c.args.bytes.now c.args.at 16 _ _ c.requires (omega arith) c.type_inv.bytes c.first_set.ensures _
-    (joined bit_and _ _ v (joined bit_and _ _ v (joined bit_and _ _ v letters digits) (zip2_splat {Y = ℕ} _ v 16 45 long)) (zip2_splat {Y = ℕ} _ v 16 95 long)) refl
+    (joined bit_and _ _ v (joined bit_and _ _ v (joined bit_and _ _ v letters digits) (zip2_splat {Y = ℕ} _ v 16 45 long)) (zip2_splat {Y =
+    ℕ} _ v 16 95 long)) refl

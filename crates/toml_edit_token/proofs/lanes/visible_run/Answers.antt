@@ -9,4 +9,5 @@ pub returns : goal.returns
 returns c =
     let v = chunk c.args.at 16 c.args.bytes.now in
     let long = length-chunk c.args.at 16 c.args.bytes.now c.requires in
-    passes_in is_visible c.args.bytes.now c.args.at 16 _ _ c.requires (omega arith) c.type_inv.bytes c.first_set.ensures _ (joined _ _ _ v (joined _ _ _ v (zip2_splat _ v 16 32 long) (zip2_splat _ v 16 9 long)) (zip2_splat _ v 16 127 long)) refl
+    passes_in is_visible c.args.bytes.now c.args.at 16 _ _ c.requires (omega arith) c.type_inv.bytes c.first_set.ensures _
+    (joined _ _ _ v (joined _ _ _ v (zip2_splat _ v 16 32 long) (zip2_splat _ v 16 9 long)) (zip2_splat _ v 16 127 long)) refl

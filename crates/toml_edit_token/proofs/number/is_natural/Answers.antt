@@ -4,7 +4,9 @@ use Rattle.std.proofs.lemmas.Grind.{common_steps}
 use Rattle.std.specs.Char.{is_digit, digit_value}
 use Rattle.toml_edit_token.proofs.NumberLoop.{turn_digit, turn_under, turn_bad, turn_end, is_some_choice}
 use Rattle.toml_edit_token.proofs.number.is_natural.Goals as goal
-use Rattle.toml_edit_token.proofs.number.is_natural.Goals.{then-is_digit, else-is_digit+then-follows_digit+then-byte-eq95, else-follows_digit-via-then-follows_digit+else-byte-eq95, else-follows_digit-via-else-follows_digit}
+use Rattle.toml_edit_token.proofs.number.is_natural.Goals.{then-is_digit, else-is_digit+then-follows_digit+then-byte-eq95}
+use Rattle.toml_edit_token.proofs.number.is_natural.Goals.{else-follows_digit-via-then-follows_digit+else-byte-eq95}
+use Rattle.toml_edit_token.proofs.number.is_natural.Goals.{else-follows_digit-via-else-follows_digit}
 
 pub returns-else-follows_digit : goal.returns-else-follows_digit
 returns-else-follows_digit c =
@@ -33,7 +35,8 @@ digits-preserved c =
           (n * c.args.base + digit_value (get_or ds l.byte-index 0), rw w.follows_digit-is (sym turn ∙ read))
       | else-is_digit+then-follows_digit+then-byte-eq95 w ↦
           let other : is_digit (get_or ds l.byte-index 0) c.args.base ≡ false = grind (arith, common_steps) in
-          let turn = turn_under c.args.base l.follows_digit n ds l.byte-index c.digits-test.true other (grind (arith, common_steps)) (grind (arith, common_steps)) in
+          let turn = turn_under c.args.base l.follows_digit n ds l.byte-index c.digits-test.true other (grind (arith, common_steps))
+          (grind (arith, common_steps)) in
           (n, rw w.follows_digit-is (sym turn ∙ read))
     ]
 

@@ -5,7 +5,11 @@ use Rattle.std.proofs.lemmas.Bool.Decides.{nat_tests}
 use Rattle.std.specs.Char.{is_digit, digit_value}
 use Rattle.toml_edit_token.proofs.NumberLoop.{turn_digit, turn_under, turn_bad, turn_end, below_past, below_none, below_end}
 use Rattle.toml_edit_token.proofs.number.natural.Goals as goal
-use Rattle.toml_edit_token.proofs.number.natural.Goals.{in-Some+else-next-from, in-None+else-not-after_digit+else-byte-ne95, then-not-after_digit-via-then-not-after_digit, then-not-after_digit-via-else-not-after_digit+then-byte-ne95, else-after_digit-via-then-after_digit+else-value-limit, else-after_digit-via-else-after_digit}
+use Rattle.toml_edit_token.proofs.number.natural.Goals.{in-Some+else-next-from, in-None+else-not-after_digit+else-byte-ne95}
+use Rattle.toml_edit_token.proofs.number.natural.Goals.{then-not-after_digit-via-then-not-after_digit}
+use Rattle.toml_edit_token.proofs.number.natural.Goals.{then-not-after_digit-via-else-not-after_digit+then-byte-ne95}
+use Rattle.toml_edit_token.proofs.number.natural.Goals.{else-after_digit-via-then-after_digit+else-value-limit}
+use Rattle.toml_edit_token.proofs.number.natural.Goals.{else-after_digit-via-else-after_digit}
 
 pub overflow_mul-next : goal.overflow_mul-next
 overflow_mul-next c =
@@ -37,10 +41,12 @@ returns-then-not-after_digit-clause-value c =
     elim c.then-not-after_digit.branch [
       | then-not-after_digit-via-then-not-after_digit w ↦
           let other : l.after_digit ≡ true → get_or ds l.byte-index 0 ≡ 95 → ⊥ = λ a b. grind (arith, common_steps) in
-          sym (below_none c.args.base c.args.limit ds (sym l.invariant.read ∙ turn_bad c.args.base l.after_digit l.value ds l.byte-index c.digits-test.true other_byte other))
+          sym (below_none c.args.base c.args.limit ds (sym l.invariant.read
+          ∙ turn_bad c.args.base l.after_digit l.value ds l.byte-index c.digits-test.true other_byte other))
       | then-not-after_digit-via-else-not-after_digit+then-byte-ne95 w ↦
           let other : l.after_digit ≡ true → get_or ds l.byte-index 0 ≡ 95 → ⊥ = λ a b. grind (arith, common_steps) in
-          sym (below_none c.args.base c.args.limit ds (sym l.invariant.read ∙ turn_bad c.args.base l.after_digit l.value ds l.byte-index c.digits-test.true other_byte other))
+          sym (below_none c.args.base c.args.limit ds (sym l.invariant.read
+          ∙ turn_bad c.args.base l.after_digit l.value ds l.byte-index c.digits-test.true other_byte other))
     ]
 
 pub digits-preserved : goal.digits-preserved
@@ -54,7 +60,10 @@ digits-preserved c =
           record { small = grind (arith, common_steps); read = rw (w.value-is, w.after_digit-is) (grind (arith, common_steps)) }
       | in-None+else-not-after_digit+else-byte-ne95 w ↦
           let other_byte : is_digit (get_or ds l.byte-index 0) c.args.base ≡ false = grind (arith, nat_tests, common_steps) in
-          let turn = turn_under c.args.base l.after_digit l.value ds l.byte-index c.digits-test.true other_byte (grind (arith, common_steps)) (grind (arith, common_steps)) in
+          let turn = turn_under c.args.base l.after_digit l.value ds l.byte-index c.digits-test.true other_byte (grind (
+            arith,
+            common_steps,
+          )) (grind (arith, common_steps)) in
           record { small = grind (arith, common_steps); read = rw (w.value-is, w.after_digit-is) (grind (arith, common_steps)) }
     ]
 

@@ -7,4 +7,7 @@ use Rattle.toml_edit_token.proofs.run.blank_len.Goals as goal
 
 pub returns-then-not-is_blank-clause-len : goal.returns-then-not-is_blank-clause-len
 returns-then-not-is_blank-clause-len c =
-    sym (prefix_len_is is_blank c.args.bytes.now 0 0 (omega arith) (λ k before. absurd (omega arith)) (λ within. grind (arith, common_steps)))
+    sym (prefix_len_is is_blank c.args.bytes.now 0 0 (omega arith) (λ k before. absurd (omega arith)) (λ within. grind (
+      arith,
+      common_steps,
+    )))

@@ -12,4 +12,5 @@ returns-else-is_in-clause-len c =
 pub returns-after-loop-at-clause-len : goal.returns-after-loop-at-clause-len
 returns-after-loop-at-clause-len c =
     sym (prefix_len_is (class_test c.args.class) c.args.bytes.now c.loop-at.at 0 c.loop-at.invariant.0
-    (λ k before. c.loop-at.invariant.1 k (omega arith) before) (λ within. absurd (let past = c.loop-at-test.false in omega (arith, past, within))))
+    (λ k before. c.loop-at.invariant.1 k (omega arith) before) (λ within. absurd (let past = c.loop-at-test.false in
+    omega (arith, past, within))))

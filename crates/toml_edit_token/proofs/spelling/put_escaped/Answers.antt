@@ -2,7 +2,7 @@
 use Rattle.std.proofs.Common.{◌≡◌, ◌<◌, [], ◌++◌, length, refl, rules, arith}
 use Rattle.std.proofs.lemmas.Grind.{common_steps}
 use Rattle.toml_edit_model.specs.DefaultSpelling.{escaped_byte}
-use Rattle.toml_edit_stream.proofs.Puts.{put_none, put_two}
+use Rattle.toml_edit_io.proofs.Puts.{put_none, put_two}
 use Rattle.toml_edit_token.proofs.Escaping.{turn_stops, turn_ends, turn_goes, escaped_ascii}
 use Rattle.toml_edit_token.proofs.spelling.put_escaped.Goals as goal
 
@@ -14,7 +14,8 @@ returns-then-is_empty g c =
     let (_, done, wrote, more) = c.runs.invariant in
     let none : length c.split_run.result.1.now ≡ 0 = grind (arith, common_steps) in
     put_two _ _ _ _ _ _ wrote c.put.ensures
-    (turn_ends c.args.many_lines c.args.text.now done c.runs.rest.now c.split_run.result.0.now c.split_run.result.1.now more c.split_run.ensures.parts none)
+    (turn_ends c.args.many_lines c.args.text.now done c.runs.rest.now c.split_run.result.0.now c.split_run.result.1.now more
+    c.split_run.ensures.parts none)
 
 pub put_escape-requires : goal.put_escape-requires
 put_escape-requires g c =
@@ -30,7 +31,8 @@ pub runs-preserved : goal.runs-preserved
 runs-preserved g c =
     let (_, done, wrote, more) = c.runs.invariant in
     let some : 0 < length c.split_run.result.1.now = grind (arith, common_steps) in
-    let next = turn_goes c.args.many_lines c.args.text.now done c.runs.rest.now c.split_run.result.0.now c.split_run.result.1.now more c.split_run.ensures.parts some in (
+    let next = turn_goes c.args.many_lines c.args.text.now done c.runs.rest.now c.split_run.result.0.now c.split_run.result.1.now more
+    c.split_run.ensures.parts some in (
       search rules,
       (done ++ c.split_run.result.0.now) ++ escaped_byte c.args.many_lines c.first.result,
       put_two _ _ _ _ _ _ (put_two _ _ _ _ _ _ wrote c.put.ensures refl) c.put_escape.ensures refl,

@@ -14,7 +14,8 @@ pub returns-then-byte-eq34 : goal.returns-then-byte-eq34
 returns-then-byte-eq34 c n h =
     let l = c.parts in
     let quote : first c.split_run.result.1.now ≡ 34 = grind (arith, common_steps) in
-    let read = turn_ends n c.args.s.now _ l.rest.now c.split_run.result.0.now c.split_run.result.1.now (l.invariant.2 n h) c.split_run.ensures.parts quote in
+    let read = turn_ends n c.args.s.now _ l.rest.now c.split_run.result.0.now c.split_run.result.1.now (l.invariant.2 n h)
+    c.split_run.ensures.parts quote in
     elim c.if-is_empty.branch [
       | then-is_empty w ↦ sym (ap whole read ∙ grind (arith, common_steps))
       | else-is_empty w ↦ sym (ap whole read ∙ grind (arith, common_steps))
@@ -25,14 +26,16 @@ returns-then-byte-ne92 c n h =
     let l = c.parts in
     let quote : first c.split_run.result.1.now ≢ 34 = grind (arith, common_steps) in
     let escape : first c.split_run.result.1.now ≢ 92 = grind (arith, common_steps) in
-    sym (ap whole (turn_fails n c.args.s.now _ l.rest.now c.split_run.result.0.now c.split_run.result.1.now (l.invariant.2 n h) c.split_run.ensures.parts quote escape))
+    sym (ap whole (turn_fails n c.args.s.now _ l.rest.now c.split_run.result.0.now c.split_run.result.1.now (l.invariant.2 n h)
+    c.split_run.ensures.parts quote escape))
 
 pub returns-in_default : goal.returns-in_default
 returns-in_default c n h =
     let l = c.parts in
     let quote : first c.split_run.result.1.now ≢ 34 = grind (arith, common_steps) in
     let escape : first c.split_run.result.1.now ≡ 92 = grind (arith, common_steps) in
-    sym (ap whole (turn_bad n c.args.s.now _ l.rest.now c.split_run.result.0.now c.split_run.result.1.now (l.invariant.2 n h) c.split_run.ensures.parts quote escape
+    sym (ap whole (turn_bad n c.args.s.now _ l.rest.now c.split_run.result.0.now c.split_run.result.1.now (l.invariant.2 n h)
+    c.split_run.ensures.parts quote escape
     (rw (← c.skip-in-parts.ensures.rest) (sym c.in_default.ensures.value))))
 
 pub parts-preserved : goal.parts-preserved
@@ -46,8 +49,11 @@ parts-preserved c =
       search rules,
       omega (arith, l.invariant.1),
       λ n h.
-          let (m, room, read) = turn_goes n c.args.s.now _ l.rest.now c.split_run.result.0.now c.split_run.result.1.now (l.invariant.2 n h) c.split_run.ensures.parts c.in-Some.c c.in-Some.next.now quote escape
+          let (m, room, read) =
+          turn_goes n c.args.s.now _ l.rest.now c.split_run.result.0.now c.split_run.result.1.now (l.invariant.2 n h)
+          c.split_run.ensures.parts c.in-Some.c c.in-Some.next.now quote escape
           (rw (← c.skip-in-parts.ensures.rest) (sym c.in-Some.ensures.value)) in
-          let grown : (string_bytes l.value ++ c.split_run.result.0.now) ++ encode_utf8 c.in-Some.c ≡ string_bytes c.push.new.self = grind (arith, common_steps) in
+          let grown : (string_bytes l.value ++ c.split_run.result.0.now) ++ encode_utf8 c.in-Some.c ≡ string_bytes c.push.new.self =
+          grind (arith, common_steps) in
           (m, omega arith, subst (λ (x : List ℕ). basic_at n c.args.s.now ≡ prepend x (basic_at m c.in-Some.next.now)) grown read),
     )

@@ -27,7 +27,8 @@ make_items-make_inside-requires t c =
     let x = c.index_mut-item.result.now in
     let long = long_as item_view made_value items first at c.loop-at.invariant in
     let within : at < length items = omega (arith, long, c.len-at-end.ensures, c.loop-at-test.true) in
-    let here : get_or first at x ≡ x = sym (same item_view made_value items first at c.loop-at.invariant within x) ∙ sym c.index_mut-item.ensures.value in
+    let here : get_or first at x ≡ x = sym (same item_view made_value items first at c.loop-at.invariant within x)
+    ∙ sym c.index_mut-item.ensures.value in
     let first_within : at < length first = omega (arith, long, within) in
     let deep : size-Item x ≤ most item_depth first = rw (← here) (deepest_item first at x first_within) in
     omega (arith, deep)
@@ -41,7 +42,8 @@ make_items-loop-at-preserved t c =
     let long = long_as item_view made_value items first at c.loop-at.invariant in
     let within : at < length items = omega (arith, long, c.len-at-end.ensures, c.loop-at-test.true) in
     step item_view made_value items first at c.loop-at.invariant within x c.renew.new.item
-    (c.renew.ensures ∙ ap in_new_form c.make_inside.ensures ∙ made-inside (item_view x) ∙ ap (λ y. made_value (item_view y)) c.index_mut-item.ensures.value)
+    (c.renew.ensures ∙ ap in_new_form c.make_inside.ensures ∙ made-inside (item_view x)
+    ∙ ap (λ y. made_value (item_view y)) c.index_mut-item.ensures.value)
 
 pub make_items-returns : goal.make_items-returns
 make_items-returns t c =
@@ -96,4 +98,5 @@ make_slots-returns t c =
     let at = c.loop-at.at in
     let long = long_as (on_item item_view) made_slot es first at c.loop-at.invariant in
     let past : length es ≤ at = omega (arith, long, c.len-at-end.ensures, c.loop-at-test.false) in
-    ap tree_slots (finish (on_item item_view) made_slot es first at c.loop-at.invariant past) ∙ each-slot-made (map (on_item item_view) first)
+    ap tree_slots (finish (on_item item_view) made_slot es first at c.loop-at.invariant past)
+    ∙ each-slot-made (map (on_item item_view) first)

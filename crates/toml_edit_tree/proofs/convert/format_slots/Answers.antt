@@ -36,12 +36,18 @@ loop-at-preserved c =
     let long = long_as (on_item item_view) formatted_slot es first at c.loop-at.invariant in
     let within : at < length es = omega (arith, long, c.len-at-end.ensures, c.loop-at-test.true) in
     let there : x ≡ old.item = item-at es at no_slot x within c.item_mut.ensures.item in
-    let bare : item_view y ≡ with_decor unset (item_view old.item) = c.undecorate-is_value.ensures.item ∙ ap (λ z. with_decor unset (item_view z)) there in
+    let bare : item_view y ≡ with_decor unset (item_view old.item) = c.undecorate-is_value.ensures.item
+    ∙ ap (λ z. with_decor unset (item_view z)) there in
     let kind = sym (c.undecorate-is_value.ensures.kind ∙ ap (λ z. is_value_node (item_view z)) there) in
     elim c.if-is_value.branch [
       | then-is_value w ↦
-          rw w.slots-is (subst (λ l. Done (on_item item_view) formatted_slot l first (at + 1)) (sym (w.clear_decors.ensures ∙ keyed es at no_slot cleared_key y))
-          (step (on_item item_view) formatted_slot es first at c.loop-at.invariant within no_slot (record { key = cleared_key old.key; item = y })
+          rw w.slots-is (subst (λ l. Done (on_item item_view) formatted_slot l first (at + 1)) (sym (w.clear_decors.ensures
+          ∙ keyed es at no_slot cleared_key y))
+          (step (on_item item_view) formatted_slot es first at c.loop-at.invariant within no_slot (record {
+            key =
+                cleared_key old.key;
+            item = y;
+          })
           (slot-formatted old y true (kind ∙ w.if-is_value.true) bare)))
       | else-is_value w ↦
           rw w.slots-is (subst (λ l. Done (on_item item_view) formatted_slot l first (at + 1)) (sym (item-changed es at no_slot y))
@@ -56,4 +62,5 @@ returns c =
     let at = c.loop-at.at in
     let long = long_as (on_item item_view) formatted_slot es first at c.loop-at.invariant in
     let past : length es ≤ at = omega (arith, long, c.len-at-end.ensures, c.loop-at-test.false) in
-    ap tree_slots (finish (on_item item_view) formatted_slot es first at c.loop-at.invariant past) ∙ formatted-slots (map (on_item item_view) first)
+    ap tree_slots (finish (on_item item_view) formatted_slot es first at c.loop-at.invariant past)
+    ∙ formatted-slots (map (on_item item_view) first)

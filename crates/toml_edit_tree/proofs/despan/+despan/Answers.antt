@@ -1,7 +1,8 @@
 -- Each place in owned form.
 use mathlib.Core.Logic.{∥∥₁_map}
 use denote.Param.Weighed.{most}
-use Rattle.std.proofs.Common.{◌≡◌, ◌<◌, ◌≤◌, ◌+◌, ℤ, Bool, String, string_bytes, Option, Some, length, map, get_or, set, slice_get, option_map, arith, sym, ap, subst, ◌∙◌}
+use Rattle.std.proofs.Common.{◌≡◌, ◌<◌, ◌≤◌, ◌+◌, ℤ, Bool, String, string_bytes, Option, Some, length, map, get_or, set, slice_get}
+use Rattle.std.proofs.Common.{option_map, arith, sym, ap, subst, ◌∙◌}
 use Rattle.std.specs.declared.alloc.Global.{Global}
 use Rattle.toml_edit_model.specs.Scalars.{Scalar, string, integer, float, boolean, datetime}
 use Rattle.toml_edit_model.specs.Spelling.{SpellsInRange, SpellsKey}
@@ -16,7 +17,9 @@ use Rattle.toml_edit_model.specs.Lists.{items_from}
 use Rattle.toml_edit_tree.specs.declared.item.Item.{size-Item}
 use Rattle.toml_edit_tree.specs.declared.value.Value.{Value}
 use Rattle.toml_edit_tree.specs.View.{item_view, value_view}
-use Rattle.toml_edit_tree.proofs.DespanLaws.{both-changed, deepest, deepest_item, item_depth, item-fits, item-spelled, item-there, key-spelled, no_slot, owned-items, owned-slots, owned_slot, slot-fits, slot-spelled, slot-there, slot_depth}
+use Rattle.toml_edit_tree.proofs.DespanLaws.{both-changed, deepest, deepest_item, item_depth, item-fits, item-spelled, item-there}
+use Rattle.toml_edit_tree.proofs.DespanLaws.{key-spelled, no_slot, owned-items, owned-slots, owned_slot, slot-fits, slot-spelled}
+use Rattle.toml_edit_tree.proofs.DespanLaws.{slot-there, slot_depth}
 use Rattle.toml_edit_tree.proofs.InPlace.{Done, finish, long_as, none_done, same, step}
 use Rattle.toml_edit_tree.proofs.ViewLaws.{view-Boolean, view-Datetime, view-Float, view-Integer, view-String}
 use Rattle.toml_edit_tree.proofs.despan.+despan.Goals as goal
@@ -36,7 +39,8 @@ despan_items-despan_item-requires t c =
     let x = c.index_mut.result.now in
     let long = long_as item_view (owned_node s) items first at c.loop-at.invariant in
     let within : at < length items = omega (arith, long, c.len-at-end.ensures, c.loop-at-test.true) in
-    let here : get_or first at x ≡ x = sym (same item_view (owned_node s) items first at c.loop-at.invariant within x) ∙ sym c.index_mut.ensures.value in
+    let here : get_or first at x ≡ x = sym (same item_view (owned_node s) items first at c.loop-at.invariant within x)
+    ∙ sym c.index_mut.ensures.value in
     let first_within : at < length first = omega (arith, long, within) in
     let deep : size-Item x ≤ most item_depth first = rw (← here) (deepest_item first at x first_within) in (
       omega (arith, c.requires.1.0, deep),
@@ -110,7 +114,8 @@ despan_slots-despan_item-requires t c =
     let long = long_as (on_item item_view) (owned_slot s) es first at c.loop-at.invariant in
     let within : at < length es = omega (arith, long, c.len-at-end.ensures, c.loop-at-test.true) in
     let there : x ≡ (get_or es at no_slot).item =
-    item-there es at no_slot (owned_key s) x within (subst (λ ks. Some x ≡ slice_get (items_of ks) at) c.in_ok-despan_key.ensures.ok c.item_mut-item.ensures.item) in
+    item-there es at no_slot (owned_key s) x within (subst (λ ks. Some x
+    ≡ slice_get (items_of ks) at) c.in_ok-despan_key.ensures.ok c.item_mut-item.ensures.item) in
     let here : (get_or first at no_slot).item ≡ x =
     ap (λ y. y.item) (sym (same (on_item item_view) (owned_slot s) es first at c.loop-at.invariant within no_slot)) ∙ sym there in
     let first_within : at < length first = omega (arith, long, within) in
@@ -134,7 +139,8 @@ despan_slots-loop-at-preserved t c =
     let long = long_as (on_item item_view) (owned_slot s) es first at c.loop-at.invariant in
     let within : at < length es = omega (arith, long, c.len-at-end.ensures, c.loop-at-test.true) in
     let there : x ≡ old.item =
-    item-there es at no_slot (owned_key s) x within (subst (λ ks. Some x ≡ slice_get (items_of ks) at) c.in_ok-despan_key.ensures.ok c.item_mut-item.ensures.item) in
+    item-there es at no_slot (owned_key s) x within (subst (λ ks. Some x
+    ≡ slice_get (items_of ks) at) c.in_ok-despan_key.ensures.ok c.item_mut-item.ensures.item) in
     let made : item_view y ≡ owned_node s (item_view old.item) = c.in_ok-despan_item.ensures ∙ ap (λ z. owned_node s (item_view z)) there in
     let put : with_item at y c.despan_key.new.self ≡ set es at (record { key = owned_key s old.key; item = y }) =
     ap (with_item at y) c.in_ok-despan_key.ensures.ok ∙ both-changed es at no_slot (owned_key s) y in
@@ -150,7 +156,8 @@ despan_slots-returns t c =
     let at = c.loop-at.at in
     let long = long_as (on_item item_view) (owned_slot s) es first at c.loop-at.invariant in
     let past : length es ≤ at = omega (arith, long, c.len-at-end.ensures, c.loop-at-test.false) in
-    ap tree_slots (finish (on_item item_view) (owned_slot s) es first at c.loop-at.invariant past) ∙ owned-slots s (map (on_item item_view) first)
+    ap tree_slots (finish (on_item item_view) (owned_slot s) es first at c.loop-at.invariant past)
+    ∙ owned-slots s (map (on_item item_view) first)
 
 -- ---- scalars
 
@@ -162,7 +169,8 @@ spelled t v s spelling d is made = ∥∥₁_map (subst (λ n. ∥ IsWellMade (o
 pub despan_value-despan-requires-clause-spelled : goal.despan_value-despan-requires-clause-spelled
 despan_value-despan-requires-clause-spelled t c =
     let s = c.args.source.now in
-    let P : FormattedView (String Global) → Type 0 = λ f. ∥ HasTrueSpelling (SpellsInRange (string (string_bytes f.value))) (option_map (owned_raw s) f.repr) ∥₁ in
+    let P : FormattedView (String Global) → Type 0 =
+    λ f. ∥ HasTrueSpelling (SpellsInRange (string (string_bytes f.value))) (option_map (owned_raw s) f.repr) ∥₁ in
     subst P (sym c.in-String.scalar-is)
     (spelled s c.args.value.now _ _ _ (ap value_view c.in-String.is ∙ view-String c.in-String.scalar) c.requires.1.1.1)
 
@@ -190,6 +198,7 @@ despan_value-despan-requires-in-Boolean-clause-spelled t c =
 pub despan_value-despan-requires-in-Datetime-clause-spelled : goal.despan_value-despan-requires-in-Datetime-clause-spelled
 despan_value-despan-requires-in-Datetime-clause-spelled t c =
     let s = c.args.source.now in
-    let P : FormattedView (code.Datetime) → Type 0 = λ f. ∥ HasTrueSpelling (SpellsInRange (datetime (datetime_view f.value))) (option_map (owned_raw s) f.repr) ∥₁ in
+    let P : FormattedView (code.Datetime) → Type 0 =
+    λ f. ∥ HasTrueSpelling (SpellsInRange (datetime (datetime_view f.value))) (option_map (owned_raw s) f.repr) ∥₁ in
     subst P (sym c.in-Datetime.scalar-is)
     (spelled s c.args.value.now _ _ _ (ap value_view c.in-Datetime.is ∙ view-Datetime c.in-Datetime.scalar) c.requires.1.1.1)

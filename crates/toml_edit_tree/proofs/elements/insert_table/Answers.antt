@@ -13,4 +13,5 @@ insert-requires c = subst (λ n. c.args.at ≤ n) (listed-length c.args.items.no
 pub returns-in-Ok-clause-items : goal.returns-in-Ok-clause-items
 returns-in-Ok-clause-items c =
     let xs = c.args.items.now.items in
-    ap listed c.in-Ok.ensures.items ∙ inserted-listed xs c.args.at (items.Table c.args.table) ∙ ap (λ n. inserted_at c.args.at n (listed xs)) (view-Table c.args.table)
+    ap listed c.in-Ok.ensures.items ∙ inserted-listed xs c.args.at (items.Table c.args.table)
+    ∙ ap (λ n. inserted_at c.args.at n (listed xs)) (view-Table c.args.table)

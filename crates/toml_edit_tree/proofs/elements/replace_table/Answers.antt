@@ -13,10 +13,13 @@ use Rattle.toml_edit_tree.proofs.ViewLaws.{view-Table}
 use Rattle.toml_edit_tree.proofs.elements.replace_table.Goals as goal
 
 pub replace-requires : goal.replace-requires
-replace-requires c = stands-at table_held (λ t. table_node (table_view t)) is_table_node table-seen c.args.items.now.items c.args.at c.requires
+replace-requires c =
+    stands-at table_held (λ t. table_node (table_view t)) is_table_node table-seen c.args.items.now.items c.args.at c.requires
 
 pub returns-clause-table : goal.returns-clause-table
-returns-clause-table c = found-at table_held (λ t. table_node (table_view t)) is_table_node table-seen c.args.items.now.items c.args.at c.replace.result c.replace.ensures.element
+returns-clause-table c =
+    found-at table_held (λ t. table_node (table_view t)) is_table_node table-seen c.args.items.now.items c.args.at c.replace.result
+    c.replace.ensures.element
 
 pub returns-clause-items : goal.returns-clause-items
 returns-clause-items c =

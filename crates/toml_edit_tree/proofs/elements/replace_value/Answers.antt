@@ -15,7 +15,8 @@ pub replace-requires : goal.replace-requires
 replace-requires c = stands-at value_held value_view is_value_node value-seen c.args.items.now.items c.args.at c.requires
 
 pub returns-clause-value : goal.returns-clause-value
-returns-clause-value c = found-at value_held value_view is_value_node value-seen c.args.items.now.items c.args.at c.replace.result c.replace.ensures.element
+returns-clause-value c =
+    found-at value_held value_view is_value_node value-seen c.args.items.now.items c.args.at c.replace.result c.replace.ensures.element
 
 pub returns-clause-items : goal.returns-clause-items
 returns-clause-items c =

@@ -10,10 +10,13 @@ use Rattle.toml_edit_tree.proofs.HoldsLaws.{found-at, stands-at, table-seen}
 use Rattle.toml_edit_tree.proofs.elements.take_table.Goals as goal
 
 pub remove-requires : goal.remove-requires
-remove-requires c = stands-at table_held (λ t. table_node (table_view t)) is_table_node table-seen c.args.items.now.items c.args.at c.requires
+remove-requires c = stands-at table_held (λ t. table_node (table_view t)) is_table_node table-seen c.args.items.now.items c.args.at
+    c.requires
 
 pub returns-clause-table : goal.returns-clause-table
-returns-clause-table c = found-at table_held (λ t. table_node (table_view t)) is_table_node table-seen c.args.items.now.items c.args.at c.remove.result c.remove.ensures.element
+returns-clause-table c =
+    found-at table_held (λ t. table_node (table_view t)) is_table_node table-seen c.args.items.now.items c.args.at c.remove.result
+    c.remove.ensures.element
 
 pub returns-clause-items : goal.returns-clause-items
 returns-clause-items c = ap listed c.remove.ensures.items ∙ removed-listed c.args.items.now.items c.args.at

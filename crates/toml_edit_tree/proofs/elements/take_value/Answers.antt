@@ -12,7 +12,8 @@ pub remove-requires : goal.remove-requires
 remove-requires c = stands-at value_held value_view is_value_node value-seen c.args.items.now.items c.args.at c.requires
 
 pub returns-clause-value : goal.returns-clause-value
-returns-clause-value c = found-at value_held value_view is_value_node value-seen c.args.items.now.items c.args.at c.remove.result c.remove.ensures.element
+returns-clause-value c =
+    found-at value_held value_view is_value_node value-seen c.args.items.now.items c.args.at c.remove.result c.remove.ensures.element
 
 pub returns-clause-items : goal.returns-clause-items
 returns-clause-items c = ap listed c.remove.ensures.items ∙ removed-listed c.args.items.now.items c.args.at

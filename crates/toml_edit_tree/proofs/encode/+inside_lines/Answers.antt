@@ -1,7 +1,7 @@
 -- Each turn puts the lines of a slot.
 use Rattle.std.proofs.Common.{refl, ◌<◌, [], ◌∷◌, ◌++◌, length, sym, arith}
 use Rattle.toml_edit_repr.specs.Modes.{mode_of}
-use Rattle.toml_edit_stream.proofs.Puts.{put_none, put_same, put_two}
+use Rattle.toml_edit_io.proofs.Puts.{put_none, put_same, put_two}
 use Rattle.toml_edit_tree.specs.Printing.{keys_on, lines_of_item, lines_text}
 use Rattle.toml_edit_tree.specs.View.{item_view, value_view}
 use Rattle.toml_edit_tree.proofs.PairTextLaws.{line-shown}
@@ -30,10 +30,12 @@ pub put_value_lines-returns-else-table : goal.put_value_lines-returns-else-table
 put_value_lines-returns-else-table g t c =
     let v = c.args.value.now in
     let alone = braced-line v c.in-InlineTable.table c.in-InlineTable.is c.if-table.false in
-    put_same _ _ _ _ c.put_line.ensures (sym (line-shown (mode_of c.args.mode) (keys_on c.args.path.now) c.args.key.now (value_view v) alone))
+    put_same _ _ _ _ c.put_line.ensures (sym (line-shown (mode_of c.args.mode) (keys_on c.args.path.now) c.args.key.now (value_view v)
+    alone))
 
 pub put_value_lines-returns-in_default : goal.put_value_lines-returns-in_default
 put_value_lines-returns-in_default g t c =
     let v = c.args.value.now in
     let alone = other-line v c.in_default.not-InlineTable in
-    put_same _ _ _ _ c.put_line-in_default.ensures (sym (line-shown (mode_of c.args.mode) (keys_on c.args.path.now) c.args.key.now (value_view v) alone))
+    put_same _ _ _ _ c.put_line-in_default.ensures (sym
+    (line-shown (mode_of c.args.mode) (keys_on c.args.path.now) c.args.key.now (value_view v) alone))

@@ -10,4 +10,5 @@ use Rattle.toml_edit_tree.proofs.encode.+inside_lines.Given as goal
 abbrev pub invariant-put_inside_lines-slots : goal.invariant-put_inside_lines-slots
 invariant-put_inside_lines-slots g l =
     (done : List ℕ) × WritesInCalls g.S.Sink.puts l.initial.out done l.out
-    × (done ++ lines_text (mode_of l.mode) (inside_lines (mode_of l.mode) (slots_view (drop l.slot-index l.entries)) (keys_on l.path)) ≡ lines_text (mode_of l.mode) (inside_lines (mode_of l.mode) (slots_view l.entries) (keys_on l.path)))
+    × (done ++ lines_text (mode_of l.mode) (inside_lines (mode_of l.mode) (slots_view (drop l.slot-index l.entries)) (keys_on l.path))
+    ≡ lines_text (mode_of l.mode) (inside_lines (mode_of l.mode) (slots_view l.entries) (keys_on l.path)))

@@ -1,7 +1,7 @@
 -- Each turn puts the lines of a slot.
 use Rattle.std.proofs.Common.{refl, ◌<◌, [], ◌∷◌, ◌++◌, length, arith}
 use Rattle.toml_edit_repr.specs.Modes.{mode_of}
-use Rattle.toml_edit_stream.proofs.Puts.{put_none, put_two}
+use Rattle.toml_edit_io.proofs.Puts.{put_none, put_two}
 use Rattle.toml_edit_tree.specs.Printing.{keys_on, lines_in_table, lines_text}
 use Rattle.toml_edit_tree.specs.View.{item_view}
 use Rattle.toml_edit_tree.proofs.TurnLaws.{table-turn}

@@ -2,7 +2,7 @@
 use Rattle.std.proofs.Common.{◌<◌, ◌≤◌, true, [], ◌∷◌, ◌++◌, Some, length, refl, sym, ap, ◌∙◌, arith}
 use Rattle.std.specs.Option.{option_copied}
 use Rattle.toml_edit_repr.specs.Modes.{mode_of}
-use Rattle.toml_edit_stream.proofs.Puts.{put_none, put_same, put_two, put_four, put_five}
+use Rattle.toml_edit_io.proofs.Puts.{put_none, put_same, put_two, put_four, put_five}
 use Rattle.toml_edit_tree.specs.Printing.{element_text, items_text, keys_on, lines_of_item, pairs_shown}
 use Rattle.toml_edit_tree.specs.View.{item_view, items_view, value_view}
 use Rattle.toml_edit_tree.proofs.PairTextLaws.{pair-last, pair-shown}
@@ -13,7 +13,8 @@ use Rattle.toml_edit_tree.proofs.encode.+print.Goals.{put_items-in-Value, put_it
 
 pub put_array_text-returns : goal.put_array_text-returns
 put_array_text-returns g t c =
-    put_four _ _ _ _ _ _ _ _ _ _ c.put.ensures c.put_items.ensures c.put_raw.ensures c.put-2.ensures (array-text (mode_of c.args.mode) c.args.array.now)
+    put_four _ _ _ _ _ _ _ _ _ _ c.put.ensures c.put_items.ensures c.put_raw.ensures c.put-2.ensures
+    (array-text (mode_of c.args.mode) c.args.array.now)
 
 -- the items
 pub put_items-items-init : goal.put_items-items-init
@@ -32,10 +33,16 @@ put_items-items-preserved g t c =
           rw (w.out-is, w.is_first-is) (
             done ++ element_text (mode_of c.args.mode) c.items.is_first (value_view w.in-Value.value),
             put_two _ _ _ _ _ _ wrote w.put_element.ensures refl,
-            value-turn (mode_of c.args.mode) c.args.comma c.items.is_first xs i x below c.item-item.is done all more w.in-Value.value w.in-Value.is,
+            value-turn (mode_of c.args.mode) c.args.comma c.items.is_first xs i x below c.item-item.is done all more w.in-Value.value
+                w.in-Value.is,
           )
       | put_items-in_default w ↦
-          rw (w.out-is, w.is_first-is) (done, wrote, other-turn (mode_of c.args.mode) c.args.comma c.items.is_first xs i x below c.item-item.is done all more w.in_default.not-Value)
+          rw (w.out-is, w.is_first-is) (
+            done,
+            wrote,
+            other-turn (mode_of c.args.mode) c.args.comma c.items.is_first xs i x below
+                c.item-item.is done all more w.in_default.not-Value,
+          )
     ]
 
 pub put_items-returns : goal.put_items-returns
@@ -43,7 +50,8 @@ put_items-returns g t c =
     let (done, wrote, more) = c.items.invariant in
     let xs = c.deref-item-items.result.now in
     let past : length xs ≤ c.items.item-index = omega arith in
-    let all = items-end (mode_of c.args.mode) c.args.comma c.items.is_first xs c.items.item-index past done (items_text (mode_of c.args.mode) c.args.comma true (items_view xs)) more in
+    let all = items-end (mode_of c.args.mode) c.args.comma c.items.is_first xs c.items.item-index past done
+    (items_text (mode_of c.args.mode) c.args.comma true (items_view xs)) more in
     put_two _ _ _ _ _ _ wrote c.put_last_comma.ensures
     (all ∙ ap (λ ys. items_text (mode_of c.args.mode) c.args.comma true (items_view ys)) c.deref-item-items.ensures.value)
 
@@ -67,7 +75,8 @@ put_pairs-slots-preserved g t c =
     let below : i < length es = omega arith in
     let (done, wrote, more) = c.slots.invariant.puts in
     record {
-      last = last-turn (mode_of c.args.mode) es i s below c.slot-item.is ks before next c.put_item_pairs-last.ensures.last _ c.slots.invariant.last;
+      last = last-turn (mode_of c.args.mode) es i s below c.slot-item.is ks before next c.put_item_pairs-last.ensures.last _
+          c.slots.invariant.last;
       puts = (
         done ++ pairs_shown (mode_of c.args.mode) before (lines_of_item (mode_of c.args.mode) (item_view s.item) (ks ++ (s.key ∷ []))),
         put_two _ _ _ _ _ _ wrote c.put_item_pairs-last.ensures.text refl,
@@ -80,7 +89,8 @@ pub put_value_pairs-returns-else-table-clause-text : goal.put_value_pairs-return
 put_value_pairs-returns-else-table-clause-text g t c =
     let v = c.args.value.now in
     let alone = braced-line v c.in-InlineTable.table c.in-InlineTable.is c.if-table.false in
-    put_same _ _ _ _ c.put_pair.ensures (sym (pair-shown (mode_of c.args.mode) (keys_on c.args.path.now) c.args.key.now (value_view v) alone (option_copied c.args.before)))
+    put_same _ _ _ _ c.put_pair.ensures (sym (pair-shown (mode_of c.args.mode) (keys_on c.args.path.now) c.args.key.now (value_view v) alone
+    (option_copied c.args.before)))
 
 pub put_value_pairs-returns-in_default : goal.put_value_pairs-returns-in_default
 put_value_pairs-returns-in_default g t c =
@@ -90,5 +100,6 @@ put_value_pairs-returns-in_default g t c =
     let alone = other-line c.args.value.now c.in_default.not-InlineTable in
     record {
       last = ap Some c.decor-in_default.ensures ∙ sym (pair-last (mode_of c.args.mode) ks k n alone (option_copied c.args.before));
-      text = put_same _ _ _ _ c.put_pair-in_default.ensures (sym (pair-shown (mode_of c.args.mode) ks k n alone (option_copied c.args.before)));
+      text = put_same _ _ _ _ c.put_pair-in_default.ensures
+          (sym (pair-shown (mode_of c.args.mode) ks k n alone (option_copied c.args.before)));
     }

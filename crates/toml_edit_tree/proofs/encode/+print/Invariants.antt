@@ -11,7 +11,8 @@ use Rattle.toml_edit_tree.proofs.encode.+print.Given as goal
 abbrev pub invariant-put_items-items : goal.invariant-put_items-items
 invariant-put_items-items g l =
     (done : List ℕ) × WritesInCalls g.S.Sink.puts l.initial.out done l.out
-    × (done ++ items_text (mode_of l.mode) l.comma l.is_first (items_view (drop l.item-index l.item-items)) ≡ items_text (mode_of l.mode) l.comma true (items_view l.item-items))
+    × (done ++ items_text (mode_of l.mode) l.comma l.is_first (items_view (drop l.item-index l.item-items))
+    ≡ items_text (mode_of l.mode) l.comma true (items_view l.item-items))
 
 abbrev pub invariant-put_pairs-slots : goal.invariant-put_pairs-slots
 invariant-put_pairs-slots g l =
@@ -19,6 +20,8 @@ invariant-put_pairs-slots g l =
       last : last_shown (option_copied l.last) (inside_lines (mode_of l.mode) (slots_view (drop l.slot-index l.entries)) (keys_on l.path))
           ≡ last_shown (option_copied l.initial.last) (inside_lines (mode_of l.mode) (slots_view l.entries) (keys_on l.path));
       puts : (done : List ℕ) × WritesInCalls g.S.Sink.puts l.initial.out done l.out
-          × (done ++ pairs_shown (mode_of l.mode) (option_copied l.last) (inside_lines (mode_of l.mode) (slots_view (drop l.slot-index l.entries)) (keys_on l.path))
-          ≡ pairs_shown (mode_of l.mode) (option_copied l.initial.last) (inside_lines (mode_of l.mode) (slots_view l.entries) (keys_on l.path)));
+          × (done ++ pairs_shown (mode_of l.mode) (option_copied l.last)
+          (inside_lines (mode_of l.mode) (slots_view (drop l.slot-index l.entries)) (keys_on l.path))
+          ≡ pairs_shown (mode_of l.mode) (option_copied l.initial.last)
+          (inside_lines (mode_of l.mode) (slots_view l.entries) (keys_on l.path)));
     }

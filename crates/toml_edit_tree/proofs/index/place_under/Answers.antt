@@ -3,12 +3,14 @@ use Rattle.std.proofs.Common.{◌≡◌, rules, sym, ◌∙◌}
 use Rattle.std.proofs.lemmas.Cmp.{nat_list_eq_equiv}
 use Rattle.toml_edit_model.specs.Keys.{new_key}
 use Rattle.toml_edit_tree.specs.declared.item.Item.TheVariants as items
-use Rattle.toml_edit_tree.proofs.IndexedLaws.{added, has-none, item-new, item-there, leaves, made-new, made-there, place-last, put-added, put-here}
+use Rattle.toml_edit_tree.proofs.IndexedLaws.{added, has-none, item-new, item-there, leaves, made-new, made-there, place-last, put-added}
+use Rattle.toml_edit_tree.proofs.IndexedLaws.{put-here}
 use Rattle.toml_edit_tree.proofs.TableEntryLaws.{apart-first, place-shown}
 use Rattle.toml_edit_tree.proofs.index.place_under.Goals as goal
 
 pub returns-in_err-key-in-None-clause-leaves : goal.returns-in_err-key-in-None-clause-leaves
-returns-in_err-key-in-None-clause-leaves c = leaves c.args.key.now c.args.slots.now (apart-first c.args.slots.now c.as_slice-entries.ensures.apart)
+returns-in_err-key-in-None-clause-leaves c =
+    leaves c.args.key.now c.args.slots.now (apart-first c.args.slots.now c.as_slice-entries.ensures.apart)
 
 pub returns-in_err-key-in-None-clause-present : goal.returns-in_err-key-in-None-clause-present
 returns-in_err-key-in-None-clause-present c h =
@@ -21,7 +23,8 @@ pub returns-in-Some-clause-place : goal.returns-in-Some-clause-place
 returns-in-Some-clause-place c = place-shown c.args.key.now c.args.slots.now ∙ sym c.in-Some.ensures.place
 
 pub returns-in-Some-clause-item : goal.returns-in-Some-clause-item
-returns-in-Some-clause-item c = item-there c.args.key.now c.args.slots.now c.in-Some.at (sym c.in-Some.ensures.place) c.in-Some.ensures.within
+returns-in-Some-clause-item c =
+    item-there c.args.key.now c.args.slots.now c.in-Some.at (sym c.in-Some.ensures.place) c.in-Some.ensures.within
 
 pub returns-in-Some-clause-rest : goal.returns-in-Some-clause-rest
 returns-in-Some-clause-rest c w = put-here c.args.key.now c.args.slots.now c.in-Some.at (sym c.in-Some.ensures.place) w
@@ -41,7 +44,8 @@ returns-in-Ok-clause-place c =
     let k = c.args.key.now in
     let es = c.args.slots.now in
     let left : c.push.new.self ≡ added k es = search rules in
-    rw (left, c.len-at.ensures) (place-shown k (added k es) ∙ place-last k (record { key = new_key k; item = items.None }) es (nat_list_eq_equiv.refl k) (sym c.in-None.ensures.place))
+    rw (left, c.len-at.ensures) (place-shown k (added k es)
+    ∙ place-last k (record { key = new_key k; item = items.None }) es (nat_list_eq_equiv.refl k) (sym c.in-None.ensures.place))
 
 pub returns-in-Ok-clause-item : goal.returns-in-Ok-clause-item
 returns-in-Ok-clause-item c =

@@ -12,4 +12,5 @@ returns-in_err-value c =
     ∙ ap (option_map (λ v. with_item v (slot_taken c.args.slot))) (sym (ap (option_map value_view) c.in_err-value.was) ∙ c.value_of.ensures)
 
 pub returns : goal.returns
-returns c = ap (option_map (λ v. with_item v (slot_taken c.args.slot))) (sym (ap (option_map value_view) c.in_ok-value.was) ∙ c.value_of.ensures)
+returns c = ap (option_map (λ v. with_item v (slot_taken c.args.slot))) (sym (ap (option_map value_view) c.in_ok-value.was)
+    ∙ c.value_of.ensures)

@@ -24,7 +24,8 @@ order_items-order_item-requires t c =
     let x = c.index_mut.result.now in
     let long = long_as item_view node_by_place items first at c.loop-at.invariant in
     let within : at < length items = omega (arith, long, c.len-at-end.ensures, c.loop-at-test.true) in
-    let here : get_or first at x ≡ x = sym (same item_view node_by_place items first at c.loop-at.invariant within x) ∙ sym c.index_mut.ensures.value in
+    let here : get_or first at x ≡ x = sym (same item_view node_by_place items first at c.loop-at.invariant within x)
+    ∙ sym c.index_mut.ensures.value in
     let first_within : at < length first = omega (arith, long, within) in
     let deep : size-Item x ≤ most item_depth first = rw (← here) (deepest_item first at x first_within) in
     omega (arith, c.requires, deep)
@@ -80,7 +81,8 @@ put_in_order-loop-at-preserved t c =
     let long = long_as (on_item item_view) ordered_slot es first at c.loop-at.invariant in
     let within : at < length es = omega (arith, long, c.len-at-end.ensures, c.loop-at-test.true) in
     let there : x ≡ old.item = item-at es at no_slot x within c.item_mut-item.ensures.item in
-    let made : item_view y ≡ node_by_place (item_view old.item) = c.in_ok-order_item.ensures ∙ ap (λ z. node_by_place (item_view z)) there in
+    let made : item_view y ≡ node_by_place (item_view old.item) = c.in_ok-order_item.ensures
+    ∙ ap (λ z. node_by_place (item_view z)) there in
     subst (λ l. Done (on_item item_view) ordered_slot l first (at + 1)) (sym (item-changed es at no_slot y))
     (step (on_item item_view) ordered_slot es first at c.loop-at.invariant within no_slot (record { key = old.key; item = y })
     (ap (λ n. record { key = old.key; item = n }) made))

@@ -1,6 +1,7 @@
 -- Each place without positions.
 use denote.Param.Weighed.{most}
-use Rattle.std.proofs.Common.{◌≡◌, ℕ, zero, suc, ◌<◌, ◌≤◌, ◌+◌, List, [], ◌∷◌, Some, length, map, get_or, set, slice_get, arith, refl, sym, ap, subst, ◌∙◌}
+use Rattle.std.proofs.Common.{◌≡◌, ℕ, zero, suc, ◌<◌, ◌≤◌, ◌+◌, List, [], ◌∷◌, Some, length, map, get_or, set, slice_get, arith, refl, sym}
+use Rattle.std.proofs.Common.{ap, subst, ◌∙◌}
 use Rattle.std.proofs.lemmas.Option.{same_Some}
 use Rattle.toml_edit_model.specs.Lists.{items_from}
 use Rattle.toml_edit_model.specs.Positions.{items_without_positions, slots_without_positions, without_positions}
@@ -23,12 +24,14 @@ slots-forgotten [] = refl
 slots-forgotten (s ∷ es) = ap (slot s.key (without_positions s.item)) (slots-forgotten es)
 
 -- the item of the slot that is at a place, and another one there
-item-here : (es : List (Slot Item)) (i : ℕ) (d : Slot Item) (x : Item) → i < length es → Some x ≡ slice_get (items_of es) i → x ≡ (get_or es i d).item
+item-here : (es : List (Slot Item)) (i : ℕ) (d : Slot Item) (x : Item) → i < length es → Some x ≡ slice_get (items_of es) i → x
+    ≡ (get_or es i d).item
 item-here [] i d x l e = absurd (omega (arith, l))
 item-here (s ∷ es) zero d x l e = same_Some x s.item e
 item-here (s ∷ es) (suc i) d x l e = item-here es i d x (omega (arith, l)) e
 
-item-changed : (es : List (Slot Item)) (i : ℕ) (d : Slot Item) (y : Item) → with_item i y es ≡ set es i (record { key = (get_or es i d).key; item = y })
+item-changed : (es : List (Slot Item)) (i : ℕ) (d : Slot Item) (y : Item) → with_item i y es
+    ≡ set es i (record { key = (get_or es i d).key; item = y })
 item-changed [] i d y = refl
 item-changed (s ∷ es) zero d y = refl
 item-changed (s ∷ es) (suc i) d y = ap (λ l. s ∷ l) (item-changed es i d y)
@@ -46,7 +49,8 @@ forget_items-forget_item-requires t c =
     let x = c.index_mut.result.now in
     let long = long_as item_view without_positions items first at c.loop-at.invariant in
     let within : at < length items = omega (arith, long, c.len-at-end.ensures, c.loop-at-test.true) in
-    let here : get_or first at x ≡ x = sym (same item_view without_positions items first at c.loop-at.invariant within x) ∙ sym c.index_mut.ensures.value in
+    let here : get_or first at x ≡ x = sym (same item_view without_positions items first at c.loop-at.invariant within x)
+    ∙ sym c.index_mut.ensures.value in
     let first_within : at < length first = omega (arith, long, within) in
     let deep : size-Item x ≤ most item_depth first = rw (← here) (deepest_item first at x first_within) in
     omega (arith, deep)
@@ -86,7 +90,8 @@ forget_slots-forget_item-requires t c =
     let within : at < length es = omega (arith, long, c.len-at-end.ensures, c.loop-at-test.true) in
     let there : x ≡ (get_or es at no_slot).item = item-here es at no_slot x within c.item_mut-item.ensures.item in
     let here : (get_or first at no_slot).item ≡ x =
-    ap (λ y. y.item) (sym (same (on_item item_view) (on_item without_positions) es first at c.loop-at.invariant within no_slot)) ∙ sym there in
+    ap (λ y. y.item) (sym (same (on_item item_view) (on_item without_positions) es first at c.loop-at.invariant within no_slot))
+    ∙ sym there in
     let first_within : at < length first = omega (arith, long, within) in
     let deep : size-Item x ≤ most slot_depth first = rw (← here) (deepest first at no_slot first_within) in
     omega (arith, deep)
@@ -102,10 +107,15 @@ forget_slots-loop-at-preserved t c =
     let long = long_as (on_item item_view) (on_item without_positions) es first at c.loop-at.invariant in
     let within : at < length es = omega (arith, long, c.len-at-end.ensures, c.loop-at-test.true) in
     let there : x ≡ old.item = item-here es at no_slot x within c.item_mut-item.ensures.item in
-    let made : item_view y ≡ without_positions (item_view old.item) = c.forget_item.ensures ∙ ap (λ z. without_positions (item_view z)) there in
+    let made : item_view y ≡ without_positions (item_view old.item) = c.forget_item.ensures
+    ∙ ap (λ z. without_positions (item_view z)) there in
     let put : with_item at y es ≡ set es at (record { key = old.key; item = y }) = item-changed es at no_slot y in
     subst (λ l. Done (on_item item_view) (on_item without_positions) l first (at + 1)) (sym put)
-    (step (on_item item_view) (on_item without_positions) es first at c.loop-at.invariant within no_slot (record { key = old.key; item = y })
+    (step (on_item item_view) (on_item without_positions) es first at c.loop-at.invariant within no_slot (record {
+      key = old.key;
+      item =
+          y;
+    })
     (ap (λ n. record { key = old.key; item = n }) made))
 
 pub forget_slots-returns : goal.forget_slots-returns
@@ -115,4 +125,5 @@ forget_slots-returns t c =
     let at = c.loop-at.at in
     let long = long_as (on_item item_view) (on_item without_positions) es first at c.loop-at.invariant in
     let past : length es ≤ at = omega (arith, long, c.len-at-end.ensures, c.loop-at-test.false) in
-    ap tree_slots (finish (on_item item_view) (on_item without_positions) es first at c.loop-at.invariant past) ∙ slots-forgotten (map (on_item item_view) first)
+    ap tree_slots (finish (on_item item_view) (on_item without_positions) es first at c.loop-at.invariant past)
+    ∙ slots-forgotten (map (on_item item_view) first)

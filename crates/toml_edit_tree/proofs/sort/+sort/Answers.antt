@@ -11,18 +11,26 @@ use Rattle.toml_edit_tree.specs.Sorts.{ComparesItems, items_seen}
 use Rattle.toml_edit_tree.specs.View.{fields_view, item_view, table_view}
 use Rattle.toml_edit_tree.proofs.DespanLaws.{if_done, no_slot, slot_depth}
 use Rattle.toml_edit_tree.proofs.OrderLaws.{item-at}
-use Rattle.toml_edit_tree.proofs.SortLaws.{begins, ends-refused, ends-reordered, ends-sorted, goes-on, item-entered, long-permuted, none-passed, passed, stays, table-entered, tables-passed, value-passed}
+use Rattle.toml_edit_tree.proofs.SortLaws.{begins, ends-refused, ends-reordered, ends-sorted, goes-on, item-entered, long-permuted}
+use Rattle.toml_edit_tree.proofs.SortLaws.{none-passed, passed, stays, table-entered, tables-passed, value-passed}
 use Rattle.toml_edit_tree.proofs.TurnLaws.{value-node}
 use Rattle.toml_edit_tree.proofs.sort.+sort.Goals as goal
 
 pub sort_slots-loop-at-init : goal.sort_slots-loop-at-init
 sort_slots-loop-at-init g t c =
-    begins is_dotted_table (λ lt. ComparesItems g.F.Fn lt c.args.compare.now) c.args.slots.now c.sort_items.new.slots c.sort_items.ensures.permutation c.in_ok-sort_items.ensures.sorted
+    begins is_dotted_table (λ lt. ComparesItems g.F.Fn lt c.args.compare.now) c.args.slots.now c.sort_items.new.slots
+    c.sort_items.ensures.permutation c.in_ok-sort_items.ensures.sorted
 
 pub sort_slots-item_mut-item-requires : goal.sort_slots-item_mut-item-requires
 sort_slots-item_mut-item-requires g t c =
     let first = c.args.slots.now in
-    omega (arith, c.loop-at.invariant.long, long-permuted first c.sort_items.new.slots c.sort_items.ensures.permutation, c.len-at-end.ensures, c.loop-at-test.true)
+    omega (
+      arith,
+      c.loop-at.invariant.long,
+      long-permuted first c.sort_items.new.slots c.sort_items.ensures.permutation,
+      c.len-at-end.ensures,
+      c.loop-at-test.true,
+    )
 
 pub sort_slots-sort_item-requires : goal.sort_slots-sort_item-requires
 sort_slots-sort_item-requires g t c =
@@ -31,9 +39,17 @@ sort_slots-sort_item-requires g t c =
     let at = c.loop-at.at in
     let x = c.item_mut-item.result.now in
     let long = c.loop-at.invariant.long in
-    let within : at < length es = omega (arith, long, long-permuted first c.sort_items.new.slots c.sort_items.ensures.permutation, c.len-at-end.ensures, c.loop-at-test.true) in
+    let within : at < length es =
+    omega (
+      arith,
+      long,
+      long-permuted first c.sort_items.new.slots c.sort_items.ensures.permutation,
+      c.len-at-end.ensures,
+      c.loop-at-test.true,
+    ) in
     let there : x ≡ (get_or es at no_slot).item = item-at es at no_slot x within c.item_mut-item.ensures.item in
-    let deep : size-Item x ≤ most slot_depth first = subst (λ y. size-Item y ≤ most slot_depth first) (sym there) (c.loop-at.invariant.shallow at no_slot (omega arith) within) in
+    let deep : size-Item x ≤ most slot_depth first =
+    subst (λ y. size-Item y ≤ most slot_depth first) (sym there) (c.loop-at.invariant.shallow at no_slot (omega arith) within) in
     λ κs lives. (omega (arith, c.decreases, deep), (lives, c.requires))
 
 pub sort_slots-loop-at-preserved : goal.sort_slots-loop-at-preserved
@@ -44,16 +60,25 @@ sort_slots-loop-at-preserved g t c =
     let x = c.item_mut-item.result.now in
     let y = c.sort_item.new.item in
     let long = c.loop-at.invariant.long in
-    let within : at < length es = omega (arith, long, long-permuted first c.sort_items.new.slots c.sort_items.ensures.permutation, c.len-at-end.ensures, c.loop-at-test.true) in
+    let within : at < length es =
+    omega (
+      arith,
+      long,
+      long-permuted first c.sort_items.new.slots c.sort_items.ensures.permutation,
+      c.len-at-end.ensures,
+      c.loop-at-test.true,
+    ) in
     let there : x ≡ (get_or es at no_slot).item = item-at es at no_slot x within c.item_mut-item.ensures.item in
     goes-on is_dotted_table (λ lt. ComparesItems g.F.Fn lt c.args.compare.now) first es at c.loop-at.invariant within no_slot y
     (subst (λ z. ReordersItem is_dotted_table IsPermutation (item_view z) (item_view y)) there c.sort_item.ensures.reorders)
-    (λ lt by. subst (λ z. ReordersItem is_dotted_table (IsSortOf lt) (item_view z) (item_view y)) there (c.in_ok-sort_item.ensures.sorted lt by))
+    (λ lt by. subst (λ z. ReordersItem is_dotted_table (IsSortOf lt) (item_view z) (item_view y)) there
+    (c.in_ok-sort_item.ensures.sorted lt by))
 
 pub sort_slots-returns-in_err-sort_items-clause-reorders : goal.sort_slots-returns-in_err-sort_items-clause-reorders
 sort_slots-returns-in_err-sort_items-clause-reorders g t c =
     let first = c.args.slots.now in
-    subst (λ l. IsDeepReorder is_dotted_table (items_seen first) (items_seen l)) (sym c.in_err-sort_items.ensures.err) (stays is_dotted_table (items_seen first))
+    subst (λ l. IsDeepReorder is_dotted_table (items_seen first) (items_seen l)) (sym c.in_err-sort_items.ensures.err)
+    (stays is_dotted_table (items_seen first))
 
 pub sort_slots-returns-in_err-sort_item-clause-reorders : goal.sort_slots-returns-in_err-sort_item-clause-reorders
 sort_slots-returns-in_err-sort_item-clause-reorders g t c =
@@ -63,13 +88,22 @@ sort_slots-returns-in_err-sort_item-clause-reorders g t c =
     let x = c.item_mut-item.result.now in
     let y = c.sort_item.new.item in
     let long = c.loop-at.invariant.long in
-    let within : at < length es = omega (arith, long, long-permuted first c.sort_items.new.slots c.sort_items.ensures.permutation, c.len-at-end.ensures, c.loop-at-test.true) in
+    let within : at < length es =
+    omega (
+      arith,
+      long,
+      long-permuted first c.sort_items.new.slots c.sort_items.ensures.permutation,
+      c.len-at-end.ensures,
+      c.loop-at-test.true,
+    ) in
     let there : x ≡ (get_or es at no_slot).item = item-at es at no_slot x within c.item_mut-item.ensures.item in
     ends-refused is_dotted_table (λ lt. ComparesItems g.F.Fn lt c.args.compare.now) first es at c.loop-at.invariant within no_slot y
     (subst (λ z. ReordersItem is_dotted_table IsPermutation (item_view z) (item_view y)) there c.sort_item.ensures.reorders)
 
 pub sort_slots-returns-clause-reorders : goal.sort_slots-returns-clause-reorders
-sort_slots-returns-clause-reorders g t c = ends-reordered is_dotted_table (λ lt. ComparesItems g.F.Fn lt c.args.compare.now) c.args.slots.now c.loop-at.slots c.loop-at.at c.loop-at.invariant
+sort_slots-returns-clause-reorders g t c =
+    ends-reordered is_dotted_table (λ lt. ComparesItems g.F.Fn lt c.args.compare.now) c.args.slots.now c.loop-at.slots c.loop-at.at
+    c.loop-at.invariant
 
 pub sort_slots-returns-clause-sorted : goal.sort_slots-returns-clause-sorted
 sort_slots-returns-clause-sorted g t c =
@@ -77,7 +111,14 @@ sort_slots-returns-clause-sorted g t c =
     let es = c.loop-at.slots in
     let at = c.loop-at.at in
     let long = c.loop-at.invariant.long in
-    let past : length es ≤ at = omega (arith, long, long-permuted first c.sort_items.new.slots c.sort_items.ensures.permutation, c.len-at-end.ensures, c.loop-at-test.false) in
+    let past : length es ≤ at =
+    omega (
+      arith,
+      long,
+      long-permuted first c.sort_items.new.slots c.sort_items.ensures.permutation,
+      c.len-at-end.ensures,
+      c.loop-at-test.false,
+    ) in
     ends-sorted is_dotted_table (λ lt. ComparesItems g.F.Fn lt c.args.compare.now) first es at c.loop-at.invariant past
 
 -- ---- items
@@ -94,18 +135,21 @@ sort_item-returns-in-Value g t c =
 
 pub sort_item-returns-in-ArrayOfTables : goal.sort_item-returns-in-ArrayOfTables
 sort_item-returns-in-ArrayOfTables g t c =
-    let other : is_dotted_table (item_view c.args.item.now) ≡ false = tables-passed c.args.item.now c.in-ArrayOfTables.field-0 c.in-ArrayOfTables.is in
+    let other : is_dotted_table (item_view c.args.item.now) ≡ false =
+    tables-passed c.args.item.now c.in-ArrayOfTables.field-0 c.in-ArrayOfTables.is in
     record { reorders = passed is_dotted_table IsPermutation _ other; sorted = λ lt by. passed is_dotted_table (IsSortOf lt) _ other }
 
 pub sort_item-returns-in-Table-clause-reorders : goal.sort_item-returns-in-Table-clause-reorders
 unfolding out-Item out
 sort_item-returns-in-Table-clause-reorders g t c =
-    rw c.in-Table.is (item-entered IsPermutation _ c.in-Table.table c.sort_table.new.table c.in-Table.table-is c.sort_table.ensures.reorders)
+    rw c.in-Table.is (item-entered IsPermutation _ c.in-Table.table c.sort_table.new.table c.in-Table.table-is
+    c.sort_table.ensures.reorders)
 
 pub sort_item-returns-in-Table-clause-sorted : goal.sort_item-returns-in-Table-clause-sorted
 unfolding out-Item out
 sort_item-returns-in-Table-clause-sorted g t c =
-    rw c.in-Table.is (if_done c.sort_table.result c.sort_table.ensures.sorted (λ s lt by. item-entered (IsSortOf lt) _ c.in-Table.table c.sort_table.new.table c.in-Table.table-is (s lt by)))
+    rw c.in-Table.is (if_done c.sort_table.result c.sort_table.ensures.sorted
+    (λ s lt by. item-entered (IsSortOf lt) _ c.in-Table.table c.sort_table.new.table c.in-Table.table-is (s lt by)))
 
 -- ---- tables
 
@@ -115,11 +159,16 @@ sort_table-returns-then-is_dotted g t c =
     let dotted : (fields_view old).is_dotted ≡ true = sym c.is_dotted.ensures ∙ c.if-is_dotted.true in
     record {
       reorders = table-entered IsPermutation old c.sort_slots.new.slots dotted c.sort_slots.ensures.reorders;
-      sorted = if_done c.sort_slots.result c.sort_slots.ensures.sorted (λ s lt by. table-entered (IsSortOf lt) old c.sort_slots.new.slots dotted (s lt by));
+      sorted = if_done c.sort_slots.result c.sort_slots.ensures.sorted
+          (λ s lt by. table-entered (IsSortOf lt) old c.sort_slots.new.slots dotted (s lt by));
     }
 
 pub sort_table-returns-else-is_dotted : goal.sort_table-returns-else-is_dotted
 sort_table-returns-else-is_dotted g t c =
     let old = c.args.table.now in
     let other : (fields_view old).is_dotted ≡ false = sym c.is_dotted.ensures ∙ c.if-is_dotted.false in
-    record { reorders = passed is_dotted_table IsPermutation (table_node (table_view old)) other; sorted = λ lt by. passed is_dotted_table (IsSortOf lt) (table_node (table_view old)) other }
+    record {
+      reorders = passed is_dotted_table IsPermutation (table_node (table_view old)) other;
+      sorted =
+          λ lt by. passed is_dotted_table (IsSortOf lt) (table_node (table_view old)) other;
+    }

@@ -10,4 +10,5 @@ use Rattle.toml_edit_tree.proofs.sort.sort_items.Goals as goal
 pub returns-clause-sorted : goal.returns-clause-sorted
 returns-clause-sorted g c =
     if_done c.sort_by.result c.sort_by.ensures.sorted
-    (λ p lt by. sort-seen lt _ _ (p (λ s r. lt (model.on_item item_view s) (model.on_item item_view r)) (always_returns_same _ _ _ (λ a r f' k. (k.met.1 lt by, search rules)))))
+    (λ p lt by. sort-seen lt _ _ (p (λ s r. lt (model.on_item item_view s) (model.on_item item_view r))
+    (always_returns_same _ _ _ (λ a r f' k. (k.met.1 lt by, search rules)))))

@@ -12,5 +12,6 @@ pub returns-clause-print : goal.returns-clause-print
 returns-clause-print g c =
     λ printed d accepted is.
     subst (PrintsMeaningOf printed d)
-    (ap (λ (x : Tree). record x { trailing = owned [] }) (tree-under c.args.self.root c.table_of.result c.args.self.trailing c.table_of.ensures))
+    (ap (λ (x : Tree). record x { trailing = owned [] })
+    (tree-under c.args.self.root c.table_of.result c.args.self.trailing c.table_of.ensures))
     (root-prints (mode_read c.args.self) (source c.args.self) d (tree_read c.args.self) accepted is printed)

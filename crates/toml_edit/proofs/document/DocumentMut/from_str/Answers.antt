@@ -26,8 +26,10 @@ returns-clause-plain c =
 
 pub returns-clause-every : goal.returns-clause-every
 returns-clause-every c =
-    λ d accepted. c.from_str_with.ensures.every d (latest-accepts (version_of c.new.result) c.args.text.now d c.new.ensures.version accepted)
+    λ d accepted. c.from_str_with.ensures.every d (latest-accepts (version_of c.new.result) c.args.text.now d c.new.ensures.version
+    accepted)
 
 pub returns-clause-refused : goal.returns-clause-refused
 returns-clause-refused c =
-    subst (λ v. IfErr c.from_str_with.result (λ e. IfToml e (IsRefusalIn v c.args.text.now))) c.new.ensures.version c.from_str_with.ensures.refused
+    subst (λ v. IfErr c.from_str_with.result (λ e. IfToml e (IsRefusalIn v c.args.text.now))) c.new.ensures.version
+    c.from_str_with.ensures.refused

@@ -9,8 +9,10 @@ pub returns-clause-accepted : goal.returns-clause-accepted
 returns-clause-accepted c =
     let read = c.in_ok-document in
     let own = c.in_ok-owned in
-    own-reading-in (mode_of c.args.options) (mode_read read.document) read.ensures.mode c.args.text.now (source read.document) read.ensures.source
-    (tree_read read.document) (tree_owned own.owned) own.ensures.normal (version_of c.args.options) (open_read read.document) (open_owned own.owned)
+    own-reading-in (mode_of c.args.options) (mode_read read.document) read.ensures.mode c.args.text.now (source read.document)
+    read.ensures.source
+    (tree_read read.document) (tree_owned own.owned) own.ensures.normal (version_of c.args.options) (open_read read.document)
+    (open_owned own.owned)
     own.ensures.kept.1 read.ensures.accepted
 
 pub returns-clause-mode : goal.returns-clause-mode

@@ -53,7 +53,8 @@ returns c =
       (
         refl,
         λ w _. (
-          ap (written_under k (item_view w)) (root-is d t f s) ∙ c.index_or_insert.ensures.leaves w ∙ ap Some (sym (root-under (item_put k w t) d.trailing)),
+          ap (written_under k (item_view w)) (root-is d t f s) ∙ c.index_or_insert.ensures.leaves w
+              ∙ ap Some (sym (root-under (item_put k w t) d.trailing)),
           trailing-at (item_view (items.Table (item_put k w t))) d.trailing ∙ sym (trailing-at (item_view d.root) d.trailing),
           (refl, refl),
         ),

@@ -1,5 +1,5 @@
 -- The document's tree is what `remove` makes of it.
-use Rattle.toml_edit_change.specs.Changes.{names}
+use Rattle.toml_edit_paths.specs.Changes.{names}
 use Rattle.toml_edit.proofs.AtLaws.{remove-root}
 use Rattle.toml_edit.proofs.document.DocumentMut.remove_at.Goals as goal
 

@@ -3,7 +3,7 @@ use Rattle.std.proofs.Common.{map, length, sym, ap, ◌∙◌}
 use Rattle.toml_edit_model.specs.Mode.{exact}
 use Rattle.toml_edit_model.specs.Print.{print_in}
 use Rattle.toml_edit_repr.specs.Modes.{mode_of}
-use Rattle.toml_edit_stream.proofs.Puts.{put_same}
+use Rattle.toml_edit_io.proofs.Puts.{put_same}
 use Rattle.toml_edit_tree.specs.View.{fields_view, table_slots, tree_view}
 use Rattle.toml_edit.specs.HeadersView.{header_view}
 use Rattle.toml_edit.specs.LastLines.{last_headed, last_of_root, last_statement, newline_of}
@@ -25,4 +25,5 @@ pub returns-else-is_left_open : goal.returns-else-is_left_open
 returns-else-is_left_open g c =
     let l = c.args.self.now in
     put_same _ _ _ _ c.put_closed.ensures
-    (sym (closed-print (mode_of l.mode) l.open_end (tree_view l.root.now l.trailing.now) (sym c.is_left_open.ensures ∙ c.if-is_left_open.false)))
+    (sym (closed-print (mode_of l.mode) l.open_end (tree_view l.root.now l.trailing.now) (sym c.is_left_open.ensures
+    ∙ c.if-is_left_open.false)))

@@ -1,6 +1,6 @@
 -- What was held is released before the text, of which the tail is held in turn; or the text makes the tail longer.
 use Rattle.std.proofs.Common.{◌≡◌, ◌-◌, ◌<◌, ◌≤◌, [], ◌++◌, length, take, refl, sym, ap, subst, ◌∙◌, arith, append_assoc}
-use Rattle.toml_edit_stream.proofs.Puts.{put_none, put_once, put_two}
+use Rattle.toml_edit_io.proofs.Puts.{put_none, put_once, put_two}
 use Rattle.toml_edit.specs.Tails.{tail_after, tail_text}
 use Rattle.toml_edit.proofs.TailLaws.{EndsIn, cut-at, tail-ends, tail-joined}
 use Rattle.toml_edit.proofs.tail.HeldSink.put.Goals as goal
@@ -10,7 +10,8 @@ pub range-requires-clause-end_boundary : goal.range-requires-clause-end_boundary
 range-requires-clause-end_boundary g c =
     let h = c.args.self.now.tail in
     let t = c.args.text.now in
-    let is : c.text_of-held.result.now ≡ tail_text (tail_after h t) = c.text_of-held.ensures ∙ ap tail_text (c.after-tail.ensures ∙ ap (tail_after h) c.as_bytes.ensures.value) in
+    let is : c.text_of-held.result.now ≡ tail_text (tail_after h t) = c.text_of-held.ensures
+    ∙ ap tail_text (c.after-tail.ensures ∙ ap (tail_after h) c.as_bytes.ensures.value) in
     let le : length (tail_text (tail_after h t)) ≤ length t = subst (λ l. length l ≤ length t) is c.if-held-text.true in
     cut-at t c.text_of-held.result.now c.text_of-held.utf8 (subst (EndsIn t) (sym is) (tail-ends h t le)) c.if-held-text.true
 
@@ -26,7 +27,8 @@ returns g c =
           let le : length end ≤ length t = subst (λ l. length l ≤ length t) is w.if-held-text.true in
           let n = length t - length c.text_of-held.result.now in
           let all : n - 0 ≡ n = omega arith in
-          let front : w.range.result.now ≡ take (length t - length end) t = w.range.ensures.value ∙ ap (λ m. take m t) all ∙ ap (λ l. take (length t - length l) t) is in
+          let front : w.range.result.now ≡ take (length t - length end) t = w.range.ensures.value ∙ ap (λ m. take m t) all
+          ∙ ap (λ l. take (length t - length l) t) is in
           put_once _ _ _ (rw w.self-is (record {
             same_reference = refl;
             tail = tail;

@@ -11,5 +11,6 @@ returns-clause-writes g c plain ok =
     let p = c.of-place.ensures in
     let done = c.write_place.ensures plain (search rules) in
     has_written_of_eq _ _ _ _ _
-    (excerpt_text e.title.now e.source.now e.message.now r.content.now e.span.0 e.span.1 r.line r.column r.marks p.line p.column p.content p.marks)
+    (excerpt_text e.title.now e.source.now e.message.now r.content.now e.span.0 e.span.1 r.line r.column r.marks p.line p.column p.content
+    p.marks)
     (has_written_append _ _ _ _ _ _ done (c.write_message.ensures done.plain ok))

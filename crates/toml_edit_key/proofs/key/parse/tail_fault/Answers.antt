@@ -27,7 +27,10 @@ returns-then-is_empty-clause-none c =
     let f = found start after c.in-Some.ensures.rest in
     let none : length c.split_run-in-segments.result.1.now ≡ 0 = grind (arith, common_steps) in
     tail_ends c.args.tail.now l.rest.now c.split_run.result.0.now start c.split_run.ensures.parts l.invariant.1
-    after c.split_run-in-segments.result.0.now c.split_run-in-segments.result.1.now (f.name, front start after) (front_key-found start after f) c.split_run-in-segments.ensures.parts none
+    after c.split_run-in-segments.result.0.now c.split_run-in-segments.result.1.now (
+      f.name,
+      front start after,
+    ) (front_key-found start after f) c.split_run-in-segments.ensures.parts none
 
 pub returns-in_default-after_dot-clause-some : goal.returns-in_default-after_dot-clause-some
 returns-in_default-after_dot-clause-some c =
@@ -39,7 +42,10 @@ returns-in_default-after_dot-clause-some c =
     let some : 0 < length next = grind (arith, common_steps) in
     let dot : after_dot next ≡ None = search rules in
     tail_no_dot c.args.tail.now l.rest.now c.split_run.result.0.now start c.split_run.ensures.parts l.invariant.1
-    after c.split_run-in-segments.result.0.now next (f.name, front start after) (front_key-found start after f) c.split_run-in-segments.ensures.parts some dot
+    after c.split_run-in-segments.result.0.now next (
+      f.name,
+      front start after,
+    ) (front_key-found start after f) c.split_run-in-segments.ensures.parts some dot
 
 pub segments-preserved : goal.segments-preserved
 segments-preserved c =
@@ -53,8 +59,18 @@ segments-preserved c =
     let some : 0 < length next = grind (arith, common_steps) in
     let dot : after_dot next ≡ Some more = search rules in
     let less : length w.1 < length start =
-    omega (arith, ap length (split_parts is_blank more), length-append w.0 w.1, c.in-Some.ensures.within, c.split_run-in-segments.ensures.lens, c.in-Some-after_dot.ensures.within) in (
+    omega (
+      arith,
+      ap length (split_parts is_blank more),
+      length-append w.0 w.1,
+      c.in-Some.ensures.within,
+      c.split_run-in-segments.ensures.lens,
+      c.in-Some-after_dot.ensures.within,
+    ) in (
       search rules,
       tail_more c.args.tail.now l.rest.now c.split_run.result.0.now start c.split_run.ensures.parts l.invariant.1
-          after c.split_run-in-segments.result.0.now next (f.name, front start after) (front_key-found start after f) c.split_run-in-segments.ensures.parts some more dot less,
+          after c.split_run-in-segments.result.0.now next (
+            f.name,
+            front start after,
+          ) (front_key-found start after f) c.split_run-in-segments.ensures.parts some more dot less,
     )

@@ -6,4 +6,5 @@ use Rattle.toml_edit_repr.proofs.repr.Decor.comments_before.Goals as goal
 
 pub returns-clause-pieces : goal.returns-clause-pieces
 returns-clause-pieces c =
-    are-bodies (side_text c.args.self.now.prefix) (comments c.text_of_side.result.now) (ap comments (c.text_of_side.ensures ∙ ap side_text c.prefix.ensures))
+    are-bodies (side_text c.args.self.now.prefix) (comments c.text_of_side.result.now) (ap comments (c.text_of_side.ensures
+    ∙ ap side_text c.prefix.ensures))

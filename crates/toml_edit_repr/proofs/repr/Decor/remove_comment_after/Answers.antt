@@ -9,7 +9,8 @@ use Rattle.toml_edit_repr.proofs.repr.Decor.remove_comment_after.Goals as goal
 
 pub returns-then-is_none : goal.returns-then-is_none
 returns-then-is_none c =
-    let text : c.text_of_side-text.result.now ≡ side_text c.args.self.now.suffix = c.text_of_side-text.ensures ∙ ap side_text c.suffix.ensures in
+    let text : c.text_of_side-text.result.now ≡ side_text c.args.self.now.suffix = c.text_of_side-text.ensures
+    ∙ ap side_text c.suffix.ensures in
     let none : is_some (first_comment (side_text c.args.self.now.suffix)) ≡ false =
     ap (λ (t : Text). is_some (first_comment t)) (sym text) ∙ ap is_some (sym c.first_comment.ensures)
     ∙ copied-some c.first_comment.result ∙ c.is_none.ensures ∙ ap not c.if-is_none.true in

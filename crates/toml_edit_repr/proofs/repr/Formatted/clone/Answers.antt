@@ -14,7 +14,9 @@ invariant_of-result g c =
 
 pub returns-clause-equal : goal.returns-clause-equal
 returns-clause-equal g c =
-    let copy : FormattedView g.row.T.Denot = record { value = c.in_ok-value.value; repr = c.in_ok-repr.repr; decor = c.in_ok-decor.decor } in
-    let old : FormattedView g.row.T.Denot = record { value = c.self.inside.value; repr = c.self.inside.repr; decor = c.self.inside.decor } in
+    let copy : FormattedView g.row.T.Denot =
+    record { value = c.in_ok-value.value; repr = c.in_ok-repr.repr; decor = c.in_ok-decor.decor } in
+    let old : FormattedView g.row.T.Denot =
+    record { value = c.self.inside.value; repr = c.self.inside.repr; decor = c.self.inside.decor } in
     subst (λ v. IsTrue (same_formatted g.T.PartialEq.eq copy v)) c.self.view_is
     (same_formatted-copied g.T.PartialEq.eq copy old c.in_ok-value.ensures.equal c.in_ok-repr.ensures c.in_ok-decor.ensures)

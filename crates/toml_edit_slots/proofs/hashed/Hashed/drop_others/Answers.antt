@@ -9,7 +9,13 @@ use Rattle.toml_edit_slots.proofs.hashed.Hashed.drop_others.Goals as goal
 pub returns : goal.returns
 returns g c =
     let us = names c.args.entries.now in
-    hashed-fitting us c.args.self.now (record { short = c.retain.new.self; long = c.retain-2.new.self; short_tally = c.recount.new.self; long_tally = c.recount-2.new.self })
+    hashed-fitting us c.args.self.now (record {
+      short = c.retain.new.self;
+      long = c.retain-2.new.self;
+      short_tally =
+          c.recount.new.self;
+      long_tally = c.recount-2.new.self;
+    })
     (λ k t below there. c.requires k t (omega (arith, below, length-names c.args.entries.now)) there)
     (filter-RetainsPairs _ (fits (λ t. t) us) _ (λ k v b w f' h. search rules) _ _ c.retain.ensures.filtered)
     (filter-RetainsPairs _ (fits string_bytes us) _ (λ k v b w f' h. search rules) _ _ c.retain-2.ensures.filtered)

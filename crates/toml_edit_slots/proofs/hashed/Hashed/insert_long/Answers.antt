@@ -11,6 +11,7 @@ pub returns-clause-ok : goal.returns-clause-ok
 returns-clause-ok c =
     let m = c.args.self.now in
     on_ok c.put.result (λ updates t.
-    long-changed m (record { short = m.short; long = c.put.new.map; short_tally = m.short_tally; long_tally = c.put.new.tally }) c.args.name.now (Some c.args.at) refl c.requires
+    long-changed m (record { short = m.short; long = c.put.new.map; short_tally = m.short_tally; long_tally = c.put.new.tally })
+    c.args.name.now (Some c.args.at) refl c.requires
     (λ v. hash_map_updates_text (string_bytes c.in-Ok.text) m.long c.put.new.map (Some c.args.at) updates v
     ∙ ap (λ y. cond (same_text y v) (Some c.args.at) (get_by_text m.long v)) (search rules)) t) c.put.ensures.ok

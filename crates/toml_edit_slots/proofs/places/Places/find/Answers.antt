@@ -14,7 +14,8 @@ pub returns-then-is_named_at : goal.returns-then-is_named_at
 returns-then-is_named_at g c =
     let us = names c.args.entries.now in
     let u = c.args.name.now in
-    let stands : stands_at us c.in_ok-at.at u ≡ true = sym (ap (stands_at us c.in_ok-at.at) c.as_bytes.ensures.value) ∙ sym c.is_named_at.ensures ∙ c.if-is_named_at.true in
+    let stands : stands_at us c.in_ok-at.at u ≡ true = sym (ap (stands_at us c.in_ok-at.at) c.as_bytes.ensures.value)
+    ∙ sym c.is_named_at.ensures ∙ c.if-is_named_at.true in
     sym (is-there us u c.in_ok-at.at c.requires.apart stands)
 
 pub returns-else-is_named_at : goal.returns-else-is_named_at
@@ -23,5 +24,6 @@ returns-else-is_named_at g c =
     let u = c.args.name.now in
     let at = c.in_ok-at.at in
     let noted : noted_place c.args.self.now u ≡ Some at = sym c.in_ok-at.ensures in
-    let stands : stands_at us at u ≡ false = sym (ap (stands_at us at) c.as_bytes.ensures.value) ∙ sym c.is_named_at.ensures ∙ c.if-is_named_at.false in
+    let stands : stands_at us at u ≡ false = sym (ap (stands_at us at) c.as_bytes.ensures.value) ∙ sym c.is_named_at.ensures
+    ∙ c.if-is_named_at.false in
     sym (other-there us c.args.self.now u at c.requires.indexed noted stands)

@@ -14,5 +14,6 @@ returns-clause-ok c =
     let ns = c.insert.new.self in
     let text : string_bytes c.in_ok-text.text ≡ u = search rules in
     let put : (t : Text) → get_by_text ns t ≡ cond (same_text u t) w (get_by_text m.names t) =
-    λ t. btree_map_updates_text (string_bytes c.in_ok-text.text) m.names ns w c.in_ok-insert.ensures.updates t ∙ ap (λ y. cond (same_text y t) w (get_by_text m.names t)) text in
+    λ t. btree_map_updates_text (string_bytes c.in_ok-text.text) m.names ns w c.in_ok-insert.ensures.updates t
+    ∙ ap (λ y. cond (same_text y t) w (get_by_text m.names t)) text in
     (place-put m ns u w put c.args.at refl, λ k t other noted. place-other m ns u w put t other ∙ noted)

@@ -13,4 +13,9 @@ returns-in-Some c =
     let ns = c.get_mut.follows.lender at in
     let own : is_own m u ≡ true = ap is_some (sym c.in-Some.ensures.value) in
     let put = btree_map_updates_text u m.names ns (Some at) ((c.get_mut.follows.holds at).3 own) in
-    record { place = place-put m ns u (Some at) put at refl; own = own-put m ns u (Some at) put at refl own; others = λ t other apart. place-other m ns u (Some at) put t other }
+    record {
+      place = place-put m ns u (Some at) put at refl;
+      own = own-put m ns u (Some at) put at refl own;
+      others =
+          λ t other apart. place-other m ns u (Some at) put t other;
+    }

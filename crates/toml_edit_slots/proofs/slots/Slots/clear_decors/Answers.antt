@@ -10,8 +10,11 @@ pub invariant_of-self : goal.invariant_of-self
 invariant_of-self g c =
     let d = c.index_mut-slot.result.now in
     let es = c.self.inside.entries.items in
-    let same = ap (λ k. k.name) c.clear_key.ensures ∙ ap (λ s. s.key.name) c.index_mut-slot.ensures.value in
-    (apart-set es c.args.at d (record { key = c.clear_key.new.key; item = d.item }) same c.self.invariant.0, subst (IsIndexed c.self.inside.index) (sym (names-set es c.args.at d (record { key = c.clear_key.new.key; item = d.item }) same)) c.self.invariant.1)
+    let same = ap (λ k. k.name) c.clear_key.ensures ∙ ap (λ s. s.key.name) c.index_mut-slot.ensures.value in (
+      apart-set es c.args.at d (record { key = c.clear_key.new.key; item = d.item }) same c.self.invariant.0,
+      subst (IsIndexed c.self.inside.index) (sym (names-set es c.args.at d (record { key = c.clear_key.new.key; item = d.item }) same))
+          c.self.invariant.1,
+    )
 
 pub returns : goal.returns
 returns g c =

@@ -10,12 +10,20 @@ pub invariant_of-self-lent : goal.invariant_of-self-lent
 invariant_of-self-lent g c w =
     let es = c.self.inside.entries.items in
     let h : Key → Key = λ k. record k { dotted = w } in
-    let done : set es c.args.at (record { key = h c.index_mut-slot.result.now.key; item = c.index_mut-slot.result.now.item }) ≡ on_key c.args.at h es =
+    let done : set es c.args.at (record { key = h c.index_mut-slot.result.now.key; item = c.index_mut-slot.result.now.item })
+    ≡ on_key c.args.at h es =
     rw (on_key-set h es c.args.at c.index_mut-slot.result.now) (search rules) in
-    rw done (apart-on_key h (λ k. refl) es c.args.at c.self.invariant.0, subst (IsIndexed c.self.inside.index) (sym (names-on_key h (λ k. refl) es c.args.at)) c.self.invariant.1)
+    rw done (
+      apart-on_key h (λ k. refl) es c.args.at c.self.invariant.0,
+      subst (IsIndexed c.self.inside.index) (sym (names-on_key h (λ k. refl) es c.args.at)) c.self.invariant.1,
+    )
 
 pub returns : goal.returns
 returns g c = (
   (refl, λ w. rw (on_key-set (λ k. record k { dotted = w }) c.args.self.now c.args.at c.index_mut-slot.result.now) (search rules)),
-  record { writes_back = tt; decor = rw (read-at (λ s. s.key.dotted) c.args.self.now c.args.at c.index_mut-slot.result.now c.requires) (search rules) },
+  record {
+    writes_back = tt;
+    decor = rw (read-at (λ s. s.key.dotted) c.args.self.now c.args.at c.index_mut-slot.result.now c.requires)
+        (search rules);
+  },
 )

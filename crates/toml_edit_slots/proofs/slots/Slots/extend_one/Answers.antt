@@ -16,7 +16,11 @@ returns-in-Some-clause-slots g c =
     let new : Slot g.row.T.Denot = record { key = c.args.key; item = x } in
     let here : place c.args.key.name es ≡ Some at = ap (λ u. place u es) (sym c.get.ensures.name) ∙ sym c.in-Some.ensures.place in
     ap seen (c.replace_item.ensures.slots ∙ with_item-set es at new x)
-    ∙ put-seen c.args.key.name (with_item_seen x) (record { key = c.args.key; item = x }) es at new (record { key = (get_or es at new).key; item = x }) refl
+    ∙ put-seen c.args.key.name (with_item_seen x) (record { key = c.args.key; item = x }) es at new (record {
+      key =
+          (get_or es at new).key;
+      item = x;
+    }) refl
     (subst AreApart c.self.view_is c.self.invariant.0) here refl
 
 pub returns-in_ok-push-in-None-clause-slots : goal.returns-in_ok-push-in-None-clause-slots

@@ -7,7 +7,11 @@ use Rattle.toml_edit_slots.proofs.SlotLaws.{lookup_slot-absent}
 use Rattle.toml_edit_slots.proofs.slots.Slots.get_key_value.Goals as goal
 
 pub returns-in_err-at-clause-slot : goal.returns-in_err-at-clause-slot
-returns-in_err-at-clause-slot g c = rw (lookup_slot-seen c.args.name.now c.args.self.now, lookup_slot-absent c.args.name.now c.args.self.now (sym c.in_err-at.ensures.place)) (search rules)
+returns-in_err-at-clause-slot g c =
+    rw (
+      lookup_slot-seen c.args.name.now c.args.self.now,
+      lookup_slot-absent c.args.name.now c.args.self.now (sym c.in_err-at.ensures.place),
+    ) (search rules)
 
 pub returns-in_err-at-clause-apart : goal.returns-in_err-at-clause-apart
 returns-in_err-at-clause-apart g c = apart-seen c.args.self.now (subst AreApart c.self.view_is c.self.invariant.0)

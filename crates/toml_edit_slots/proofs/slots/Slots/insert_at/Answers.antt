@@ -14,5 +14,6 @@ returns-in-Ok-clause-slots g c =
     let v = c.self.inside.entries in
     let all : vec_len v ≡ length v.items = omega (arith, v.ok.0) in
     c.len-last.ensures ∙ all ∙ ap length c.self.view_is in
-    ap seen (c.move_at.ensures ∙ ap (moved c.len-last.result c.args.at) c.in-Ok.ensures.slots ∙ ap (λ n. moved n c.args.at (es ++ s ∷ [])) long ∙ moved-end es c.args.at s)
+    ap seen (c.move_at.ensures ∙ ap (moved c.len-last.result c.args.at) c.in-Ok.ensures.slots
+    ∙ ap (λ n. moved n c.args.at (es ++ s ∷ [])) long ∙ moved-end es c.args.at s)
     ∙ insert-seen es c.args.at s

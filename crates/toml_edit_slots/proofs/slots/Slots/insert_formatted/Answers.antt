@@ -16,8 +16,11 @@ invariant_of-self g c =
     let d = c.index_mut-present.result.now in
     let here : place c.get.result.now es ≡ Some at = ap (λ l. place c.get.result.now l) c.self.view_is ∙ sym c.in-Some.ensures.place in
     let same : c.replace.new.dest.key.name ≡ (get_or es at d).key.name =
-    ap (λ (s : Slot g.row.T.Denot). s.key.name) c.replace.ensures.after ∙ sym c.get.ensures.name ∙ sym (named-at c.get.result.now es at d here) in
-    (apart-set es at d c.replace.new.dest same c.self.invariant.0, subst (IsIndexed c.self.inside.index) (sym (names-set es at d c.replace.new.dest same)) c.self.invariant.1)
+    ap (λ (s : Slot g.row.T.Denot). s.key.name) c.replace.ensures.after ∙ sym c.get.ensures.name
+    ∙ sym (named-at c.get.result.now es at d here) in (
+      apart-set es at d c.replace.new.dest same c.self.invariant.0,
+      subst (IsIndexed c.self.inside.index) (sym (names-set es at d c.replace.new.dest same)) c.self.invariant.1,
+    )
 
 pub returns-in-Some-clause-old : goal.returns-in-Some-clause-old
 returns-in-Some-clause-old g c =
@@ -34,7 +37,8 @@ returns-in-Some-clause-slots g c =
     let x = c.args.item in
     let at = c.in-Some.at in
     let named : c.get.result.now ≡ t = c.get.ensures.name ∙ ap (λ k. k.name) c.in-Ok.ensures in
-    let here : place t es ≡ Some at = ap (λ l. place t l) c.self.view_is ∙ ap (λ u. place u c.args.self.now) (sym named) ∙ sym c.in-Some.ensures.place in
+    let here : place t es ≡ Some at = ap (λ l. place t l) c.self.view_is ∙ ap (λ u. place u c.args.self.now) (sym named)
+    ∙ sym c.in-Some.ensures.place in
     let new : model.Slot g.row.T.Denot = record { key = c.args.key.now; item = x } in
     let same : new ≡ one_seen c.replace.new.dest =
     sym (ap one_seen c.replace.ensures.after ∙ ap (λ k. record { key = k; item = x }) c.in-Ok.ensures) in

@@ -10,7 +10,10 @@ invariant_of-self-lent g c w =
     let es = c.self.inside.entries.items in
     let done : set es c.args.at (record { key = c.index_mut-lent.result.now.key; item = w }) ≡ with_item c.args.at w es =
     rw (with_item-set es c.args.at c.index_mut-lent.result.now w) (search rules) in
-    rw done (apart-with_item es c.args.at w c.self.invariant.0, subst (IsIndexed c.self.inside.index) (sym (names-with_item es c.args.at w)) c.self.invariant.1)
+    rw done (
+      apart-with_item es c.args.at w c.self.invariant.0,
+      subst (IsIndexed c.self.inside.index) (sym (names-with_item es c.args.at w)) c.self.invariant.1,
+    )
 
 pub returns : goal.returns
 returns g c = (

@@ -13,7 +13,8 @@ index_those-requires-clause-apart g c =
     let es = c.self.inside.entries.items in
     let fs = c.move_element.new.elements.items in
     let within : c.args.from < length es = subst (λ l. c.args.from < length l) (sym c.self.view_is) c.requires.from in
-    let same : IsPermutation es fs = subst (IsPermutation es) (sym c.move_element.ensures) (moved-permutes es c.args.from c.args.to within) in
+    let same : IsPermutation es fs =
+    subst (IsPermutation es) (sym c.move_element.ensures) (moved-permutes es c.args.from c.args.to within) in
     subst AreApart (sym c.deref.ensures.value) (apart-permuted es fs same c.self.invariant.0)
 
 pub index_those-requires-clause-named : goal.index_those-requires-clause-named
@@ -21,7 +22,8 @@ index_those-requires-clause-named g c =
     let es = c.self.inside.entries.items in
     let fs = c.move_element.new.elements.items in
     let within : c.args.from < length es = subst (λ l. c.args.from < length l) (sym c.self.view_is) c.requires.from in
-    let same : IsPermutation es fs = subst (IsPermutation es) (sym c.move_element.ensures) (moved-permutes es c.args.from c.args.to within) in
+    let same : IsPermutation es fs =
+    subst (IsPermutation es) (sym c.move_element.ensures) (moved-permutes es c.args.from c.args.to within) in
     subst (λ l. MayIndex c.self.inside.index (names l)) (sym c.deref.ensures.value)
     (may_index c.self.inside.index (names es) (names fs) c.self.invariant.1
     (omega (arith, length-names es, length-names fs, length-permuted es fs same))
@@ -32,8 +34,12 @@ invariant_of-self g c =
     let es = c.self.inside.entries.items in
     let fs = c.move_element.new.elements.items in
     let within : c.args.from < length es = subst (λ l. c.args.from < length l) (sym c.self.view_is) c.requires.from in
-    let same : IsPermutation es fs = subst (IsPermutation es) (sym c.move_element.ensures) (moved-permutes es c.args.from c.args.to within) in
-    (apart-permuted es fs same c.self.invariant.0, subst (λ l. IsIndexed c.index_those.new.index (names l)) c.deref.ensures.value c.index_those.ensures)
+    let same : IsPermutation es fs =
+    subst (IsPermutation es) (sym c.move_element.ensures) (moved-permutes es c.args.from c.args.to within) in (
+      apart-permuted es fs same c.self.invariant.0,
+      subst (λ l. IsIndexed c.index_those.new.index (names l)) c.deref.ensures.value
+          c.index_those.ensures,
+    )
 
 pub invariant_of-self-else-from-to : goal.invariant_of-self-else-from-to
 invariant_of-self-else-from-to g c =

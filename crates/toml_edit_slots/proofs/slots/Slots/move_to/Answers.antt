@@ -12,7 +12,8 @@ returns-in-Some-clause-found g c = sym (has-seen c.args.name.now c.args.self.now
 pub returns-in-Some-clause-slots : goal.returns-in-Some-clause-slots
 returns-in-Some-clause-slots g c =
     ap seen c.move_at.ensures
-    ∙ moved-seen c.args.name.now c.args.self.now c.in-Some.from c.args.at (subst AreApart c.self.view_is c.self.invariant.0) (sym c.in-Some.ensures.place)
+    ∙ moved-seen c.args.name.now c.args.self.now c.in-Some.from c.args.at (subst AreApart c.self.view_is c.self.invariant.0)
+    (sym c.in-Some.ensures.place)
 
 pub returns-in-None-clause-found : goal.returns-in-None-clause-found
 returns-in-None-clause-found g c = sym (has-none-seen c.args.name.now c.args.self.now (sym c.in-None.ensures.place))

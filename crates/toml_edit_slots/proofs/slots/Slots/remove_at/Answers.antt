@@ -27,7 +27,8 @@ invariant_of-self g c =
     let d = c.index.result.now in
     let t = (get_or es at d).key.name in
     let within : at < length es = subst (λ l. at < length l) (sym c.self.view_is) c.requires in
-    let left : c.remove.new.self.items ≡ without t es = c.remove.ensures.items ∙ sym (without-present t es at (place-own es at d within c.self.invariant.0)) in
+    let left : c.remove.new.self.items ≡ without t es = c.remove.ensures.items
+    ∙ sym (without-present t es at (place-own es at d within c.self.invariant.0)) in
     let named : remove (names c.deref.result.now) at ≡ names c.remove.new.self.items =
     ap (λ l. remove (names l) at) c.deref.ensures.value ∙ sym (names-removed es at) ∙ sym (ap names c.remove.ensures.items) in
     (subst AreApart (sym left) (apart-without t es c.self.invariant.0), subst (IsIndexed c.close_gap.new.index) named c.close_gap.ensures)
@@ -47,4 +48,5 @@ returns-clause-seen g c =
     let within : at < length es = subst (λ l. at < length l) (sym c.self.view_is) c.requires in
     let own : place taken.key.name es ≡ Some at =
     ap (λ (s : Slot _). place s.key.name es) c.remove.ensures.value ∙ place-own es at taken within c.self.invariant.0 in
-    ap seen c.remove.ensures.items ∙ without-at-seen taken.key.name es at taken c.self.invariant.0 own ∙ ap (λ l. model.without taken.key.name (seen l)) c.self.view_is
+    ap seen c.remove.ensures.items ∙ without-at-seen taken.key.name es at taken c.self.invariant.0 own
+    ∙ ap (λ l. model.without taken.key.name (seen l)) c.self.view_is

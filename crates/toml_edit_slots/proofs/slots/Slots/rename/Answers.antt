@@ -2,7 +2,8 @@
 use Rattle.std.proofs.Common.{ap, sym, subst, ◌≡◌, ◌∙◌, Some}
 use Rattle.toml_edit_slots.specs.Seen.{seen}
 use Rattle.toml_edit_slots.specs.Slots.{AreApart, place}
-use Rattle.toml_edit_slots.proofs.RenameLaws.{free-new, free-own, left-absent, left-done, left-taken, taken, told-absent, told-done, told-taken}
+use Rattle.toml_edit_slots.proofs.RenameLaws.{free-new, free-own, left-absent, left-done, left-taken, taken, told-absent, told-done}
+use Rattle.toml_edit_slots.proofs.RenameLaws.{told-taken}
 use Rattle.toml_edit_slots.proofs.slots.Slots.rename.Goals as goal
 
 pub returns-in_default-clause-told : goal.returns-in_default-clause-told

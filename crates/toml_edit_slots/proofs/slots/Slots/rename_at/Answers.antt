@@ -34,7 +34,8 @@ invariant_of-self-2 g c =
     let t = c.args.name.now in
     let new : place t es ≡ None = ap (place t) c.self.view_is ∙ c.requires.new in
     let is : names c.replace_key.new.entries.items ≡ set (names es) c.args.at t =
-    ap names c.replace_key.ensures ∙ names-renamed (with_decors_of c.in_ok-key.key) t (λ k. ap (λ x. x.name) c.in_ok-key.ensures) es c.args.at in (
+    ap names c.replace_key.ensures ∙ names-renamed (with_decors_of c.in_ok-key.key) t (λ k. ap (λ x. x.name) c.in_ok-key.ensures) es
+    c.args.at in (
       subst (IsDistinct same_text) (sym is) (distinct-set (names es) c.args.at t new c.self.invariant.0),
       subst (λ l. IsIndexed c.index_those.new.index (names l)) c.deref-2.ensures.value c.index_those.ensures,
     )

@@ -9,7 +9,8 @@ use Rattle.toml_edit_slots.proofs.slots.Slots.replace.Goals as goal
 
 pub index_mut-requires : goal.index_mut-requires
 index_mut-requires g c =
-    let within = place-within c.args.slot.key.name c.self.inside.entries.items c.args.at (ap (place c.args.slot.key.name) c.self.view_is ∙ c.requires) in
+    let within = place-within c.args.slot.key.name c.self.inside.entries.items c.args.at (ap (place c.args.slot.key.name) c.self.view_is
+    ∙ c.requires) in
     let v = c.self.inside.entries in
     let len : vec_len v ≡ length v.items = omega (arith, v.ok.0) in
     omega (arith, within, len)

@@ -11,7 +11,10 @@ invariant_of-self g c =
     let x = c.args.item in
     let done : set es c.args.at (record { key = c.index_mut-slot.result.now.key; item = c.replace.new.dest }) ≡ with_item c.args.at x es =
     rw (with_item-set es c.args.at c.index_mut-slot.result.now x) (search rules) in
-    rw done (apart-with_item es c.args.at x c.self.invariant.0, subst (IsIndexed c.self.inside.index) (sym (names-with_item es c.args.at x)) c.self.invariant.1)
+    rw done (
+      apart-with_item es c.args.at x c.self.invariant.0,
+      subst (IsIndexed c.self.inside.index) (sym (names-with_item es c.args.at x)) c.self.invariant.1,
+    )
 
 pub returns-clause-old : goal.returns-clause-old
 returns-clause-old g c = rw (items_of-get c.args.self.now c.args.at c.index_mut-slot.result.now c.requires) (search rules)

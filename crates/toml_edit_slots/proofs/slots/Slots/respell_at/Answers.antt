@@ -11,7 +11,8 @@ use Rattle.toml_edit_slots.proofs.SlotLaws.{place-within}
 use Rattle.toml_edit_slots.proofs.slots.Slots.respell_at.Goals as goal
 
 pub replace_key-requires : goal.replace_key-requires
-replace_key-requires g c = place-within c.args.name.now c.self.inside.entries.items c.args.at (ap (place c.args.name.now) c.self.view_is ∙ c.requires)
+replace_key-requires g c =
+    place-within c.args.name.now c.self.inside.entries.items c.args.at (ap (place c.args.name.now) c.self.view_is ∙ c.requires)
 
 pub invariant_of-self : goal.invariant_of-self
 invariant_of-self g c =

@@ -13,7 +13,8 @@ use Rattle.toml_edit_slots.proofs.slots.Slots.retain.Goals as goal
 
 pub index_those-requires-clause-apart : goal.index_those-requires-clause-apart
 index_those-requires-clause-apart g c =
-    subst AreApart (sym c.deref.ensures.value) (apart-kept (λ s. SaysOfSlot g.F.Fn c.args.keep (slot_seen (λ x. x) s)) c.self.inside.entries.items c.retain_entries.new.entries.items c.retain_entries.ensures c.self.invariant.0)
+    subst AreApart (sym c.deref.ensures.value) (apart-kept (λ s. SaysOfSlot g.F.Fn c.args.keep (slot_seen (λ x. x) s))
+    c.self.inside.entries.items c.retain_entries.new.entries.items c.retain_entries.ensures c.self.invariant.0)
 
 pub index_those-requires-clause-named : goal.index_those-requires-clause-named
 index_those-requires-clause-named g c =
@@ -27,11 +28,13 @@ index_those-requires-clause-named g c =
 
 pub invariant_of-self : goal.invariant_of-self
 invariant_of-self g c = (
-  apart-kept (λ s. SaysOfSlot g.F.Fn c.args.keep (slot_seen (λ x. x) s)) c.self.inside.entries.items c.retain_entries.new.entries.items c.retain_entries.ensures c.self.invariant.0,
+  apart-kept (λ s. SaysOfSlot g.F.Fn c.args.keep (slot_seen (λ x. x) s)) c.self.inside.entries.items c.retain_entries.new.entries.items
+      c.retain_entries.ensures c.self.invariant.0,
   subst (λ l. IsIndexed c.index_those.new.index (names l)) c.deref.ensures.value c.index_those.ensures,
 )
 
 pub returns : goal.returns
 returns g c =
     subst (λ l. RetainsBy (SaysOfSlot g.F.Fn c.args.keep) (seen l) (seen c.retain_entries.new.entries.items)) c.self.view_is
-    (retains-seen (slot_seen (λ x. x)) (SaysOfSlot g.F.Fn c.args.keep) c.self.inside.entries.items c.retain_entries.new.entries.items c.retain_entries.ensures)
+    (retains-seen (slot_seen (λ x. x)) (SaysOfSlot g.F.Fn c.args.keep) c.self.inside.entries.items c.retain_entries.new.entries.items
+    c.retain_entries.ensures)

@@ -13,7 +13,8 @@ use Rattle.toml_edit_slots.proofs.slots.Slots.sort_by.Goals as goal
 
 pub index_those-requires-clause-apart : goal.index_those-requires-clause-apart
 index_those-requires-clause-apart g c =
-    subst AreApart (sym c.deref.ensures.value) (apart-permuted c.self.inside.entries.items c.sort_by-sorted.new.self.items c.sort_by-sorted.ensures.permutation c.self.invariant.0)
+    subst AreApart (sym c.deref.ensures.value) (apart-permuted c.self.inside.entries.items c.sort_by-sorted.new.self.items
+    c.sort_by-sorted.ensures.permutation c.self.invariant.0)
 
 pub index_those-requires-clause-named : goal.index_those-requires-clause-named
 index_those-requires-clause-named g c =
@@ -34,14 +35,16 @@ invariant_of-self g c = (
 pub returns-clause-permutation : goal.returns-clause-permutation
 returns-clause-permutation g c =
     subst (λ l. IsPermutation (seen l) (seen c.sort_by-sorted.new.self.items)) c.self.view_is
-    (IsPermutation-map (slot_seen (λ x. x)) c.self.inside.entries.items c.sort_by-sorted.new.self.items c.sort_by-sorted.ensures.permutation)
+    (IsPermutation-map (slot_seen (λ x. x)) c.self.inside.entries.items c.sort_by-sorted.new.self.items
+    c.sort_by-sorted.ensures.permutation)
 
 pub returns-clause-sorted : goal.returns-clause-sorted
 returns-clause-sorted g c =
     let es = c.self.inside.entries.items in
     let fs = c.sort_by-sorted.new.self.items in
     on_ok c.sort_by-sorted.result
-    (λ p. subst (λ l. SortsAs g.F.FnMut c.args.compare (seen l) (seen fs)) c.self.view_is (λ lt by. sorts-seen (slot_seen (λ x. x)) lt es fs (record {
+    (λ p. subst (λ l. SortsAs g.F.FnMut c.args.compare (seen l) (seen fs)) c.self.view_is
+    (λ lt by. sorts-seen (slot_seen (λ x. x)) lt es fs (record {
       permutation = c.sort_by-sorted.ensures.permutation;
       stable = λ o. c.sort_by-sorted.ensures.stable _ o by;
       sorted = λ o. p _ o by;

@@ -14,7 +14,8 @@ returns-then-is_in_order-clause-ok g c =
 
 pub index_those-requires-clause-apart : goal.index_those-requires-clause-apart
 index_those-requires-clause-apart g c =
-    subst AreApart (sym (c.deref-2.ensures.value ∙ c.in_ok-sort_entries.ensures.ok)) (apart-sorted c.self.inside.entries.items c.self.invariant.0)
+    subst AreApart (sym (c.deref-2.ensures.value ∙ c.in_ok-sort_entries.ensures.ok))
+    (apart-sorted c.self.inside.entries.items c.self.invariant.0)
 
 pub index_those-requires-clause-named : goal.index_those-requires-clause-named
 index_those-requires-clause-named g c =

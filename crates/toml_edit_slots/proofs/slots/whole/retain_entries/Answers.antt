@@ -6,4 +6,5 @@ use Rattle.toml_edit_slots.specs.Seen.{slot_seen}
 use Rattle.toml_edit_slots.proofs.slots.whole.retain_entries.Goals as goal
 
 pub returns : goal.returns
-returns g c = retains_by _ (λ slot. SaysOfSlot g.F.Fn c.args.keep (slot_seen (λ x. x) slot)) _ (λ x b f' k. search rules) _ _ c.retain.ensures.filtered
+returns g c = retains_by _ (λ slot. SaysOfSlot g.F.Fn c.args.keep (slot_seen (λ x. x) slot)) _ (λ x b f' k. search rules) _ _
+    c.retain.ensures.filtered

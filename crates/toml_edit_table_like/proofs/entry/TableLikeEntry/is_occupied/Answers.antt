@@ -9,4 +9,5 @@ pub returns : goal.returns
 returns g c =
     let t = c.args.self.now.table.now in
     let k = (entry_key c.args.self.now).name in
-    c.is_some.ensures ∙ ap is_some c.find.ensures.place ∙ sym (ap (has_slot k) (g.T.HasSlots.shows t) ∙ has_slot-shown k (g.T.HasSlots.entries t))
+    c.is_some.ensures ∙ ap is_some c.find.ensures.place
+    ∙ sym (ap (has_slot k) (g.T.HasSlots.shows t) ∙ has_slot-shown k (g.T.HasSlots.entries t))

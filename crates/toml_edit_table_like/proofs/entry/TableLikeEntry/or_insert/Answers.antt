@@ -13,7 +13,8 @@ returns-in-Ok g c =
     let t = c.place.new.self.table.now in (
       λ j. inl (
         c.item_at_mut.result.ghost_name,
-        λ w. (ap (with_table (with_item_at g.T.HasSlots.entries g.T.HasSlots.with_entries c.in-Ok.at w t)) c.place.ensures.same ∙ ap (λ u. with_table u e) (c.in-Ok.ensures.rest w)) j,
+        λ w. (ap (with_table (with_item_at g.T.HasSlots.entries g.T.HasSlots.with_entries c.in-Ok.at w t)) c.place.ensures.same
+            ∙ ap (λ u. with_table u e) (c.in-Ok.ensures.rest w)) j,
       ),
       record {
         writes_back = tt;

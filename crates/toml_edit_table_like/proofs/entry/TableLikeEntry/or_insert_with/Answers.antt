@@ -15,12 +15,14 @@ returns-in-Ok g c =
     let t = c.place_with.new.self.table.now in (
       λ j. inl (
         c.item_at_mut.result.ghost_name,
-        λ w. (ap (with_table (with_item_at g.T.HasSlots.entries g.T.HasSlots.with_entries c.in-Ok.at w t)) c.place_with.ensures.same ∙ ap (λ u. with_table u e) (c.in-Ok.ensures.rest w)) j,
+        λ w. (ap (with_table (with_item_at g.T.HasSlots.entries g.T.HasSlots.with_entries c.in-Ok.at w t)) c.place_with.ensures.same
+            ∙ ap (λ u. with_table u e) (c.in-Ok.ensures.rest w)) j,
       ),
       record {
         writes_back = tt;
         item = lent-item _ c.item_at_mut.result.now
-            (λ x. UnwrapsOrElse (lookup (entry_key e).name (g.T.HasSlots.slots_of e.table.now)) (IsViewOf (goal.F-post g c.args.default)) (item_view x))
+            (λ x. UnwrapsOrElse (lookup (entry_key e).name (g.T.HasSlots.slots_of e.table.now)) (IsViewOf (goal.F-post g c.args.default))
+            (item_view x))
             c.item_at_mut.ensures.item c.in-Ok.ensures.item;
         leaves = c.place_with.ensures.leaves;
         keeps = λ w. g.T.HasSlots.keeps _ e.table.now;

@@ -6,60 +6,72 @@ use Rattle.toml_edit_table_like.proofs.entry.TableLikeEntry.place.Goals as goal
 
 pub returns-in-Text-clause-within : goal.returns-in-Text-clause-within
 returns-in-Text-clause-within g c =
-    placed-within g.T.HasSlots c.args.self.now.table.now (new_key c.in-Text.key.now) c.as_slots_mut.result.now c.place_for.new.slots c.as_slots_mut.ensures.slots c.place_for.result
+    placed-within g.T.HasSlots c.args.self.now.table.now (new_key c.in-Text.key.now) c.as_slots_mut.result.now c.place_for.new.slots
+    c.as_slots_mut.ensures.slots c.place_for.result
     c.place_for.ensures.within
 
 pub returns-in-Text-clause-item : goal.returns-in-Text-clause-item
 returns-in-Text-clause-item g c =
-    rw c.in-Text.is (placed-item g.T.HasSlots c.args.self.now.table.now (new_key c.in-Text.key.now) c.as_slots_mut.result.now c.place_for.new.slots c.as_slots_mut.ensures.slots c.place_for.result
+    rw c.in-Text.is (placed-item g.T.HasSlots c.args.self.now.table.now (new_key c.in-Text.key.now) c.as_slots_mut.result.now
+    c.place_for.new.slots c.as_slots_mut.ensures.slots c.place_for.result
     (item_view c.args.item) c.place_for.ensures.item)
 
 pub returns-in-Text-clause-rest : goal.returns-in-Text-clause-rest
 returns-in-Text-clause-rest g c =
-    rw c.in-Text.is (placed-rest g.T.HasSlots c.args.self.now.table.now (new_key c.in-Text.key.now) c.as_slots_mut.result.now c.place_for.new.slots c.as_slots_mut.ensures.slots c.place_for.result
+    rw c.in-Text.is (placed-rest g.T.HasSlots c.args.self.now.table.now (new_key c.in-Text.key.now) c.as_slots_mut.result.now
+    c.place_for.new.slots c.as_slots_mut.ensures.slots c.place_for.result
     c.place_for.ensures.rest)
 
 pub returns-in-Text-clause-leaves : goal.returns-in-Text-clause-leaves
 returns-in-Text-clause-leaves g c =
-    rw c.in-Text.is (placed-leaves g.T.HasSlots c.args.self.now.table.now (new_key c.in-Text.key.now) c.as_slots_mut.result.now c.place_for.new.slots c.as_slots_mut.ensures.slots c.place_for.result
+    rw c.in-Text.is (placed-leaves g.T.HasSlots c.args.self.now.table.now (new_key c.in-Text.key.now) c.as_slots_mut.result.now
+    c.place_for.new.slots c.as_slots_mut.ensures.slots c.place_for.result
     c.place_for.ensures.leaves)
 
 pub returns-in-Text-clause-present : goal.returns-in-Text-clause-present
 returns-in-Text-clause-present g c =
-    rw c.in-Text.is (placed-present g.T.HasSlots c.args.self.now.table.now (new_key c.in-Text.key.now) c.as_slots_mut.result.now c.place_for.new.slots c.as_slots_mut.ensures.slots c.place_for.result
+    rw c.in-Text.is (placed-present g.T.HasSlots c.args.self.now.table.now (new_key c.in-Text.key.now) c.as_slots_mut.result.now
+    c.place_for.new.slots c.as_slots_mut.ensures.slots c.place_for.result
     c.place_for.ensures.present)
 
 pub returns-in-Text-clause-err : goal.returns-in-Text-clause-err
 returns-in-Text-clause-err g c =
-    placed-err g.T.HasSlots c.args.self.now.table.now (new_key c.in-Text.key.now) c.as_slots_mut.result.now c.place_for.new.slots c.as_slots_mut.ensures.slots c.place_for.result
+    placed-err g.T.HasSlots c.args.self.now.table.now (new_key c.in-Text.key.now) c.as_slots_mut.result.now c.place_for.new.slots
+    c.as_slots_mut.ensures.slots c.place_for.result
     c.place_for.ensures.err
 
 pub returns-in-Formatted-clause-within : goal.returns-in-Formatted-clause-within
 returns-in-Formatted-clause-within g c =
-    placed-within g.T.HasSlots c.args.self.now.table.now c.in-Formatted.key.now c.as_slots_mut-in-Formatted.result.now c.place_for_key.new.slots c.as_slots_mut-in-Formatted.ensures.slots
+    placed-within g.T.HasSlots c.args.self.now.table.now c.in-Formatted.key.now c.as_slots_mut-in-Formatted.result.now
+    c.place_for_key.new.slots c.as_slots_mut-in-Formatted.ensures.slots
     c.place_for_key.result c.place_for_key.ensures.within
 
 pub returns-in-Formatted-clause-item : goal.returns-in-Formatted-clause-item
 returns-in-Formatted-clause-item g c =
-    rw c.in-Formatted.is (placed-item g.T.HasSlots c.args.self.now.table.now c.in-Formatted.key.now c.as_slots_mut-in-Formatted.result.now c.place_for_key.new.slots
+    rw c.in-Formatted.is (placed-item g.T.HasSlots c.args.self.now.table.now c.in-Formatted.key.now c.as_slots_mut-in-Formatted.result.now
+    c.place_for_key.new.slots
     c.as_slots_mut-in-Formatted.ensures.slots c.place_for_key.result (item_view c.args.item) c.place_for_key.ensures.item)
 
 pub returns-in-Formatted-clause-rest : goal.returns-in-Formatted-clause-rest
 returns-in-Formatted-clause-rest g c =
-    rw c.in-Formatted.is (placed-rest g.T.HasSlots c.args.self.now.table.now c.in-Formatted.key.now c.as_slots_mut-in-Formatted.result.now c.place_for_key.new.slots
+    rw c.in-Formatted.is (placed-rest g.T.HasSlots c.args.self.now.table.now c.in-Formatted.key.now c.as_slots_mut-in-Formatted.result.now
+    c.place_for_key.new.slots
     c.as_slots_mut-in-Formatted.ensures.slots c.place_for_key.result c.place_for_key.ensures.rest)
 
 pub returns-in-Formatted-clause-leaves : goal.returns-in-Formatted-clause-leaves
 returns-in-Formatted-clause-leaves g c =
-    rw c.in-Formatted.is (placed-leaves g.T.HasSlots c.args.self.now.table.now c.in-Formatted.key.now c.as_slots_mut-in-Formatted.result.now c.place_for_key.new.slots
+    rw c.in-Formatted.is (placed-leaves g.T.HasSlots c.args.self.now.table.now c.in-Formatted.key.now c.as_slots_mut-in-Formatted.result.now
+    c.place_for_key.new.slots
     c.as_slots_mut-in-Formatted.ensures.slots c.place_for_key.result c.place_for_key.ensures.leaves)
 
 pub returns-in-Formatted-clause-present : goal.returns-in-Formatted-clause-present
 returns-in-Formatted-clause-present g c =
-    rw c.in-Formatted.is (placed-present g.T.HasSlots c.args.self.now.table.now c.in-Formatted.key.now c.as_slots_mut-in-Formatted.result.now c.place_for_key.new.slots
+    rw c.in-Formatted.is (placed-present g.T.HasSlots c.args.self.now.table.now c.in-Formatted.key.now
+    c.as_slots_mut-in-Formatted.result.now c.place_for_key.new.slots
     c.as_slots_mut-in-Formatted.ensures.slots c.place_for_key.result c.place_for_key.ensures.present)
 
 pub returns-in-Formatted-clause-err : goal.returns-in-Formatted-clause-err
 returns-in-Formatted-clause-err g c =
-    placed-err g.T.HasSlots c.args.self.now.table.now c.in-Formatted.key.now c.as_slots_mut-in-Formatted.result.now c.place_for_key.new.slots c.as_slots_mut-in-Formatted.ensures.slots
+    placed-err g.T.HasSlots c.args.self.now.table.now c.in-Formatted.key.now c.as_slots_mut-in-Formatted.result.now
+    c.place_for_key.new.slots c.as_slots_mut-in-Formatted.ensures.slots
     c.place_for_key.result c.place_for_key.ensures.err

@@ -15,7 +15,8 @@ default-requires g c =
 pub returns-in-Some-clause-item : goal.returns-in-Some-clause-item
 returns-in-Some-clause-item g c =
     let e = c.args.self.now in
-    found-or-else g.T.HasSlots e.table.now (entry_key e) c.in-Some.at (sym c.in-Some.ensures.place) c.in-Some.ensures.within (IsViewOf (goal.F-post g c.args.default))
+    found-or-else g.T.HasSlots e.table.now (entry_key e) c.in-Some.at (sym c.in-Some.ensures.place) c.in-Some.ensures.within
+    (IsViewOf (goal.F-post g c.args.default))
 
 pub returns-in-Some-clause-leaves : goal.returns-in-Some-clause-leaves
 returns-in-Some-clause-leaves g c =

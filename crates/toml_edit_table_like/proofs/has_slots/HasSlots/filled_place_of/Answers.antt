@@ -9,7 +9,8 @@ use Rattle.toml_edit_table_like.proofs.ShownLaws.{place-shown}
 use Rattle.toml_edit_table_like.proofs.has_slots.HasSlots.filled_place_of.Goals as goal
 use Rattle.toml_edit_tree.specs.declared.item.Item.{Item}
 
-there : (k : Text) (es : List (Slot Item)) (o : Option ℕ) → IfSome o (λ at. place k es ≡ Some at) → IfSome o (λ at. model.place k (shown es) ≡ Some at)
+there : (k : Text) (es : List (Slot Item)) (o : Option ℕ) → IfSome o (λ at. place k es ≡ Some at)
+    → IfSome o (λ at. model.place k (shown es) ≡ Some at)
 there k es None h = tt
 there k es (Some at) h = place-shown k es ∙ h
 
@@ -17,5 +18,6 @@ pub returns-clause-there : goal.returns-clause-there
 returns-clause-there g c =
     let t = c.args.self.now in
     let k = c.args.key.now in
-    subst (λ l. IfSome c.filled_place.result (λ at. model.place k l ≡ Some at)) (ap shown c.as_slots.ensures ∙ sym (g.Self.HasSlots.shows t))
+    subst (λ l. IfSome c.filled_place.result (λ at. model.place k l ≡ Some at)) (ap shown c.as_slots.ensures
+    ∙ sym (g.Self.HasSlots.shows t))
     (there k c.as_slots.result.now c.filled_place.result c.filled_place.ensures.place)

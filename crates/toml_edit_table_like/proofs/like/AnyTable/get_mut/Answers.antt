@@ -17,12 +17,18 @@ returns-in-Some g c =
     let es = g.Self.HasSlots.entries t in
     let apart : AreApart (shown es) = subst (λ l. AreApart (shown l)) c.as_slots.ensures c.filled_place.ensures.apart in
     let here : Some c.in-Some.at ≡ place k es = sym (ap (place k) (sym c.as_slots.ensures) ∙ c.in-Some.ensures.place) in (
-      λ j. inl (c.item_at_mut.result.ghost_name, λ w. g.Self.HasSlots.with_entries (option_map_or (λ i. with_item_at i w es) (here j) es) t),
+      λ j. inl (
+        c.item_at_mut.result.ghost_name,
+        λ w. g.Self.HasSlots.with_entries (option_map_or (λ i. with_item_at i w es) (here j) es)
+            t,
+      ),
       (
-        ap (option_map item_view) (c.item_at_mut.ensures.item ∙ ap (λ l. slice_get (items_of l) c.in-Some.at) (sym c.as_slots.ensures)) ∙ c.in-Some.ensures.held
+        ap (option_map item_view) (c.item_at_mut.ensures.item ∙ ap (λ l. slice_get (items_of l) c.in-Some.at) (sym c.as_slots.ensures))
+            ∙ c.in-Some.ensures.held
             ∙ ap (get k) (ap shown c.as_slots.ensures ∙ sym (g.Self.HasSlots.shows t)),
         (
-          λ w. g.Self.HasSlots.shows _ ∙ ap shown (g.Self.HasSlots.takes _ t) ∙ item-written k w es apart ∙ ap (changed k (with_item (item_view w))) (sym (g.Self.HasSlots.shows t)),
+          λ w. g.Self.HasSlots.shows _ ∙ ap shown (g.Self.HasSlots.takes _ t) ∙ item-written k w es apart
+              ∙ ap (changed k (with_item (item_view w))) (sym (g.Self.HasSlots.shows t)),
           λ w. g.Self.HasSlots.keeps _ t,
         ),
       ),
@@ -38,7 +44,8 @@ returns-in-None g c =
       (
         c.in-None.ensures.held ∙ ap (get k) (ap shown c.as_slots.ensures ∙ sym (g.Self.HasSlots.shows t)),
         (
-          λ w. g.Self.HasSlots.shows _ ∙ ap shown (g.Self.HasSlots.takes _ t) ∙ item-written k w es apart ∙ ap (changed k (with_item (item_view w))) (sym (g.Self.HasSlots.shows t)),
+          λ w. g.Self.HasSlots.shows _ ∙ ap shown (g.Self.HasSlots.takes _ t) ∙ item-written k w es apart
+              ∙ ap (changed k (with_item (item_view w))) (sym (g.Self.HasSlots.shows t)),
           λ w. g.Self.HasSlots.keeps _ t,
         ),
       ),

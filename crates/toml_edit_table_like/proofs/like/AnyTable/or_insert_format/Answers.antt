@@ -20,13 +20,16 @@ returns-in-Ok g c =
       λ j. inl (
         c.item_at_mut.result.ghost_name,
         λ w. (g.Self.HasSlots.again _ fs t
-            ∙ ap (λ l. g.Self.HasSlots.with_entries l t) (ap (with_item at w) (g.Self.HasSlots.takes fs t) ∙ c.in-Ok.ensures.rest w ∙ ap (item_put k w) c.as_slots_mut.ensures.slots)) j,
+            ∙ ap (λ l. g.Self.HasSlots.with_entries l t) (ap (with_item at w) (g.Self.HasSlots.takes fs t) ∙ c.in-Ok.ensures.rest w
+            ∙ ap (item_put k w) c.as_slots_mut.ensures.slots)) j,
       ),
       record {
         writes_back = tt;
-        item = same_Some _ _ (ap (option_map item_view) (c.item_at_mut.ensures.item ∙ ap (λ l. slice_get (items_of l) at) (g.Self.HasSlots.takes fs t)) ∙ c.in-Ok.ensures.item
+        item = same_Some _ _ (ap (option_map item_view) (c.item_at_mut.ensures.item
+            ∙ ap (λ l. slice_get (items_of l) at) (g.Self.HasSlots.takes fs t)) ∙ c.in-Ok.ensures.item
             ∙ ap (λ l. Some (unwrap_or (lookup c.args.key.now.name l) (item_view c.args.item))) seen);
-        leaves = λ w. g.Self.HasSlots.shows _ ∙ ap shown (g.Self.HasSlots.takes _ t) ∙ ap (λ l. shown (item_put k w l)) (sym c.as_slots_mut.ensures.slots) ∙ c.place_for_key.ensures.leaves w
+        leaves = λ w. g.Self.HasSlots.shows _ ∙ ap shown (g.Self.HasSlots.takes _ t)
+            ∙ ap (λ l. shown (item_put k w l)) (sym c.as_slots_mut.ensures.slots) ∙ c.place_for_key.ensures.leaves w
             ∙ ap (put (with_item_seen (item_view w)) (record { key = k; item = item_view w })) seen;
         keeps = λ w. g.Self.HasSlots.keeps _ t;
         present = λ _. refl;
@@ -39,11 +42,13 @@ returns-in-Err g c =
     let t = c.args.self.now in
     let k = c.args.key.now in
     let seen = ap shown c.as_slots_mut.ensures.slots ∙ sym (g.Self.HasSlots.shows t) in (
-      λ j. inr ((ap (λ l. g.Self.HasSlots.with_entries l t) (c.in-Err.ensures.err ∙ c.as_slots_mut.ensures.slots) ∙ g.Self.HasSlots.stays t) j),
+      λ j. inr ((ap (λ l. g.Self.HasSlots.with_entries l t) (c.in-Err.ensures.err ∙ c.as_slots_mut.ensures.slots)
+          ∙ g.Self.HasSlots.stays t) j),
       record {
         writes_back = tt;
         item = tt;
-        leaves = λ w. g.Self.HasSlots.shows _ ∙ ap shown (g.Self.HasSlots.takes _ t) ∙ ap (λ l. shown (item_put k w l)) (sym c.as_slots_mut.ensures.slots) ∙ c.place_for_key.ensures.leaves w
+        leaves = λ w. g.Self.HasSlots.shows _ ∙ ap shown (g.Self.HasSlots.takes _ t)
+            ∙ ap (λ l. shown (item_put k w l)) (sym c.as_slots_mut.ensures.slots) ∙ c.place_for_key.ensures.leaves w
             ∙ ap (put (with_item_seen (item_view w)) (record { key = k; item = item_view w })) seen;
         keeps = λ w. g.Self.HasSlots.keeps _ t;
         present = λ h. c.in-Err.ensures.present (ap (has_slot c.args.key.now.name) seen ∙ h);

@@ -7,7 +7,10 @@ use Rattle.toml_edit_table_like.proofs.like.AnyTable.slot_at.Goals as goal
 pub invariant_of-result : goal.invariant_of-result
 invariant_of-result g c =
     let t = c.args.self.now in
-    record { within = subst (λ n. c.args.at < n) (ap length (g.Self.HasSlots.shows t) ∙ length-shown (g.Self.HasSlots.entries t)) c.requires }
+    record {
+      within = subst (λ n. c.args.at < n) (ap length (g.Self.HasSlots.shows t)
+          ∙ length-shown (g.Self.HasSlots.entries t)) c.requires;
+    }
 
 pub returns : goal.returns
 returns g c = record { same_table = refl; slot = slot_of _; place = refl }

@@ -8,9 +8,11 @@ use Rattle.toml_edit_table_like.proofs.like.AnyTable.slots.Goals as goal
 pub returns-clause-count : goal.returns-clause-count
 returns-clause-count g c =
     let t = c.args.self.now in
-    c.len.ensures ∙ ap length c.as_slots-slots.ensures ∙ sym (ap length (g.Self.HasSlots.shows t) ∙ length-shown (g.Self.HasSlots.entries t))
+    c.len.ensures ∙ ap length c.as_slots-slots.ensures
+    ∙ sym (ap length (g.Self.HasSlots.shows t) ∙ length-shown (g.Self.HasSlots.entries t))
 
 pub returns-clause-apart : goal.returns-clause-apart
 returns-clause-apart g c =
     let t = c.args.self.now in
-    subst AreApart (ap shown c.as_slots-slots.ensures ∙ sym (g.Self.HasSlots.shows t)) (apart-first c.as_slots-slots.result.now c.as_slice-entries.ensures.apart)
+    subst AreApart (ap shown c.as_slots-slots.ensures ∙ sym (g.Self.HasSlots.shows t))
+    (apart-first c.as_slots-slots.result.now c.as_slice-entries.ensures.apart)

@@ -9,7 +9,8 @@ use Rattle.toml_edit_table_like.proofs.like.InlineTableAnyTable.contains_key.Goa
 pub returns-in-Some : goal.returns-in-Some
 returns-in-Some c =
     record {
-      found = c.is_value.ensures ∙ sym (value-filled c.args.key.now (inline_slots_of c.args.self.now) _ c.in-Some.ensures.apart c.in-Some.ensures.slot);
+      found = c.is_value.ensures ∙ sym (value-filled c.args.key.now (inline_slots_of c.args.self.now) _ c.in-Some.ensures.apart
+          c.in-Some.ensures.slot);
       there = λ _. ap (λ o. is_some (option_map (λ (s : model.Slot Node). s.item) o)) (sym c.in-Some.ensures.slot);
     }
 

@@ -9,7 +9,8 @@ pub invariant_of-self-lent : goal.invariant_of-self-lent
 invariant_of-self-lent g c w =
     let o = c.args.self.now in
     let es = g.T.HasSlots.entries o.table.now in
-    let many = ap length (g.T.HasSlots.takes (on_key o.at (λ k. record k { dotted = w }) es) o.table.now) ∙ length-on_key (λ k. record k { dotted = w }) es o.at in
+    let many = ap length (g.T.HasSlots.takes (on_key o.at (λ k. record k { dotted = w }) es) o.table.now)
+    ∙ length-on_key (λ k. record k { dotted = w }) es o.at in
     (omega (arith, o.within, many), tt)
 
 pub returns : goal.returns

@@ -9,6 +9,7 @@ pub invariant_of-self : goal.invariant_of-self
 invariant_of-self g c =
     let o = c.args.self.now in
     let t = o.table.now in
-    let many = ap length (g.T.HasSlots.takes c.fmt_key.new.self t ∙ c.fmt_key.ensures ∙ ap (on_key o.at reset_key) c.as_slots_mut.ensures.slots)
+    let many = ap length (g.T.HasSlots.takes c.fmt_key.new.self t ∙ c.fmt_key.ensures
+    ∙ ap (on_key o.at reset_key) c.as_slots_mut.ensures.slots)
     ∙ length-on_key reset_key (g.T.HasSlots.entries t) o.at in
     record { within = subst (λ n. o.at < n) (sym many) o.within }

@@ -5,4 +5,5 @@ use Rattle.toml_edit_table_like.proofs.table_ref.TableRef.key_value_at.Goals as 
 
 pub returns : goal.returns
 returns c =
-    slot-read c.as_slots.result.now c.args.at c.key_value_at.result c.key_value_at.ensures ∙ ap (λ l. slice_get l c.args.at) c.as_slots.ensures
+    slot-read c.as_slots.result.now c.args.at c.key_value_at.result c.key_value_at.ensures
+    ∙ ap (λ l. slice_get l c.args.at) c.as_slots.ensures

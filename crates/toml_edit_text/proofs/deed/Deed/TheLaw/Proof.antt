@@ -13,5 +13,8 @@ use Rattle.toml_edit_text.proofs.deed.Deed.TheLaw.Statement.{statement}
 
 pub shares : (A : RattleType) (g : Ghosts A.Denot) (L : Laws A) → statement A g L
 shares A g L =
-    of_Lends (C.struct A g) (C.the_codes A.Denot A.coded (marker.the_row RawPtr).coded) (C.the_heap A g) (C.the_lent A g) (λ d p. nothing_shr_laws)
-    (copy_shared (marker.the_field RawPtr) (field_copy (marker.the_type RawPtr) tt), tt) (λ M 𝓤 𝓛 d p. Lends-nothing 𝓛 (C.the_heap A g d) (C.the_row A g).lives)
+    of_Lends (C.struct A g) (C.the_codes A.Denot A.coded (marker.the_row RawPtr).coded) (C.the_heap A g) (C.the_lent A g)
+    (λ d p. nothing_shr_laws) (
+      copy_shared (marker.the_field RawPtr) (field_copy (marker.the_type RawPtr) tt),
+      tt,
+    ) (λ M 𝓤 𝓛 d p. Lends-nothing 𝓛 (C.the_heap A g d) (C.the_row A g).lives)

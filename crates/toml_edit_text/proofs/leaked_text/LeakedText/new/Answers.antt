@@ -10,5 +10,6 @@ invariant_of-result c =
     record {
       at = sym c.forever-ptr.ensures.0;
       whole = ap length (sym same);
-      utf8 = subst IsUtf8 (sym (same ∙ c.leak.ensures.value ∙ ap (λ v. v.items) c.into_bytes.ensures.value)) (IsUtf8-string_bytes c.args.text);
+      utf8 = subst IsUtf8 (sym (same ∙ c.leak.ensures.value ∙ ap (λ v. v.items) c.into_bytes.ensures.value))
+          (IsUtf8-string_bytes c.args.text);
     }

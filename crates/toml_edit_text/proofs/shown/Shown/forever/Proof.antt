@@ -6,7 +6,8 @@ use base.Logic.{ent}
 use prog.Wp.{WpFn}
 use contract.Running.{tables}
 use types.Logic.{Logic, sem}
-use types.Kit.{‵, raw, ◌⊛◌, prop, ◌$◌, ◌∵◌, !, qed, move, keep, split, fsplit, fjoin, fpack, feq_l, feq_i, flt_l, regoal, use1, suffices, done}
+use types.Kit.{‵, raw, ◌⊛◌, prop, ◌$◌, ◌∵◌, !, qed, move, keep, split, fsplit, fjoin, fpack, feq_l, feq_i, flt_l, regoal, use1, suffices}
+use types.Kit.{done}
 use types.Part.{agg, sub, whole}
 use types.Run.{enter, returns, and_then, no_more, fld, stop, addr, from, hop}
 use types.ByLocal.{alloc_all, pass_all, free_all, look_at, get, sets, look_in_at}
@@ -49,7 +50,13 @@ pair_made 𝓛 b o xs small =
     fpack ! (Valss []) (within (record { name = []; args = []; types = []; fields = [] }) tt (nil ∷ [])) tt $ fjoin ! $
     nothing ! $ move ! (1 ∷ 0 ∷ []) $ fjoin ! $ feq_i ! (List Val) (vptr b o ∷ []) (vptr b o ∷ []) refl $ fjoin ! $
     feq_i ! (List Val) (pair b o ∷ []) (pair b o ∷ []) refl $ fjoin ! $
-    fpack ! (Valss (RawPtr ∷ Shown.the_row ∷ [])) (within (record { name = []; args = []; types = []; fields = RawPtr ∷ Shown.the_row ∷ [] }) (block_ptr b o, (x, tt)) (pair b o ∷ [])) (vptr b o ∷ [], (nil ∷ [], tt)) $ done !
+    fpack ! (Valss (RawPtr ∷ Shown.the_row ∷ [])) (within (record {
+      name = [];
+      args = [];
+      types = [];
+      fields = RawPtr ∷ Shown.the_row
+          ∷ [];
+    }) (block_ptr b o, (x, tt)) (pair b o ∷ [])) (vptr b o ∷ [], (nil ∷ [], tt)) $ done !
 
 abbrev stayed : Stays f.ended.signature.params f.ended.kept
 stayed = (stay_dropped (SliceRefOf [] tt (plain (λ _. u8)) (λ _. tt)) yes, tt)
@@ -60,7 +67,8 @@ forever_spec 𝓤 𝓛 𝓜 𝓡 wired =
     proved_at 𝓛 f.ended stayed c 𝓜 𝓡 (Goes-dropped 𝓛 0 (SliceRefOf [] tt (plain (λ _. u8)) (λ _. tt)) yes (λ κs x w. refl), tt)
     f.Key.name fn (code.unfolded 𝓤 𝓛.H 𝓜 𝓡 wired) (λ y are.
     let κs = y.0.0 in let b = y.0.3.0.ref_ptr.0 in let o = y.0.3.0.ref_ptr.1 in let xs = y.0.3.0.now in
-    qed 𝓛 ((raw (alive 𝓛 f.signature κs y.0.1) ⊛ ‵ (owns (types_at f.signature.params κs) y.0.3 y.0.4)) ∷ raw ((c κs y.0.3).requires y.1) ∷ []) ∵
+    qed 𝓛 ((raw (alive 𝓛 f.signature κs y.0.1) ⊛ ‵ (owns (types_at f.signature.params κs) y.0.3 y.0.4)) ∷ raw ((c κs y.0.3).requires y.1)
+    ∷ []) ∵
     split ! $ move ! (1 ∷ []) $ fsplit ! $ fsplit ! $ fsplit ! $ feq_l ! (λ is. fsplit ! $ flt_l ! (λ count. flt_l ! (λ size. unhide ! $
     regoal ! (λ (us : List Val). prop (WpFn 𝓤 𝓛.H 𝓣.C 𝓣.Λ fn (us ++ []) (W.post y))) is refl $
     enter ! 𝓣.C 𝓣.Λ fn (slice_val (b, o) (length xs) ∷ []) (W.post y) $

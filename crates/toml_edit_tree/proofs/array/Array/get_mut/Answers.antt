@@ -17,7 +17,8 @@ returns-then-holds_value c =
       refl,
       record {
         writes_back = tt;
-        value = ap (option_map value_view) (sym c.value_in_mut.ensures.value) ∙ value_seen_at (out-Array a).values.items c.args.at ∙ ap (λ xs. value_at c.args.at (item_list xs)) (sym (array_items a));
+        value = ap (option_map value_view) (sym c.value_in_mut.ensures.value) ∙ value_seen_at (out-Array a).values.items c.args.at
+            ∙ ap (λ xs. value_at c.args.at (item_list xs)) (sym (array_items a));
         leaves = λ w. array-leaves c.args.at w a;
         keeps = λ w. array-keeps c.args.at w a;
       },
@@ -29,7 +30,8 @@ returns-else-holds_value c =
       refl,
       record {
         writes_back = tt;
-        value = none-of value_view (value_in_at c.args.at a) (sym c.holds_value.ensures ∙ c.if-holds_value.false) ∙ value_seen_at (out-Array a).values.items c.args.at ∙ ap (λ xs. value_at c.args.at (item_list xs)) (sym (array_items a));
+        value = none-of value_view (value_in_at c.args.at a) (sym c.holds_value.ensures ∙ c.if-holds_value.false)
+            ∙ value_seen_at (out-Array a).values.items c.args.at ∙ ap (λ xs. value_at c.args.at (item_list xs)) (sym (array_items a));
         leaves = λ w. array-leaves c.args.at w a;
         keeps = λ w. array-keeps c.args.at w a;
       },

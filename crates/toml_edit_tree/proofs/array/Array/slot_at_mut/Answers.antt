@@ -12,7 +12,8 @@ returns-then-at-len c =
       refl,
       record {
         writes_back = tt;
-        item = slot_here v.items c.args.at c.slot_in_mut.result.now c.slot_in_mut.ensures.item ∙ ap (λ xs. slice_get (item_list xs) c.args.at) (sym (array_items c.args.self.now));
+        item = slot_here v.items c.args.at c.slot_in_mut.result.now c.slot_in_mut.ensures.item
+            ∙ ap (λ xs. slice_get (item_list xs) c.args.at) (sym (array_items c.args.self.now));
       },
     )
 
@@ -22,6 +23,7 @@ returns-else-at-len c =
       refl,
       record {
         writes_back = tt;
-        item = slot_past v.items c.args.at (omega (arith, c.len.ensures, c.if-at-len.false, v.ok)) ∙ ap (λ xs. slice_get (item_list xs) c.args.at) (sym (array_items c.args.self.now));
+        item = slot_past v.items c.args.at (omega (arith, c.len.ensures, c.if-at-len.false, v.ok))
+            ∙ ap (λ xs. slice_get (item_list xs) c.args.at) (sym (array_items c.args.self.now));
       },
     )

@@ -11,7 +11,8 @@ use Rattle.toml_edit_tree.proofs.array.line_texts.text_above.Given as goal
 abbrev pub invariant-lines : goal.invariant-lines
 invariant-lines l =
     shadow (Utf8 l.rest)
-    × (string_bytes l.above ++ flat_map (moved l.fn.newline l.fn.indent) (filter is_kept (lines l.rest)) ≡ text_above l.fn.newline l.fn.indent l.fn.decor)
+    × (string_bytes l.above ++ flat_map (moved l.fn.newline l.fn.indent) (filter is_kept (lines l.rest))
+    ≡ text_above l.fn.newline l.fn.indent l.fn.decor)
 
 abbrev pub decreases-lines : goal.decreases-lines
 decreases-lines l = length l.rest

@@ -22,13 +22,16 @@ returns-then-takes_lines-clause-before c =
     c.in_ok-above.ensures ∙ (λ i. text_above (end i) (indent i) d) in
     let after : string_bytes c.in_ok-after.after ≡ text_after (newline_at (gap at f xs) f xs) (indent_at at xs) d =
     c.in_ok-after.ensures ∙ (λ i. text_after (end i) (indent i) d) in
-    let is : takes_lines (gap at f xs) (text_above (newline_at (gap at f xs) f xs) (indent_at at xs) d) (text_after (newline_at (gap at f xs) f xs) (indent_at at xs) d) ≡ true =
-    sym (λ i. takes_lines ((c.as_str-2.ensures.value ∙ c.in_ok-gap.ensures) i) ((c.as_str-3.ensures.value ∙ above) i) ((c.as_str-4.ensures.value ∙ after) i))
+    let is : takes_lines (gap at f xs) (text_above (newline_at (gap at f xs) f xs) (indent_at at xs) d)
+    (text_after (newline_at (gap at f xs) f xs) (indent_at at xs) d) ≡ true =
+    sym (λ i. takes_lines ((c.as_str-2.ensures.value ∙ c.in_ok-gap.ensures) i) ((c.as_str-3.ensures.value ∙ above) i)
+    ((c.as_str-4.ensures.value ∙ after) i))
     ∙ (sym c.takes_lines.ensures ∙ c.if-takes_lines.true) in
     let here : c.as_str-then-takes_lines.result.now ≡ gap at f xs = c.as_str-then-takes_lines.ensures.value ∙ c.in_ok-gap.ensures in
     let next : c.next_indent-next.result.now ≡ (if is_end then [] else indent_at at xs) =
     c.next_indent-next.ensures ∙ ap (λ t. if is_end then [] else t) indent in
-    let broken : c.as_str-then-takes_lines-2.result.now ≡ broken_gap (gap at f xs) (newline_at (gap at f xs) f xs) (indent_at at xs) is_end =
+    let broken : c.as_str-then-takes_lines-2.result.now
+    ≡ broken_gap (gap at f xs) (newline_at (gap at f xs) f xs) (indent_at at xs) is_end =
     c.as_str-then-takes_lines-2.ensures.value ∙ (c.in_ok-broken.ensures ∙ (λ i. if is_broken (here i) then here i else end i ++ next i)) in
     c.in_ok-gaps.ensures.before
     ∙ (λ i. owned (first_line (broken i) ++ ((c.as_str-then-takes_lines-3.ensures.value ∙ above) i ++ (end i ++ indent i))))
@@ -48,13 +51,16 @@ returns-then-takes_lines-clause-after c =
     c.in_ok-above.ensures ∙ (λ i. text_above (end i) (indent i) d) in
     let after : string_bytes c.in_ok-after.after ≡ text_after (newline_at (gap at f xs) f xs) (indent_at at xs) d =
     c.in_ok-after.ensures ∙ (λ i. text_after (end i) (indent i) d) in
-    let is : takes_lines (gap at f xs) (text_above (newline_at (gap at f xs) f xs) (indent_at at xs) d) (text_after (newline_at (gap at f xs) f xs) (indent_at at xs) d) ≡ true =
-    sym (λ i. takes_lines ((c.as_str-2.ensures.value ∙ c.in_ok-gap.ensures) i) ((c.as_str-3.ensures.value ∙ above) i) ((c.as_str-4.ensures.value ∙ after) i))
+    let is : takes_lines (gap at f xs) (text_above (newline_at (gap at f xs) f xs) (indent_at at xs) d)
+    (text_after (newline_at (gap at f xs) f xs) (indent_at at xs) d) ≡ true =
+    sym (λ i. takes_lines ((c.as_str-2.ensures.value ∙ c.in_ok-gap.ensures) i) ((c.as_str-3.ensures.value ∙ above) i)
+    ((c.as_str-4.ensures.value ∙ after) i))
     ∙ (sym c.takes_lines.ensures ∙ c.if-takes_lines.true) in
     let here : c.as_str-then-takes_lines.result.now ≡ gap at f xs = c.as_str-then-takes_lines.ensures.value ∙ c.in_ok-gap.ensures in
     let next : c.next_indent-next.result.now ≡ (if is_end then [] else indent_at at xs) =
     c.next_indent-next.ensures ∙ ap (λ t. if is_end then [] else t) indent in
-    let broken : c.as_str-then-takes_lines-2.result.now ≡ broken_gap (gap at f xs) (newline_at (gap at f xs) f xs) (indent_at at xs) is_end =
+    let broken : c.as_str-then-takes_lines-2.result.now
+    ≡ broken_gap (gap at f xs) (newline_at (gap at f xs) f xs) (indent_at at xs) is_end =
     c.as_str-then-takes_lines-2.ensures.value ∙ (c.in_ok-broken.ensures ∙ (λ i. if is_broken (here i) then here i else end i ++ next i)) in
     c.in_ok-gaps.ensures.after
     ∙ (λ i. owned ((c.as_str-then-takes_lines-4.ensures.value ∙ after) i ++ after_first_line (broken i)))

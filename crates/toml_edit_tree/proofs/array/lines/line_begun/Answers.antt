@@ -16,5 +16,6 @@ places-preserved c =
     let before : after_newline (side_text (prefix_at place xs)) ≡ None =
     sym (ap after_newline (c.text_of.ensures ∙ ap side_text c.prefix_at.ensures)) ∙ (sym c.after_newline.ensures ∙ ap option_copied none) in
     let after : after_newline (side_text (suffix_at (place - 1) xs)) ≡ None =
-    sym (ap after_newline (c.text_of-in-places.ensures ∙ ap side_text c.suffix_at.ensures)) ∙ (sym c.after_newline-in-places.ensures ∙ ap option_copied none_after) in
+    sym (ap after_newline (c.text_of-in-places.ensures ∙ ap side_text c.suffix_at.ensures))
+    ∙ (sym c.after_newline-in-places.ensures ∙ ap option_copied none_after) in
     c.places.invariant ∙ line-before xs place c.places-test.true before after

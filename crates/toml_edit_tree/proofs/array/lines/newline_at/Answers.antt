@@ -15,7 +15,8 @@ returns-then-is_broken-2 c =
     let at = c.loop-at.at in
     let inside : at < length xs = omega (arith, c.loop-at-test.true, c.len-count.ensures) in
     let text : c.text_of-before.result.now ≡ side_text (prefix_at at xs) = c.text_of-before.ensures ∙ ap side_text c.prefix_at.ensures in
-    let broken : is_broken (side_text (prefix_at at xs)) ≡ true = ap is_broken (sym text) ∙ (sym c.is_broken-in-loop-at.ensures ∙ c.if-is_broken-2.true) in
+    let broken : is_broken (side_text (prefix_at at xs)) ≡ true = ap is_broken (sym text)
+    ∙ (sym c.is_broken-in-loop-at.ensures ∙ c.if-is_broken-2.true) in
     let whole : newline_at g f xs ≡ newline_in (prefixes xs ++ ts) =
     ap (λ (b : Bool). if b then first_newline g else newline_in (prefixes xs ++ ts)) (sym c.is_broken.ensures ∙ c.if-is_broken.false) in
     let here : newline_in (drop at (prefixes xs) ++ ts) ≡ first_newline (side_text (prefix_at at xs)) =
@@ -31,6 +32,7 @@ loop-at-preserved c =
     let at = c.loop-at.at in
     let inside : at < length xs = omega (arith, c.loop-at-test.true, c.len-count.ensures) in
     let text : c.text_of-before.result.now ≡ side_text (prefix_at at xs) = c.text_of-before.ensures ∙ ap side_text c.prefix_at.ensures in
-    let whole : is_broken (side_text (prefix_at at xs)) ≡ false = ap is_broken (sym text) ∙ (sym c.is_broken-in-loop-at.ensures ∙ c.if-is_broken-2.false) in
+    let whole : is_broken (side_text (prefix_at at xs)) ≡ false = ap is_broken (sym text)
+    ∙ (sym c.is_broken-in-loop-at.ensures ∙ c.if-is_broken-2.false) in
     c.loop-at.invariant ∙ newline-next xs ts at inside
     ∙ ap (λ (b : Bool). if b then first_newline (side_text (prefix_at at xs)) else newline_in (drop (at + 1) (prefixes xs) ++ ts)) whole

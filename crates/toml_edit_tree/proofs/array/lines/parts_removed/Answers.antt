@@ -14,7 +14,8 @@ returns-clause-left c =
     let f = array_fields c.args.array.now in
     let xs = items_of c.args.array.now in
     let at = c.args.at in
-    let last : leb c.len-count.result (at + 1) ≡ is_last at xs = ap (λ n. leb n (at + 1)) c.len-count.ensures ∙ last-tested at (length xs) in
+    let last : leb c.len-count.result (at + 1) ≡ is_last at xs = ap (λ n. leb n (at + 1)) c.len-count.ensures
+    ∙ last-tested at (length xs) in
     let next : at + 1 ≡ suc at = omega arith in
     let before : c.as_str.result.now ≡ gap at f xs = c.as_str.ensures.value ∙ c.in_ok-before.ensures in
     let after : c.as_str-2.result.now ≡ gap (suc at) f xs = c.as_str-2.ensures.value ∙ c.in_ok-after.ensures ∙ ap (λ k. gap k f xs) next in
@@ -31,7 +32,8 @@ returns-clause-decor c =
     let f = array_fields c.args.array.now in
     let xs = items_of c.args.array.now in
     let at = c.args.at in
-    let last : leb c.len-count.result (at + 1) ≡ is_last at xs = ap (λ n. leb n (at + 1)) c.len-count.ensures ∙ last-tested at (length xs) in
+    let last : leb c.len-count.result (at + 1) ≡ is_last at xs = ap (λ n. leb n (at + 1)) c.len-count.ensures
+    ∙ last-tested at (length xs) in
     let next : at + 1 ≡ suc at = omega arith in
     let before : c.as_str-4.result.now ≡ gap at f xs = c.as_str-4.ensures.value ∙ c.in_ok-before.ensures in
     let after : c.as_str-5.result.now ≡ gap (suc at) f xs = c.as_str-5.ensures.value ∙ c.in_ok-after.ensures ∙ ap (λ k. gap k f xs) next in

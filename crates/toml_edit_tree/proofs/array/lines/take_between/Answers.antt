@@ -9,4 +9,5 @@ returns-clause-items c =
 
 pub returns-clause-fields : goal.returns-clause-fields
 returns-clause-fields c =
-    c.put_gap.ensures.fields ∙ (λ i. fields_with_gap c.args.at c.args.left (c.remove-value.ensures.fields i) (c.remove-value.ensures.items i))
+    c.put_gap.ensures.fields ∙ (λ i. fields_with_gap c.args.at c.args.left (c.remove-value.ensures.fields i)
+    (c.remove-value.ensures.items i))

@@ -14,5 +14,6 @@ returns-clause-permutation g c = permuted-listed _ _ c.sort_by_key.ensures.permu
 pub returns-clause-sorted : goal.returns-clause-sorted
 returns-clause-sorted g c =
     on_ok_weaker c.sort_by_key.result
-    (λ p key by. sorts-held value_held value_view is_value_node value-seen (λ m n. is_lt (g.K.Ord.cmp (key m) (key n))) _ _ (p (λ v. key (value_view v)) by))
+    (λ p key by. sorts-held value_held value_view is_value_node value-seen (λ m n. is_lt (g.K.Ord.cmp (key m) (key n))) _ _
+    (p (λ v. key (value_view v)) by))
     c.sort_by_key.ensures.sorted

@@ -7,5 +7,14 @@ use Rattle.toml_edit_tree.proofs.array_of_tables.ArrayOfTables.from_iter.Goals a
 
 pub returns-in-Ok : goal.returns-in-Ok
 returns-in-Ok g c =
-    let e = c.in-Ok.ensures in
-    (e.0, e.1, e.2, e.4, (e.3.0 ∙ ap (λ a. item_list a.items ++ map (λ t. table_node (table_view t)) e.1) c.new-array.ensures, e.3.1 ∙ ap (λ a. a.extent) c.new-array.ensures))
+    let e = c.in-Ok.ensures in (
+      e.0,
+      e.1,
+      e.2,
+      e.4,
+      (
+        e.3.0 ∙ ap (λ a. item_list a.items ++ map (λ t. table_node (table_view t)) e.1) c.new-array.ensures,
+        e.3.1
+            ∙ ap (λ a. a.extent) c.new-array.ensures,
+      ),
+    )

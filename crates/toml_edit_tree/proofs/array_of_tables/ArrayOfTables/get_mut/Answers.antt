@@ -18,7 +18,9 @@ returns-then-holds_table c =
       refl,
       record {
         writes_back = tt;
-        table = ap (option_map (λ t. table_node (table_view t))) (sym c.table_in_mut.ensures.table) ∙ table_seen_at (out-ArrayOfTables a).values.items c.args.at ∙ ap (λ xs. table_at c.args.at (item_list xs)) (sym (tables_items a));
+        table = ap (option_map (λ t. table_node (table_view t))) (sym c.table_in_mut.ensures.table)
+            ∙ table_seen_at (out-ArrayOfTables a).values.items c.args.at
+            ∙ ap (λ xs. table_at c.args.at (item_list xs)) (sym (tables_items a));
         leaves = λ w. tables-leave c.args.at w a;
         keeps = λ w. tables-keep c.args.at w a;
       },
@@ -30,7 +32,9 @@ returns-else-holds_table c =
       refl,
       record {
         writes_back = tt;
-        table = none-of (λ t. table_node (table_view t)) (table_in_at c.args.at a) (sym c.holds_table.ensures ∙ c.if-holds_table.false) ∙ table_seen_at (out-ArrayOfTables a).values.items c.args.at ∙ ap (λ xs. table_at c.args.at (item_list xs)) (sym (tables_items a));
+        table = none-of (λ t. table_node (table_view t)) (table_in_at c.args.at a) (sym c.holds_table.ensures ∙ c.if-holds_table.false)
+            ∙ table_seen_at (out-ArrayOfTables a).values.items c.args.at
+            ∙ ap (λ xs. table_at c.args.at (item_list xs)) (sym (tables_items a));
         leaves = λ w. tables-leave c.args.at w a;
         keeps = λ w. tables-keep c.args.at w a;
       },

@@ -9,7 +9,8 @@ pub returns-in-Some : goal.returns-in-Some
 returns-in-Some c =
     let x = c.in-Some.item.now in
     let xs = c.deref.result.now in
-    let there = ap Some (c.in-Some.ensures.lookup.3.1 x) ∙ sym (slice_get-get_or xs c.args.at x c.in-Some.ensures.lookup.3.0) ∙ ap (λ l. slice_get l c.args.at) c.deref.ensures.value in
+    let there = ap Some (c.in-Some.ensures.lookup.3.1 x) ∙ sym (slice_get-get_or xs c.args.at x c.in-Some.ensures.lookup.3.0)
+    ∙ ap (λ l. slice_get l c.args.at) c.deref.ensures.value in
     c.is_table.ensures ∙ sym (table_some x) ∙ ap (λ o. is_some (option_and_then table_held o)) there
 
 pub returns-in-None : goal.returns-in-None

@@ -11,4 +11,6 @@ use Rattle.toml_edit_tree.proofs.array_of_tables.ArrayOfTables.into_array.Goals 
 pub returns : goal.returns
 returns c =
     c.array_of.ensures
-    ∙ ap (list new_array) (ap formatted_elements (c.make_items.ensures ∙ ap (λ v. each_made (items_view v.items)) c.into_values-items.ensures ∙ ap each_made (sym (tables_items c.args.self))) ∙ value-items (tables_view c.args.self).items)
+    ∙ ap (list new_array) (ap formatted_elements (c.make_items.ensures
+    ∙ ap (λ v. each_made (items_view v.items)) c.into_values-items.ensures ∙ ap each_made (sym (tables_items c.args.self)))
+    ∙ value-items (tables_view c.args.self).items)

@@ -11,15 +11,20 @@ use Rattle.toml_edit_tree.specs.declared.inline_table.InlineTable.{out-InlineTab
 use Rattle.toml_edit_tree.specs.declared.item.Item.TheVariants as items
 use Rattle.toml_edit_tree.specs.declared.value.Value.TheVariants as values
 use Rattle.toml_edit_tree.proofs.InlineLaws.{made_inline_fields}
-use Rattle.toml_edit_tree.proofs.InlinePlaceLaws.{has-made, key-made, key-new, leaves-made, leaves-new, slots-made, slots-new, value-made, value-new}
+use Rattle.toml_edit_tree.proofs.InlinePlaceLaws.{has-made, key-made, key-new, leaves-made, leaves-new, slots-made, slots-new, value-made}
+use Rattle.toml_edit_tree.proofs.InlinePlaceLaws.{value-new}
 use Rattle.toml_edit_tree.proofs.ViewLaws.{view-InlineTable}
 use Rattle.toml_edit_tree.proofs.inline_table.InlineTable.entry_format.Goals as goal
 
 pub invariant_of-result : goal.invariant_of-result
 invariant_of-result c =
     let k = c.args.key.now in
-    let at : place k.name (out-InlineTable c.args.self.now).items ≡ Some c.in-Some.at = ap (λ n. place n (out-InlineTable c.args.self.now).items) (sym c.get.ensures.name) ∙ sym c.in-Some.ensures.place in
-    record { held = has-made k c.args.self.now c.make_value_at.new.self c.in-Some.at (value_view (values.InlineTable c.new.result)) at c.in-Some.ensures.within c.place_of.ensures.apart c.make_value_at.ensures.items }
+    let at : place k.name (out-InlineTable c.args.self.now).items ≡ Some c.in-Some.at =
+    ap (λ n. place n (out-InlineTable c.args.self.now).items) (sym c.get.ensures.name) ∙ sym c.in-Some.ensures.place in
+    record {
+      held = has-made k c.args.self.now c.make_value_at.new.self c.in-Some.at (value_view (values.InlineTable c.new.result)) at
+          c.in-Some.ensures.within c.place_of.ensures.apart c.make_value_at.ensures.items;
+    }
 
 pub returns-in-Some : goal.returns-in-Some
 returns-in-Some c =
@@ -28,7 +33,8 @@ returns-in-Some c =
     let u = c.make_value_at.new.self in
     let i = c.in-Some.at in
     let d = value_view (values.InlineTable c.new.result) in
-    let at : place k.name (out-InlineTable t).items ≡ Some i = ap (λ n. place n (out-InlineTable t).items) (sym c.get.ensures.name) ∙ sym c.in-Some.ensures.place in
+    let at : place k.name (out-InlineTable t).items ≡ Some i = ap (λ n. place n (out-InlineTable t).items) (sym c.get.ensures.name)
+    ∙ sym c.in-Some.ensures.place in
     let inside = c.in-Some.ensures.within in
     let apart = c.place_of.ensures.apart in
     let made = c.make_value_at.ensures.items in
@@ -38,7 +44,8 @@ returns-in-Some c =
         refused = tt;
         same_table = refl;
         entry = record {
-          slots = slots-made k t u i d at inside apart made ∙ ap (λ n. model.changed k.name (model.on_item (made_value_or n)) (inline_slots_of t)) empty;
+          slots = slots-made k t u i d at inside apart made ∙ ap (λ n. model.changed k.name (model.on_item (made_value_or n))
+              (inline_slots_of t)) empty;
           fields = c.make_value_at.ensures.fields;
           value = value-made k t u i d at inside apart made;
           key = key-made k t u i d at inside apart made;
@@ -64,7 +71,8 @@ returns-in-Ok c =
           fields = refl;
           value = value-new k t none;
           key = ap Some is ∙ key-new k t none;
-          leaves = λ x. ap (λ y. inline_slots_of (record t { items = es ++ record { key = y; item = items.Value x } ∷ [] })) is ∙ leaves-new k t none x;
+          leaves = λ x. ap (λ y. inline_slots_of (record t { items = es ++ record { key = y; item = items.Value x } ∷ [] })) is
+              ∙ leaves-new k t none x;
           keeps = λ x. made_inline_fields t _;
         };
       },

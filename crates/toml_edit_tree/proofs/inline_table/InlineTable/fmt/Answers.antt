@@ -9,7 +9,8 @@ use Rattle.toml_edit_tree.proofs.inline_table.InlineTable.fmt.Goals as goal
 pub returns-clause-slots : goal.returns-clause-slots
 returns-clause-slots c =
     let t = c.args.self.now in
-    made_inline-shown _ ∙ formatted-shown (out-InlineTable t).items c.format_slots.new.slots c.format_slots.ensures ∙ ap formatted (sym (inline-shown t))
+    made_inline-shown _ ∙ formatted-shown (out-InlineTable t).items c.format_slots.new.slots c.format_slots.ensures
+    ∙ ap formatted (sym (inline-shown t))
 
 pub returns-clause-fields : goal.returns-clause-fields
 returns-clause-fields c = made_inline_fields c.args.self.now c.format_slots.new.slots

@@ -15,12 +15,14 @@ use Rattle.toml_edit_tree.proofs.SlotsLaws.{apart-shown, found-those, inline-sho
 use Rattle.toml_edit_tree.proofs.inline_table.InlineTable.get_key_value.Goals as goal
 
 -- by the slot of any kind
-found : (k : Text) (t : InlineTable) (o : Option (Bor Key × Bor Item)) → model.AreApart (seen (out-InlineTable t).items) → option_map pair_read o ≡ model.lookup_slot k (seen (out-InlineTable t).items)
+found : (k : Text) (t : InlineTable) (o : Option (Bor Key × Bor Item)) → model.AreApart (seen (out-InlineTable t).items)
+    → option_map pair_read o ≡ model.lookup_slot k (seen (out-InlineTable t).items)
     → get_slot k (inline_slots_of t) ≡ option_and_then (passing is_item k) (option_map slot_read o)
 found k t o apart is =
     ap (get_slot k) (inline-shown t)
     ∙ found-those is_item k (shown (out-InlineTable t).items) (apart-shown (out-InlineTable t).items apart)
-    ∙ ap (option_and_then (passing is_item k)) (lookup_slot-of k (out-InlineTable t).items ∙ ap (option_map (model.on_item item_view)) (sym is) ∙ read o)
+    ∙ ap (option_and_then (passing is_item k)) (lookup_slot-of k (out-InlineTable t).items
+    ∙ ap (option_map (model.on_item item_view)) (sym is) ∙ read o)
   where
     read : (o : Option (Bor Key × Bor Item)) → option_map (model.on_item item_view) (option_map pair_read o) ≡ option_map slot_read o
     read None = refl
@@ -34,22 +36,27 @@ pub returns-in_err-key : goal.returns-in_err-key
 returns-in_err-key c =
     record {
       slot = ap (option_map slot_read) c.from_residual.ensures
-          ∙ sym (found c.args.key.now c.args.self.now c.get_key_value.result c.get_key_value.ensures.apart c.get_key_value.ensures.slot ∙ ap (λ o. option_and_then (passing is_item c.args.key.now) (option_map slot_read o)) c.in_err-key.was);
+          ∙ sym (found c.args.key.now c.args.self.now c.get_key_value.result c.get_key_value.ensures.apart c.get_key_value.ensures.slot
+          ∙ ap (λ o. option_and_then (passing is_item c.args.key.now) (option_map slot_read o)) c.in_err-key.was);
       apart = all-apart c.args.self.now c.get_key_value.ensures.apart;
     }
 
 pub returns-then-is_none : goal.returns-then-is_none
 returns-then-is_none c =
     record {
-      slot = sym (found c.args.key.now c.args.self.now c.get_key_value.result c.get_key_value.ensures.apart c.get_key_value.ensures.slot ∙ ap (λ o. option_and_then (passing is_item c.args.key.now) (option_map slot_read o)) c.in_ok-key.was
-          ∙ ap (λ b. cond b (Some (slot_read (c.in_ok-key.key, c.in_ok-key.item))) None) (sym (is_item-not _ _ c.is_none.ensures) ∙ ap not c.if-is_none.true));
+      slot = sym (found c.args.key.now c.args.self.now c.get_key_value.result c.get_key_value.ensures.apart c.get_key_value.ensures.slot
+          ∙ ap (λ o. option_and_then (passing is_item c.args.key.now) (option_map slot_read o)) c.in_ok-key.was
+          ∙ ap (λ b. cond b (Some (slot_read (c.in_ok-key.key, c.in_ok-key.item))) None) (sym (is_item-not _ _ c.is_none.ensures)
+          ∙ ap not c.if-is_none.true));
       apart = all-apart c.args.self.now c.get_key_value.ensures.apart;
     }
 
 pub returns-else-is_none : goal.returns-else-is_none
 returns-else-is_none c =
     record {
-      slot = sym (found c.args.key.now c.args.self.now c.get_key_value.result c.get_key_value.ensures.apart c.get_key_value.ensures.slot ∙ ap (λ o. option_and_then (passing is_item c.args.key.now) (option_map slot_read o)) c.in_ok-key.was
-          ∙ ap (λ b. cond b (Some (slot_read (c.in_ok-key.key, c.in_ok-key.item))) None) (sym (is_item-not _ _ c.is_none.ensures) ∙ ap not c.if-is_none.false));
+      slot = sym (found c.args.key.now c.args.self.now c.get_key_value.result c.get_key_value.ensures.apart c.get_key_value.ensures.slot
+          ∙ ap (λ o. option_and_then (passing is_item c.args.key.now) (option_map slot_read o)) c.in_ok-key.was
+          ∙ ap (λ b. cond b (Some (slot_read (c.in_ok-key.key, c.in_ok-key.item))) None) (sym (is_item-not _ _ c.is_none.ensures)
+          ∙ ap not c.if-is_none.false));
       apart = all-apart c.args.self.now c.get_key_value.ensures.apart;
     }

@@ -11,5 +11,15 @@ returns-in-Some c =
     let k = c.args.key.now in
     let t = c.args.self.now in (
       (refl, λ w. refl, tt),
-      (refl, (refl, (c.in-Some.ensures.held, ap (place k) (inline-shown t) ∙ place-shown k (out-InlineTable t).items ∙ c.in-Some.ensures.place))),
+      (
+        refl,
+        (
+          refl,
+          (
+            c.in-Some.ensures.held,
+            ap (place k) (inline-shown t) ∙ place-shown k (out-InlineTable t).items
+                ∙ c.in-Some.ensures.place,
+          ),
+        ),
+      ),
     )

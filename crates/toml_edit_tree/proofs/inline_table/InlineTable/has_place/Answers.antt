@@ -6,4 +6,5 @@ use Rattle.toml_edit_tree.proofs.inline_table.InlineTable.has_place.Goals as goa
 
 pub returns-clause-there : goal.returns-clause-there
 returns-clause-there c =
-    ap (nat_lt c.args.at) (c.len.ensures ∙ sym (ap length (inline-shown c.args.self.now) ∙ length-shown (out-InlineTable c.args.self.now).items))
+    ap (nat_lt c.args.at) (c.len.ensures ∙ sym (ap length (inline-shown c.args.self.now)
+    ∙ length-shown (out-InlineTable c.args.self.now).items))

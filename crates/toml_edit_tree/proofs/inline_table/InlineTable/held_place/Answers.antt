@@ -19,7 +19,8 @@ returns-in_err-at-clause-held c =
     let t = c.args.self.now in
     let es = (out-InlineTable t).items in
     ap (λ o. option_map item_view (option_and_then (slice_get (items_of es)) o)) c.from_residual.ensures
-    ∙ sym (ap (get k) (inline-shown t) ∙ get-found k es None (apart-first es c.as_slice-entries.ensures.apart) (sym (ap (option_and_then (slice_get es)) c.in_err-at.was) ∙ c.find.ensures.slot))
+    ∙ sym (ap (get k) (inline-shown t) ∙ get-found k es None (apart-first es c.as_slice-entries.ensures.apart)
+    (sym (ap (option_and_then (slice_get es)) c.in_err-at.was) ∙ c.find.ensures.slot))
 
 pub returns-then-is_none-clause-held : goal.returns-then-is_none-clause-held
 returns-then-is_none-clause-held c =
@@ -30,8 +31,10 @@ returns-then-is_none-clause-held c =
     let s = c.index-entries-at.result in
     let there : s ≡ get_or es at s = c.index-entries-at.is ∙ ap (λ l. get_or l at s) c.as_slice-entries.ensures.slots in
     let got : slice_get es at ≡ Some s = slice_get-get_or es at s c.in_ok-at.ensures.within ∙ ap Some (sym there) in
-    sym (ap (get k) (inline-shown t) ∙ get-found k es (Some s) (apart-first es c.as_slice-entries.ensures.apart) (sym got ∙ sym (ap (option_and_then (slice_get es)) c.in_ok-at.was) ∙ c.find.ensures.slot)
-    ∙ ap (λ (x : Slot _). only is_item (item_view x.item)) c.index-entries-at.is ∙ ap (only is_item) (c.is_none.ensures.0 c.if-is_none.true))
+    sym (ap (get k) (inline-shown t) ∙ get-found k es (Some s) (apart-first es c.as_slice-entries.ensures.apart) (sym got
+    ∙ sym (ap (option_and_then (slice_get es)) c.in_ok-at.was) ∙ c.find.ensures.slot)
+    ∙ ap (λ (x : Slot _). only is_item (item_view x.item)) c.index-entries-at.is
+    ∙ ap (only is_item) (c.is_none.ensures.0 c.if-is_none.true))
 
 pub returns-else-is_none-clause-held : goal.returns-else-is_none-clause-held
 returns-else-is_none-clause-held c =
@@ -43,7 +46,9 @@ returns-else-is_none-clause-held c =
     let there : s ≡ get_or es at s = c.index-entries-at.is ∙ ap (λ l. get_or l at s) c.as_slice-entries.ensures.slots in
     let got : slice_get es at ≡ Some s = slice_get-get_or es at s c.in_ok-at.ensures.within ∙ ap Some (sym there) in
     let full : is_item (item_view s.item) ≡ true =
-    ap (λ (x : Slot _). is_item (item_view x.item)) c.index-entries-at.is ∙ sym (is_item-not _ _ c.is_none.ensures) ∙ ap not c.if-is_none.false in
+    ap (λ (x : Slot _). is_item (item_view x.item)) c.index-entries-at.is ∙ sym (is_item-not _ _ c.is_none.ensures)
+    ∙ ap not c.if-is_none.false in
     ap (option_map item_view) (item-at es at s got)
-    ∙ sym (ap (get k) (inline-shown t) ∙ get-found k es (Some s) (apart-first es c.as_slice-entries.ensures.apart) (sym got ∙ sym (ap (option_and_then (slice_get es)) c.in_ok-at.was) ∙ c.find.ensures.slot)
+    ∙ sym (ap (get k) (inline-shown t) ∙ get-found k es (Some s) (apart-first es c.as_slice-entries.ensures.apart) (sym got
+    ∙ sym (ap (option_and_then (slice_get es)) c.in_ok-at.was) ∙ c.find.ensures.slot)
     ∙ held_in-full s full)

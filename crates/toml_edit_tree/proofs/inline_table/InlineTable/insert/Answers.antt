@@ -14,16 +14,19 @@ pub returns-in-Ok-clause-old : goal.returns-in-Ok-clause-old
 returns-in-Ok-clause-old c =
     let t = c.args.self.now in
     c.old_as_value.ensures ∙ ap (λ o. option_and_then into_value (option_map item_view o)) c.in-Ok.ensures.old
-    ∙ sym (ap (old_value c.args.key.now) (inline-shown t) ∙ ap (option_and_then into_value) (lookup-shown c.args.key.now (out-InlineTable t).items))
+    ∙ sym (ap (old_value c.args.key.now) (inline-shown t)
+    ∙ ap (option_and_then into_value) (lookup-shown c.args.key.now (out-InlineTable t).items))
 
 pub returns-in-Ok-clause-slots : goal.returns-in-Ok-clause-slots
 returns-in-Ok-clause-slots c =
     let t = c.args.self.now in
     let es = (out-InlineTable t).items in
     made_inline-shown _ ∙ inserted-shown c.args.key.now (items.Value c.args.value) es c.insert.new.self c.in-Ok.ensures.seen
-    ∙ ap (λ n. inserted c.args.key.now n (shown es)) (view-Value c.args.value) ∙ ap (inserted c.args.key.now (value_view c.args.value)) (sym (inline-shown t))
+    ∙ ap (λ n. inserted c.args.key.now n (shown es)) (view-Value c.args.value)
+    ∙ ap (inserted c.args.key.now (value_view c.args.value)) (sym (inline-shown t))
 
 pub returns-in-Err-Value-clause-present : goal.returns-in-Err-Value-clause-present
 returns-in-Err-Value-clause-present c h =
     let t = c.args.self.now in
-    c.in-Err-Value.ensures.present (sym (ap (has_slot c.args.key.now) (inline-shown t) ∙ has_slot-shown c.args.key.now (out-InlineTable t).items) ∙ h)
+    c.in-Err-Value.ensures.present (sym (ap (has_slot c.args.key.now) (inline-shown t)
+    ∙ has_slot-shown c.args.key.now (out-InlineTable t).items) ∙ h)

@@ -22,7 +22,8 @@ pub returns-clause-slots : goal.returns-clause-slots
 returns-clause-slots c =
     let t = c.args.self.now in
     if_done c.insert_at.result c.insert_at.ensures.slots
-    (λ e. made_inline-shown _ ∙ inserted_slot-shown c.args.at c.args.key (items.Value c.args.value) (out-InlineTable t).items c.insert_at.new.self e
+    (λ e. made_inline-shown _ ∙ inserted_slot-shown c.args.at c.args.key (items.Value c.args.value) (out-InlineTable t).items
+    c.insert_at.new.self e
     ∙ ap (λ n. inserted_slot c.args.at (keyed c.args.key n) (shown (out-InlineTable t).items)) (view-Value c.args.value)
     ∙ ap (inserted_slot c.args.at (keyed c.args.key (value_view c.args.value))) (sym (inline-shown t)))
 

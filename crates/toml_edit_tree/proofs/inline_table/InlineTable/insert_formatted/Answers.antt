@@ -14,11 +14,14 @@ pub returns-in-Ok-clause-old : goal.returns-in-Ok-clause-old
 returns-in-Ok-clause-old c =
     let t = c.args.self.now in
     c.old_as_value.ensures ∙ ap (λ o. option_and_then into_value (option_map item_view o)) c.in-Ok.ensures.old
-    ∙ sym (ap (old_value c.args.key.now.name) (inline-shown t) ∙ ap (option_and_then into_value) (lookup-of c.args.key.now.name (out-InlineTable t).items))
+    ∙ sym (ap (old_value c.args.key.now.name) (inline-shown t)
+    ∙ ap (option_and_then into_value) (lookup-of c.args.key.now.name (out-InlineTable t).items))
 
 pub returns-in-Ok-clause-slots : goal.returns-in-Ok-clause-slots
 returns-in-Ok-clause-slots c =
     let t = c.args.self.now in
     let es = (out-InlineTable t).items in
-    made_inline-shown _ ∙ inserted_formatted-shown c.args.key.now (items.Value c.args.value) es c.insert_formatted.new.self c.in-Ok.ensures.slots
-    ∙ ap (λ n. inserted_formatted c.args.key.now n (shown es)) (view-Value c.args.value) ∙ ap (inserted_formatted c.args.key.now (value_view c.args.value)) (sym (inline-shown t))
+    made_inline-shown _ ∙ inserted_formatted-shown c.args.key.now (items.Value c.args.value) es c.insert_formatted.new.self
+    c.in-Ok.ensures.slots
+    ∙ ap (λ n. inserted_formatted c.args.key.now n (shown es)) (view-Value c.args.value)
+    ∙ ap (inserted_formatted c.args.key.now (value_view c.args.value)) (sym (inline-shown t))

@@ -9,5 +9,6 @@ abbrev pub invariant-loop-slot : goal.invariant-loop-slot
 invariant-loop-slot l =
     record {
       below : l.count ≤ l.slot-index;
-      counted : l.count + length (valued (slot_list (slots_view (drop l.slot-index l.slot-items)))) ≡ length (valued (slot_list (slots_view l.slot-items)));
+      counted : l.count + length (valued (slot_list (slots_view (drop l.slot-index l.slot-items))))
+          ≡ length (valued (slot_list (slots_view l.slot-items)));
     }

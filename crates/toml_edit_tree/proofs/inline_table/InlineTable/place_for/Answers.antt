@@ -13,7 +13,8 @@ use Rattle.toml_edit_tree.proofs.inline_table.InlineTable.place_for.Goals as goa
 
 pub returns-in-Some-clause-held : goal.returns-in-Some-clause-held
 returns-in-Some-clause-held c =
-    has-made (new_key c.args.key.now) c.args.self.now c.make_value_at.new.self c.in-Some.at (value_view c.args.value) (sym c.in-Some.ensures.place)
+    has-made (new_key c.args.key.now) c.args.self.now c.make_value_at.new.self c.in-Some.at (value_view c.args.value)
+    (sym c.in-Some.ensures.place)
     c.in-Some.ensures.within c.place_of.ensures.apart c.make_value_at.ensures.items
 
 pub returns-in-Some-clause-value : goal.returns-in-Some-clause-value
@@ -25,7 +26,8 @@ returns-in-Some-clause-value c =
     let d = value_view c.args.value in
     let at : place k (out-InlineTable t).items ≡ Some i = sym c.in-Some.ensures.place in
     value-made (new_key k) t u i d at c.in-Some.ensures.within c.place_of.ensures.apart c.make_value_at.ensures.items
-    ∙ ap (lookup k) (slots-made (new_key k) t u i d at c.in-Some.ensures.within c.place_of.ensures.apart c.make_value_at.ensures.items ∙ or_inserted-here k t i at d)
+    ∙ ap (lookup k) (slots-made (new_key k) t u i d at c.in-Some.ensures.within c.place_of.ensures.apart c.make_value_at.ensures.items
+    ∙ or_inserted-here k t i at d)
 
 pub returns-in-Some-clause-rest : goal.returns-in-Some-clause-rest
 returns-in-Some-clause-rest c w =
@@ -35,7 +37,8 @@ returns-in-Some-clause-rest c w =
     let i = c.in-Some.at in
     let at : place k (out-InlineTable t).items ≡ Some i = sym c.in-Some.ensures.place in
     ap (with_value_at i w) c.make_value_at.ensures.table
-    ∙ ap (λ l. record t { items = l }) (with-made (new_key k) t u i (value_view c.args.value) at c.in-Some.ensures.within c.place_of.ensures.apart c.make_value_at.ensures.items (items.Value w))
+    ∙ ap (λ l. record t { items = l }) (with-made (new_key k) t u i (value_view c.args.value) at c.in-Some.ensures.within
+    c.place_of.ensures.apart c.make_value_at.ensures.items (items.Value w))
     ∙ put-there k t i at w
 
 pub returns-in-Some-clause-leaves : goal.returns-in-Some-clause-leaves
@@ -51,7 +54,8 @@ returns-in-Ok-clause-value c =
     let k = c.args.key.now in
     let t = c.args.self.now in
     let none = sym c.in-None.ensures.place in
-    rw (c.in-Ok.ensures.place, c.in-Ok.ensures.table) (ap (option_map value_view) (put-last k t none c.args.value) ∙ sym (lookup-put k (value_view c.args.value) t none))
+    rw (c.in-Ok.ensures.place, c.in-Ok.ensures.table) (ap (option_map value_view) (put-last k t none c.args.value)
+    ∙ sym (lookup-put k (value_view c.args.value) t none))
 
 pub returns-in-Ok-clause-rest : goal.returns-in-Ok-clause-rest
 returns-in-Ok-clause-rest c w =
@@ -65,4 +69,5 @@ pub returns-in-Err-clause-leaves : goal.returns-in-Err-clause-leaves
 returns-in-Err-clause-leaves c = put-leaves c.args.key.now c.args.self.now c.place_of.ensures.apart
 
 pub returns-in-Err-clause-present : goal.returns-in-Err-clause-present
-returns-in-Err-clause-present c h = absurd (let none = has-none c.args.key.now c.args.self.now (sym c.in-None.ensures.place) in let is = h in cc)
+returns-in-Err-clause-present c h =
+    absurd (let none = has-none c.args.key.now c.args.self.now (sym c.in-None.ensures.place) in let is = h in cc)

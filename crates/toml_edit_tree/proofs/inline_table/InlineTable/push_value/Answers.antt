@@ -10,5 +10,6 @@ pub returns-in-Ok-push-clause-table : goal.returns-in-Ok-push-clause-table
 returns-in-Ok-push-clause-table c =
     let k = c.args.key.now in
     let t = c.args.self.now in
-    let left : c.push.new.self ≡ (out-InlineTable t).items ++ record { key = new_key k; item = items.Value c.args.value } ∷ [] = search rules in
+    let left : c.push.new.self ≡ (out-InlineTable t).items ++ record { key = new_key k; item = items.Value c.args.value } ∷ [] =
+    search rules in
     ap (λ l. record t { items = l }) left ∙ put-gone k t c.requires c.args.value

@@ -11,6 +11,8 @@ pub returns-clause-removed : goal.returns-clause-removed
 returns-clause-removed c =
     let t = c.args.self.now in
     let name = c.remove_at.result.key.name in
-    subst (λ found. IfSome found (λ (s : Slot _). inline_slots_of (record t { items = c.remove_at.new.self }) ≡ without s.key.name (inline_slots_of t)))
+    subst (λ found. IfSome found (λ (s : Slot _). inline_slots_of (record t { items = c.remove_at.new.self })
+    ≡ without s.key.name (inline_slots_of t)))
     (sym c.remove_at.ensures.slot)
-    (made_inline-shown _ ∙ without-shown name (out-InlineTable t).items c.remove_at.new.self c.remove_at.ensures.seen ∙ ap (without name) (sym (inline-shown t)))
+    (made_inline-shown _ ∙ without-shown name (out-InlineTable t).items c.remove_at.new.self c.remove_at.ensures.seen
+    ∙ ap (without name) (sym (inline-shown t)))

@@ -13,7 +13,8 @@ pub returns-clause-told : goal.returns-clause-told
 returns-clause-told c =
     let t = c.args.self.now in
     IfOk-weaker c.rename.result _ _
-    (λ told e. e ∙ sym (ap (renaming c.args.from.now c.args.to.now) (inline-shown t) ∙ renaming-shown c.args.from.now c.args.to.now (out-InlineTable t).items)) c.rename.ensures.told
+    (λ told e. e ∙ sym (ap (renaming c.args.from.now c.args.to.now) (inline-shown t)
+    ∙ renaming-shown c.args.from.now c.args.to.now (out-InlineTable t).items)) c.rename.ensures.told
 
 pub returns-clause-slots : goal.returns-clause-slots
 returns-clause-slots c =

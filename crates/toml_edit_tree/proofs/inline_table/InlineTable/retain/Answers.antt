@@ -12,7 +12,8 @@ pub returns-clause-kept : goal.returns-clause-kept
 returns-clause-kept g c =
     let t = c.args.self.now in
     subst (λ l. RetainsBy (SaysOfPair g.F.Fn c.args.keep) (valued (inline_slots_of t)) l) (sym (made_inline-shown _))
-    (subst (λ l. RetainsBy (SaysOfPair g.F.Fn c.args.keep) (valued l) (shown c.retain_values.new.slots)) (sym (inline-shown t)) c.retain_values.ensures)
+    (subst (λ l. RetainsBy (SaysOfPair g.F.Fn c.args.keep) (valued l) (shown c.retain_values.new.slots)) (sym (inline-shown t))
+    c.retain_values.ensures)
 
 pub returns-clause-fields : goal.returns-clause-fields
 returns-clause-fields g c = made_inline_fields c.args.self.now c.retain_values.new.slots

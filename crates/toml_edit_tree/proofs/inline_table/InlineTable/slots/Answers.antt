@@ -7,7 +7,8 @@ use Rattle.toml_edit_tree.proofs.TableEntryLaws.{apart-first}
 use Rattle.toml_edit_tree.proofs.inline_table.InlineTable.slots.Goals as goal
 
 pub returns-clause-count : goal.returns-clause-count
-returns-clause-count c = c.len.ensures ∙ sym (ap length (inline-shown c.args.self.now) ∙ length-shown (out-InlineTable c.args.self.now).items)
+returns-clause-count c =
+    c.len.ensures ∙ sym (ap length (inline-shown c.args.self.now) ∙ length-shown (out-InlineTable c.args.self.now).items)
 
 pub returns-clause-apart : goal.returns-clause-apart
 returns-clause-apart c =

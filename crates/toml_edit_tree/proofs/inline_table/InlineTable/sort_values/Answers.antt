@@ -15,13 +15,15 @@ returns-clause-reorders c = of_inline (IsDeepReorder is_dotted_inline) c.args.se
 pub returns-clause-sorted : goal.returns-clause-sorted
 returns-clause-sorted c =
     if_done c.sort_slots.result c.sort_slots.ensures.sorted
-    (λ s. of_inline (IsDeepSort is_dotted_inline name_lt) c.args.self.now c.sort_slots.new.slots (s name_lt (answers_always _ _ _ (λ f a r f' k. search rules))))
+    (λ s. of_inline (IsDeepSort is_dotted_inline name_lt) c.args.self.now c.sort_slots.new.slots
+    (s name_lt (answers_always _ _ _ (λ f a r f' k. search rules))))
 
 pub returns-clause-in_order : goal.returns-clause-in_order
 returns-clause-in_order c =
     if_done c.sort_slots.result c.sort_slots.ensures.sorted
     (λ s. sorted_slots-only is_dotted_inline _ _
-    (of_inline (IsDeepSort is_dotted_inline name_lt) c.args.self.now c.sort_slots.new.slots (s name_lt (answers_always _ _ _ (λ f a r f' k. search rules)))))
+    (of_inline (IsDeepSort is_dotted_inline name_lt) c.args.self.now c.sort_slots.new.slots
+    (s name_lt (answers_always _ _ _ (λ f a r f' k. search rules)))))
 
 pub returns-clause-fields : goal.returns-clause-fields
 returns-clause-fields c = made_inline_fields c.args.self.now c.sort_slots.new.slots

@@ -9,7 +9,8 @@ use Rattle.toml_edit_tree.proofs.InlineSortLaws.{of_inline}
 use Rattle.toml_edit_tree.proofs.inline_table.InlineTable.sort_values_by.Goals as goal
 
 pub returns-clause-reorders : goal.returns-clause-reorders
-returns-clause-reorders g c = of_inline (IsDeepReorder is_dotted_inline) c.args.self.now c.sort_slots.new.slots c.sort_slots.ensures.reorders
+returns-clause-reorders g c =
+    of_inline (IsDeepReorder is_dotted_inline) c.args.self.now c.sort_slots.new.slots c.sort_slots.ensures.reorders
 
 pub returns-clause-sorted : goal.returns-clause-sorted
 returns-clause-sorted g c =

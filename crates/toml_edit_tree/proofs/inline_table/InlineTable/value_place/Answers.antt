@@ -18,7 +18,8 @@ returns-in_err-at-clause-value c =
     let t = c.args.self.now in
     let es = (out-InlineTable t).items in
     ap (λ o. option_map value_view (option_and_then (λ at. value_at at es) o)) c.from_residual.ensures
-    ∙ sym (value-found c.args.key.now t None (apart-first es c.as_slice-entries.ensures.apart) (sym (ap (option_and_then (slice_get es)) c.in_err-at.was) ∙ c.find.ensures.slot))
+    ∙ sym (value-found c.args.key.now t None (apart-first es c.as_slice-entries.ensures.apart)
+    (sym (ap (option_and_then (slice_get es)) c.in_err-at.was) ∙ c.find.ensures.slot))
 
 pub returns-then-is_value-clause-value : goal.returns-then-is_value-clause-value
 returns-then-is_value-clause-value c =
@@ -29,7 +30,8 @@ returns-then-is_value-clause-value c =
     let there : s ≡ get_or es at s = c.index-entries-at.is ∙ ap (λ l. get_or l at s) c.as_slice-entries.ensures.slots in
     let got : slice_get es at ≡ Some s = slice_get-get_or es at s c.in_ok-at.ensures.within ∙ ap Some (sym there) in
     ap (λ o. option_map value_view (option_and_then value_held o)) (item-at es at s got)
-    ∙ sym (value-found c.args.key.now t (Some s) (apart-first es c.as_slice-entries.ensures.apart) (sym got ∙ sym (ap (option_and_then (slice_get es)) c.in_ok-at.was) ∙ c.find.ensures.slot))
+    ∙ sym (value-found c.args.key.now t (Some s) (apart-first es c.as_slice-entries.ensures.apart) (sym got
+    ∙ sym (ap (option_and_then (slice_get es)) c.in_ok-at.was) ∙ c.find.ensures.slot))
 
 pub returns-then-is_value-clause-held : goal.returns-then-is_value-clause-held
 returns-then-is_value-clause-held c =
@@ -49,8 +51,10 @@ returns-else-is_value-clause-value c =
     let s = c.index-entries-at.result in
     let there : s ≡ get_or es at s = c.index-entries-at.is ∙ ap (λ l. get_or l at s) c.as_slice-entries.ensures.slots in
     let got : slice_get es at ≡ Some s = slice_get-get_or es at s c.in_ok-at.ensures.within ∙ ap Some (sym there) in
-    none-of value_view (value_held s.item) (ap (λ (x : Slot _). is_some (value_held x.item)) c.index-entries-at.is ∙ held-some _ ∙ sym c.is_value.ensures ∙ c.if-is_value.false)
-    ∙ sym (value-found c.args.key.now t (Some s) (apart-first es c.as_slice-entries.ensures.apart) (sym got ∙ sym (ap (option_and_then (slice_get es)) c.in_ok-at.was) ∙ c.find.ensures.slot))
+    none-of value_view (value_held s.item) (ap (λ (x : Slot _). is_some (value_held x.item)) c.index-entries-at.is ∙ held-some _
+    ∙ sym c.is_value.ensures ∙ c.if-is_value.false)
+    ∙ sym (value-found c.args.key.now t (Some s) (apart-first es c.as_slice-entries.ensures.apart) (sym got
+    ∙ sym (ap (option_and_then (slice_get es)) c.in_ok-at.was) ∙ c.find.ensures.slot))
 
 pub returns-in_err-at-clause-apart : goal.returns-in_err-at-clause-apart
 returns-in_err-at-clause-apart c =

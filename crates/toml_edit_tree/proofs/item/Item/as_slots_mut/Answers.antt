@@ -13,7 +13,8 @@ seen : (o : Option (MutBor (List (Slot Item)))) → option_map (λ es. shown es.
 seen None = refl
 seen (Some es) = refl
 
-own : (x : Item) (o : Option (MutBor (List (Slot Item)))) → option_map (λ es. es.now) o ≡ slots_held x → IfSome o (λ es. with_slots es.now x ≡ x)
+own : (x : Item) (o : Option (MutBor (List (Slot Item)))) → option_map (λ es. es.now) o ≡ slots_held x
+    → IfSome o (λ es. with_slots es.now x ≡ x)
 own x None is = tt
 own x (Some es) is = own-item es.now x (sym is)
 

@@ -15,4 +15,5 @@ returns-in-Some-clause-item c =
     let k = c.args.key.now in
     let es = c.in-Some.slots.now in
     ap (option_and_then (item_under k)) c.in-Ok.ensures.made ∙ ap (option_and_then (lookup k)) (sym c.in-Some.ensures.slots)
-    ∙ found-at k es c.in-Ok.at c.item_mut.result.now (ap (option_and_then (place k)) c.in-Some.ensures.slots ∙ c.in-Ok.ensures.place) c.item_mut.ensures.item
+    ∙ found-at k es c.in-Ok.at c.item_mut.result.now (ap (option_and_then (place k)) c.in-Some.ensures.slots
+    ∙ c.in-Ok.ensures.place) c.item_mut.ensures.item

@@ -20,7 +20,8 @@ returns-in-Ok-place_under-clause-place c =
 pub returns-in-Err-place_under-clause-present : goal.returns-in-Err-place_under-clause-present
 returns-in-Err-place_under-clause-present c h =
     let k = c.args.key.now in
-    c.in-Err-place_under.ensures.present (has-found k (shown c.in-Some.slots.now) (subst (λ o. IsSome (option_and_then (lookup k) o)) (sym c.in-Some.ensures.slots) h))
+    c.in-Err-place_under.ensures.present (has-found k (shown c.in-Some.slots.now)
+    (subst (λ o. IsSome (option_and_then (lookup k) o)) (sym c.in-Some.ensures.slots) h))
 
 pub returns-in-Err-place_under-clause-err : goal.returns-in-Err-place_under-clause-err
 returns-in-Err-place_under-clause-err c = ap (λ es. with_slots es c.args.self.now) c.in-Err-place_under.ensures.err ∙ c.in-Some.ensures.own

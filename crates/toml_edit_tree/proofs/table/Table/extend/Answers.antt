@@ -10,5 +10,14 @@ pub returns : goal.returns
 returns g c =
     let t = c.args.self.now in
     let h = c.extend.ensures in
-    let xs = h.1 in
-    (h.0, xs, h.2, (made-shown _ ∙ extended-shown xs (out-Table t).slots c.extend.new.self h.3 ∙ ap (extended (map slot_taken xs)) (sym (table-shown t)), made_fields t c.extend.new.self), h.4)
+    let xs = h.1 in (
+      h.0,
+      xs,
+      h.2,
+      (
+        made-shown _ ∙ extended-shown xs (out-Table t).slots c.extend.new.self h.3
+            ∙ ap (extended (map slot_taken xs)) (sym (table-shown t)),
+        made_fields t c.extend.new.self,
+      ),
+      h.4,
+    )

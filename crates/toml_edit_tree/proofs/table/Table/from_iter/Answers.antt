@@ -15,5 +15,6 @@ returns g c =
       h.1,
       h.2,
       h.3,
-      c.of_slots.ensures ∙ ap (λ ss. record { fields = new_table; slots = ss }) (sym (slots_from-list (slots_view slots)) ∙ ap slots_from (extended-shown h.1 [] slots h.4)),
+      c.of_slots.ensures ∙ ap (λ ss. record { fields = new_table; slots = ss }) (sym (slots_from-list (slots_view slots))
+          ∙ ap slots_from (extended-shown h.1 [] slots h.4)),
     )

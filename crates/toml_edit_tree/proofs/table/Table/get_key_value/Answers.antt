@@ -17,12 +17,14 @@ use Rattle.toml_edit_model.specs.Text.{Text}
 use Rattle.toml_edit_tree.proofs.table.Table.get_key_value.Goals as goal
 
 -- by the slot of any kind
-found : (k : Text) (t : Table) (o : Option (Bor Key × Bor Item)) → model.AreApart (seen (out-Table t).slots) → option_map pair_read o ≡ lookup_slot k (seen (out-Table t).slots)
+found : (k : Text) (t : Table) (o : Option (Bor Key × Bor Item)) → model.AreApart (seen (out-Table t).slots) → option_map pair_read o
+    ≡ lookup_slot k (seen (out-Table t).slots)
     → get_slot k (slots_of t) ≡ option_and_then (passing is_item k) (option_map slot_read o)
 found k t o apart is =
     ap (get_slot k) (table-shown t)
     ∙ found-those is_item k (shown (out-Table t).slots) (apart-shown (out-Table t).slots apart)
-    ∙ ap (option_and_then (passing is_item k)) (lookup_slot-of k (out-Table t).slots ∙ ap (option_map (on_item item_view)) (sym is) ∙ read o)
+    ∙ ap (option_and_then (passing is_item k)) (lookup_slot-of k (out-Table t).slots ∙ ap (option_map (on_item item_view)) (sym is)
+    ∙ read o)
   where
     read : (o : Option (Bor Key × Bor Item)) → option_map (on_item item_view) (option_map pair_read o) ≡ option_map slot_read o
     read None = refl
@@ -31,14 +33,19 @@ found k t o apart is =
 pub returns-in_err-key : goal.returns-in_err-key
 returns-in_err-key c =
     ap (option_map slot_read) c.from_residual.ensures
-    ∙ sym (found c.args.key.now c.args.self.now c.get_key_value.result c.get_key_value.ensures.apart c.get_key_value.ensures.slot ∙ ap (λ o. option_and_then (passing is_item c.args.key.now) (option_map slot_read o)) c.in_err-key.was)
+    ∙ sym (found c.args.key.now c.args.self.now c.get_key_value.result c.get_key_value.ensures.apart c.get_key_value.ensures.slot
+    ∙ ap (λ o. option_and_then (passing is_item c.args.key.now) (option_map slot_read o)) c.in_err-key.was)
 
 pub returns-then-is_none : goal.returns-then-is_none
 returns-then-is_none c =
-    sym (found c.args.key.now c.args.self.now c.get_key_value.result c.get_key_value.ensures.apart c.get_key_value.ensures.slot ∙ ap (λ o. option_and_then (passing is_item c.args.key.now) (option_map slot_read o)) c.in_ok-key.was
-    ∙ ap (λ b. cond b (Some (slot_read (c.in_ok-key.key, c.in_ok-key.item))) None) (sym (is_item-not _ _ c.is_none.ensures) ∙ ap not c.if-is_none.true))
+    sym (found c.args.key.now c.args.self.now c.get_key_value.result c.get_key_value.ensures.apart c.get_key_value.ensures.slot
+    ∙ ap (λ o. option_and_then (passing is_item c.args.key.now) (option_map slot_read o)) c.in_ok-key.was
+    ∙ ap (λ b. cond b (Some (slot_read (c.in_ok-key.key, c.in_ok-key.item))) None) (sym (is_item-not _ _ c.is_none.ensures)
+    ∙ ap not c.if-is_none.true))
 
 pub returns-else-is_none : goal.returns-else-is_none
 returns-else-is_none c =
-    sym (found c.args.key.now c.args.self.now c.get_key_value.result c.get_key_value.ensures.apart c.get_key_value.ensures.slot ∙ ap (λ o. option_and_then (passing is_item c.args.key.now) (option_map slot_read o)) c.in_ok-key.was
-    ∙ ap (λ b. cond b (Some (slot_read (c.in_ok-key.key, c.in_ok-key.item))) None) (sym (is_item-not _ _ c.is_none.ensures) ∙ ap not c.if-is_none.false))
+    sym (found c.args.key.now c.args.self.now c.get_key_value.result c.get_key_value.ensures.apart c.get_key_value.ensures.slot
+    ∙ ap (λ o. option_and_then (passing is_item c.args.key.now) (option_map slot_read o)) c.in_ok-key.was
+    ∙ ap (λ b. cond b (Some (slot_read (c.in_ok-key.key, c.in_ok-key.item))) None) (sym (is_item-not _ _ c.is_none.ensures)
+    ∙ ap not c.if-is_none.false))

@@ -12,13 +12,15 @@ pub returns-clause-old : goal.returns-clause-old
 returns-clause-old c =
     let t = c.args.self.now in
     IfOk-weaker c.insert.result _ _
-    (λ old e. ap (option_map item_view) e ∙ sym (ap (lookup c.args.key.now) (table-shown t) ∙ lookup-shown c.args.key.now (out-Table t).slots)) c.insert.ensures.old
+    (λ old e. ap (option_map item_view) e ∙ sym (ap (lookup c.args.key.now) (table-shown t)
+    ∙ lookup-shown c.args.key.now (out-Table t).slots)) c.insert.ensures.old
 
 pub returns-clause-slots : goal.returns-clause-slots
 returns-clause-slots c =
     let t = c.args.self.now in
     if_done c.insert.result c.insert.ensures.seen
-    (λ e. made-shown _ ∙ inserted-shown c.args.key.now c.args.item (out-Table t).slots c.insert.new.self e ∙ ap (inserted c.args.key.now (item_view c.args.item)) (sym (table-shown t)))
+    (λ e. made-shown _ ∙ inserted-shown c.args.key.now c.args.item (out-Table t).slots c.insert.new.self e
+    ∙ ap (inserted c.args.key.now (item_view c.args.item)) (sym (table-shown t)))
 
 pub returns-clause-present : goal.returns-clause-present
 returns-clause-present c h =

@@ -12,7 +12,8 @@ pub returns-clause-old : goal.returns-clause-old
 returns-clause-old c =
     let t = c.args.self.now in
     IfOk-weaker c.insert_formatted.result _ _
-    (λ old e. ap (option_map item_view) e ∙ sym (ap (lookup c.args.key.now.name) (table-shown t) ∙ lookup-of c.args.key.now.name (out-Table t).slots)) c.insert_formatted.ensures.old
+    (λ old e. ap (option_map item_view) e ∙ sym (ap (lookup c.args.key.now.name) (table-shown t)
+    ∙ lookup-of c.args.key.now.name (out-Table t).slots)) c.insert_formatted.ensures.old
 
 pub returns-clause-slots : goal.returns-clause-slots
 returns-clause-slots c =

@@ -10,4 +10,5 @@ use Rattle.toml_edit_tree.proofs.table.Table.into_inline_table.Goals as goal
 pub returns : goal.returns
 returns c =
     c.inline_of.ensures
-    ∙ ap (inline new_inline) (ap formatted_slots (c.make_slots.ensures ∙ ap each_slot_made c.into_slots-slots.ensures) ∙ value-slots (table_slots c.args.self))
+    ∙ ap (inline new_inline) (ap formatted_slots (c.make_slots.ensures ∙ ap each_slot_made c.into_slots-slots.ensures)
+    ∙ value-slots (table_slots c.args.self))

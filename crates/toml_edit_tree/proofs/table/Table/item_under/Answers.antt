@@ -23,10 +23,13 @@ slot k t o is = lookup_slot-of k (out-Table t).slots ∙ ap (option_map (on_item
     read None = refl
     read (Some p) = refl
 
-passes : (k : Text) (t : Table) (o : Option (Bor Key × Bor Item)) → model.AreApart (seen (out-Table t).slots) → option_map pair_read o ≡ lookup_slot k (seen (out-Table t).slots)
-    → (test : Node → Bool) → has_slot k (those test (slots_of t)) ≡ option_map_or (λ (s : Slot Node). test s.item) (option_map slot_read o) false
+passes : (k : Text) (t : Table) (o : Option (Bor Key × Bor Item)) → model.AreApart (seen (out-Table t).slots) → option_map pair_read o
+    ≡ lookup_slot k (seen (out-Table t).slots)
+    → (test : Node → Bool) → has_slot k (those test (slots_of t))
+    ≡ option_map_or (λ (s : Slot Node). test s.item) (option_map slot_read o) false
 passes k t o apart is test =
-    ap (λ l. has_slot k (those test l)) (table-shown t) ∙ has_slot-those test k (shown (out-Table t).slots) (apart-shown (out-Table t).slots apart)
+    ap (λ l. has_slot k (those test l)) (table-shown t)
+    ∙ has_slot-those test k (shown (out-Table t).slots) (apart-shown (out-Table t).slots apart)
     ∙ ap (λ p. option_map_or (λ (s : Slot Node). test s.item) p false) (slot k t o is)
 
 pub returns-in_err-item : goal.returns-in_err-item

@@ -22,5 +22,6 @@ returns c =
     let s = c.index-as_slice-at.result in
     let there : s ≡ get_or es at s = c.index-as_slice-at.is ∙ ap (λ l. get_or l at s) c.as_slice.ensures.slots in
     sym (ap (lookup_key c.args.key.now) (table-shown c.args.self.now) ∙ lookup_key-shown c.args.key.now es
-    ∙ ap (option_map (λ (x : Slot _). x.key)) (sym c.find.ensures.slot ∙ ap (option_and_then (slice_get es)) c.in_ok-at.was ∙ slice_get-get_or es at s c.in_ok-at.ensures.within)
+    ∙ ap (option_map (λ (x : Slot _). x.key)) (sym c.find.ensures.slot ∙ ap (option_and_then (slice_get es)) c.in_ok-at.was
+    ∙ slice_get-get_or es at s c.in_ok-at.ensures.within)
     ∙ ap (λ (x : Slot _). Some x.key) (sym there ∙ c.index-as_slice-at.is))

@@ -10,7 +10,8 @@ pub returns-in-Some : goal.returns-in-Some
 returns-in-Some c =
     let k = c.args.key.now in
     let t = c.args.self.now in
-    sym c.key_at_mut.ensures.key ∙ key-at k (out-Table t).slots c.in-Some.at (sym c.in-Some.ensures.place) c.in-Some.ensures.within ∙ sym (ap (lookup_key k) (table-shown t))
+    sym c.key_at_mut.ensures.key ∙ key-at k (out-Table t).slots c.in-Some.at (sym c.in-Some.ensures.place) c.in-Some.ensures.within
+    ∙ sym (ap (lookup_key k) (table-shown t))
 
 pub returns-in-None : goal.returns-in-None
 returns-in-None c =

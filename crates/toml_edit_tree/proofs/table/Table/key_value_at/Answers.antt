@@ -20,4 +20,5 @@ pub returns : goal.returns
 returns c =
     let es = (out-Table c.args.self.now).slots in
     read c.key_value_at.result ∙ ap (option_map (on_item item_view)) c.key_value_at.ensures
-    ∙ sym (ap (λ l. slice_get l c.args.at) (table-shown c.args.self.now ∙ shown-seen es) ∙ slice_get-map (on_item item_view) (seen es) c.args.at)
+    ∙ sym (ap (λ l. slice_get l c.args.at) (table-shown c.args.self.now ∙ shown-seen es)
+    ∙ slice_get-map (on_item item_view) (seen es) c.args.at)

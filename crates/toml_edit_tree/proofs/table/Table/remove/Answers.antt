@@ -17,7 +17,8 @@ returns-in_err-slot-clause-item c =
 pub returns-in_err-slot-clause-slots : goal.returns-in_err-slot-clause-slots
 returns-in_err-slot-clause-slots c =
     let t = c.args.self.now in
-    made-shown _ ∙ without-shown c.args.key.now (out-Table t).slots c.remove.new.self c.remove.ensures.seen ∙ ap (without c.args.key.now) (sym (table-shown t))
+    made-shown _ ∙ without-shown c.args.key.now (out-Table t).slots c.remove.new.self c.remove.ensures.seen
+    ∙ ap (without c.args.key.now) (sym (table-shown t))
 
 pub returns-clause-item : goal.returns-clause-item
 returns-clause-item c =
@@ -29,4 +30,5 @@ returns-clause-item c =
 pub returns-clause-slots : goal.returns-clause-slots
 returns-clause-slots c =
     let t = c.args.self.now in
-    made-shown _ ∙ without-shown c.args.key.now (out-Table t).slots c.remove.new.self c.remove.ensures.seen ∙ ap (without c.args.key.now) (sym (table-shown t))
+    made-shown _ ∙ without-shown c.args.key.now (out-Table t).slots c.remove.new.self c.remove.ensures.seen
+    ∙ ap (without c.args.key.now) (sym (table-shown t))

@@ -19,7 +19,8 @@ returns-clause-removed c =
     let name = c.remove_at.result.key.name in
     subst (λ found. IfSome found (λ (s : Slot _). slots_of (record t { slots = c.remove_at.new.self }) ≡ without s.key.name (slots_of t)))
     (sym c.remove_at.ensures.slot)
-    (made-shown _ ∙ without-shown name (out-Table t).slots c.remove_at.new.self c.remove_at.ensures.seen ∙ ap (without name) (sym (table-shown t)))
+    (made-shown _ ∙ without-shown name (out-Table t).slots c.remove_at.new.self c.remove_at.ensures.seen
+    ∙ ap (without name) (sym (table-shown t)))
 
 pub returns-clause-fields : goal.returns-clause-fields
 returns-clause-fields c = made_fields c.args.self.now c.remove_at.new.self

@@ -23,4 +23,5 @@ returns-clause-slot c =
 pub returns-clause-slots : goal.returns-clause-slots
 returns-clause-slots c =
     let t = c.args.self.now in
-    made-shown _ ∙ without-shown c.args.key.now (out-Table t).slots c.remove_entry.new.self c.remove_entry.ensures.slots ∙ ap (without c.args.key.now) (sym (table-shown t))
+    made-shown _ ∙ without-shown c.args.key.now (out-Table t).slots c.remove_entry.new.self c.remove_entry.ensures.slots
+    ∙ ap (without c.args.key.now) (sym (table-shown t))

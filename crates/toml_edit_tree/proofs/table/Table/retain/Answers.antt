@@ -12,4 +12,5 @@ returns-clause-kept g c =
     let t = c.args.self.now in
     subst (RetainsBy (SaysOfItem g.F.Fn c.args.keep) (slots_of t)) (sym (made-shown _))
     (subst (λ l. RetainsBy (SaysOfItem g.F.Fn c.args.keep) l (shown c.retain.new.self)) (sym (table-shown t))
-    (retains-shown (SaysOfSlot g.F.Fn c.args.keep) (SaysOfItem g.F.Fn c.args.keep) (λ s b says. (s.item, refl, says)) (out-Table t).slots c.retain.new.self c.retain.ensures))
+    (retains-shown (SaysOfSlot g.F.Fn c.args.keep) (SaysOfItem g.F.Fn c.args.keep) (λ s b says. (s.item, refl, says)) (out-Table t).slots
+    c.retain.new.self c.retain.ensures))

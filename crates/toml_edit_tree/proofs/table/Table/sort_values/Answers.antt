@@ -18,14 +18,16 @@ pub returns-clause-sorted : goal.returns-clause-sorted
 returns-clause-sorted c =
     let t = c.args.self.now in
     if_done c.sort_slots.result c.sort_slots.ensures.sorted
-    (λ s. of_table (IsDeepSort is_dotted_table name_lt) t (record t { slots = c.sort_slots.new.slots }) (s name_lt (answers_always _ _ _ (λ f a r f' k. search rules))))
+    (λ s. of_table (IsDeepSort is_dotted_table name_lt) t (record t { slots = c.sort_slots.new.slots })
+    (s name_lt (answers_always _ _ _ (λ f a r f' k. search rules))))
 
 pub returns-clause-in_order : goal.returns-clause-in_order
 returns-clause-in_order c =
     let t = c.args.self.now in
     if_done c.sort_slots.result c.sort_slots.ensures.sorted
     (λ s. sorted_slots-only is_dotted_table _ _
-    (of_table (IsDeepSort is_dotted_table name_lt) t (record t { slots = c.sort_slots.new.slots }) (s name_lt (answers_always _ _ _ (λ f a r f' k. search rules)))))
+    (of_table (IsDeepSort is_dotted_table name_lt) t (record t { slots = c.sort_slots.new.slots })
+    (s name_lt (answers_always _ _ _ (λ f a r f' k. search rules)))))
 
 pub returns-clause-fields : goal.returns-clause-fields
 returns-clause-fields c = made_fields c.args.self.now c.sort_slots.new.slots

@@ -14,7 +14,8 @@ returns-clause-reorders g c =
 pub returns-clause-sorted : goal.returns-clause-sorted
 returns-clause-sorted g c =
     let t = c.args.self.now in
-    if_done c.sort_slots.result c.sort_slots.ensures.sorted (λ s lt by. of_table (IsSortOfTable lt) t (record t { slots = c.sort_slots.new.slots }) (s lt by))
+    if_done c.sort_slots.result c.sort_slots.ensures.sorted
+    (λ s lt by. of_table (IsSortOfTable lt) t (record t { slots = c.sort_slots.new.slots }) (s lt by))
 
 pub returns-clause-fields : goal.returns-clause-fields
 returns-clause-fields g c = made_fields c.args.self.now c.sort_slots.new.slots

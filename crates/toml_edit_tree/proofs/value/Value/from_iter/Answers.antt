@@ -16,5 +16,6 @@ returns-in-Ok g c =
       e.1,
       e.2,
       e.3,
-      view-Array c.in-Ok.array ∙ ap (λ f. list f view.items) e.4.1 ∙ ap (list new_array) (sym (items_from-list view.items) ∙ ap items_from e.4.0),
+      view-Array c.in-Ok.array ∙ ap (λ f. list f view.items) e.4.1
+          ∙ ap (list new_array) (sym (items_from-list view.items) ∙ ap items_from e.4.0),
     )

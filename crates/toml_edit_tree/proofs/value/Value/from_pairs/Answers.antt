@@ -16,5 +16,6 @@ returns-in-Ok g c =
       e.1,
       e.2,
       e.3,
-      view-InlineTable c.in-Ok.table ∙ ap (λ f. inline f view.slots) e.5 ∙ ap (inline new_inline) (sym (slots_from-list view.slots) ∙ ap slots_from e.4),
+      view-InlineTable c.in-Ok.table ∙ ap (λ f. inline f view.slots) e.5
+          ∙ ap (inline new_inline) (sym (slots_from-list view.slots) ∙ ap slots_from e.4),
     )

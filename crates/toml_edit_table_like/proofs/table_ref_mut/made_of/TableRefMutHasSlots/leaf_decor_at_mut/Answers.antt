@@ -10,6 +10,16 @@ pub returns : goal.returns
 returns c =
     let r = c.args.self.now in
     let is = own-entries r.item.now c.own_slots_mut-slots.result.now c.own_slots_mut-slots.ensures.slots in (
-      (refl, λ w. same-ref _ _ (ap (λ es. record r.item { now = with_entries_in (on_key c.args.at (λ k. record k { leaf = w }) es) r.item.now }) is)),
-      record { writes_back = tt; decor = ap (λ es. option_map (λ s. s.key.leaf) (slice_get es c.args.at)) (sym is) ∙ c.leaf_decor_mut.ensures.decor },
+      (
+        refl,
+        λ w. same-ref _ _ (ap (λ es. record r.item {
+          now =
+              with_entries_in (on_key c.args.at (λ k. record k { leaf = w }) es) r.item.now;
+        }) is),
+      ),
+      record {
+        writes_back = tt;
+        decor = ap (λ es. option_map (λ s. s.key.leaf) (slice_get es c.args.at)) (sym is)
+            ∙ c.leaf_decor_mut.ensures.decor;
+      },
     )

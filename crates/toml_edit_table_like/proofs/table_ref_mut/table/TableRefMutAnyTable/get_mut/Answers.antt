@@ -23,10 +23,12 @@ returns-in-Some c =
       lent-same _ _ _ (λ w. ap (λ l. record r.item { now = with_entries_in l r.item.now })
           (ap (with_item_at c.in-Some.at w) is ∙ ap (λ o. option_map_or (λ i. with_item_at i w es) o es) here)),
       (
-        ap (option_map item_view) (c.item_mut.ensures.item ∙ ap (λ l. slice_get (items_of l) c.in-Some.at) (is ∙ sym c.as_slots.ensures)) ∙ c.in-Some.ensures.held
+        ap (option_map item_view) (c.item_mut.ensures.item ∙ ap (λ l. slice_get (items_of l) c.in-Some.at) (is ∙ sym c.as_slots.ensures))
+            ∙ c.in-Some.ensures.held
             ∙ ap (get k) (ap shown c.as_slots.ensures ∙ sym (mut_shows r)),
         (
-          λ w. mut_shows (mut_with (option_map_or (λ i. with_item_at i w es) (place k es) es) r) ∙ ap shown (mut_takes _ r) ∙ item-written k w es apart ∙ ap (changed k (with_item (item_view w))) (sym (mut_shows r)),
+          λ w. mut_shows (mut_with (option_map_or (λ i. with_item_at i w es) (place k es) es) r) ∙ ap shown (mut_takes _ r)
+              ∙ item-written k w es apart ∙ ap (changed k (with_item (item_view w))) (sym (mut_shows r)),
           λ w. mut_keeps _ r,
         ),
       ),
@@ -42,7 +44,8 @@ returns-in-None c =
       (
         c.in-None.ensures.held ∙ ap (get k) (ap shown c.as_slots.ensures ∙ sym (mut_shows r)),
         (
-          λ w. mut_shows (mut_with (option_map_or (λ i. with_item_at i w es) (place k es) es) r) ∙ ap shown (mut_takes _ r) ∙ item-written k w es apart ∙ ap (changed k (with_item (item_view w))) (sym (mut_shows r)),
+          λ w. mut_shows (mut_with (option_map_or (λ i. with_item_at i w es) (place k es) es) r) ∙ ap shown (mut_takes _ r)
+              ∙ item-written k w es apart ∙ ap (changed k (with_item (item_view w))) (sym (mut_shows r)),
           λ w. mut_keeps _ r,
         ),
       ),

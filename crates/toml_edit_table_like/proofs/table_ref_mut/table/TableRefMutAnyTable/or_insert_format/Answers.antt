@@ -20,8 +20,10 @@ returns-in-Ok c =
       lent-same _ _ _ (λ w. ap (λ l. record r.item { now = with_entries_in l r.item.now }) (c.in-Ok.ensures.rest w ∙ ap (item_put k w) is)),
       record {
         writes_back = tt;
-        item = same_Some _ _ (ap (option_map item_view) c.item_mut.ensures.item ∙ c.in-Ok.ensures.item ∙ ap (λ l. Some (unwrap_or (lookup c.args.key.now.name l) (item_view c.args.item))) seen);
-        leaves = λ w. mut_shows (mut_with (item_put k w (mut_entries r)) r) ∙ ap shown (mut_takes _ r) ∙ ap (λ l. shown (item_put k w l)) (sym is) ∙ c.place_for_key.ensures.leaves w
+        item = same_Some _ _ (ap (option_map item_view) c.item_mut.ensures.item ∙ c.in-Ok.ensures.item
+            ∙ ap (λ l. Some (unwrap_or (lookup c.args.key.now.name l) (item_view c.args.item))) seen);
+        leaves = λ w. mut_shows (mut_with (item_put k w (mut_entries r)) r) ∙ ap shown (mut_takes _ r)
+            ∙ ap (λ l. shown (item_put k w l)) (sym is) ∙ c.place_for_key.ensures.leaves w
             ∙ ap (put (with_item_seen (item_view w)) (record { key = k; item = item_view w })) seen;
         keeps = λ w. mut_keeps _ r;
         present = λ _. refl;
@@ -35,11 +37,13 @@ returns-in-Err c =
     let k = c.args.key.now in
     let is = own-entries r.item.now c.own_slots_mut-slots.result.now c.own_slots_mut-slots.ensures.slots in
     let seen = ap shown is ∙ sym (mut_shows r) in (
-      left-same _ _ (ap (λ l. record r.item { now = with_entries_in l r.item.now }) (c.in-Err.ensures.err ∙ is) ∙ ap (λ x. record r.item { now = x }) (stays-in r.item.now)),
+      left-same _ _ (ap (λ l. record r.item { now = with_entries_in l r.item.now }) (c.in-Err.ensures.err ∙ is)
+          ∙ ap (λ x. record r.item { now = x }) (stays-in r.item.now)),
       record {
         writes_back = tt;
         item = tt;
-        leaves = λ w. mut_shows (mut_with (item_put k w (mut_entries r)) r) ∙ ap shown (mut_takes _ r) ∙ ap (λ l. shown (item_put k w l)) (sym is) ∙ c.place_for_key.ensures.leaves w
+        leaves = λ w. mut_shows (mut_with (item_put k w (mut_entries r)) r) ∙ ap shown (mut_takes _ r)
+            ∙ ap (λ l. shown (item_put k w l)) (sym is) ∙ c.place_for_key.ensures.leaves w
             ∙ ap (put (with_item_seen (item_view w)) (record { key = k; item = item_view w })) seen;
         keeps = λ w. mut_keeps _ r;
         present = λ h. c.in-Err.ensures.present (ap (has_slot c.args.key.now.name) seen ∙ h);

@@ -11,7 +11,10 @@ use Rattle.toml_edit_tree.proofs.inline_table.entry.InlineOccupiedEntry.fmt_key.
 pub invariant_of-self : goal.invariant_of-self
 invariant_of-self c =
     let o = c.args.self.now in
-    record { held = ap (λ (t : InlineTable). has_value_at o.at (out-InlineTable t).items) c.fmt_key_at.ensures ∙ has-on_key reset_key (out-InlineTable o.table.now).items o.at ∙ o.held }
+    record {
+      held = ap (λ (t : InlineTable). has_value_at o.at (out-InlineTable t).items) c.fmt_key_at.ensures
+          ∙ has-on_key reset_key (out-InlineTable o.table.now).items o.at ∙ o.held;
+    }
 
 pub returns-clause-slots : goal.returns-clause-slots
 returns-clause-slots c =

@@ -12,7 +12,10 @@ use Rattle.toml_edit_tree.proofs.inline_table.entry.InlineOccupiedEntry.insert.G
 pub invariant_of-self : goal.invariant_of-self
 invariant_of-self c =
     let o = c.args.self.now in
-    record { held = ap (λ (t : InlineTable). has_value_at o.at (out-InlineTable t).items) c.replace_value_at.ensures.table ∙ has-with_item (out-InlineTable o.table.now).items o.at c.args.value o.held }
+    record {
+      held = ap (λ (t : InlineTable). has_value_at o.at (out-InlineTable t).items) c.replace_value_at.ensures.table
+          ∙ has-with_item (out-InlineTable o.table.now).items o.at c.args.value o.held;
+    }
 
 pub returns-clause-holds : goal.returns-clause-holds
 returns-clause-holds c =

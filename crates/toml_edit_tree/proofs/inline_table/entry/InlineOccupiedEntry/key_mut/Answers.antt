@@ -16,5 +16,11 @@ pub returns : goal.returns
 returns c =
     let o = c.args.self.now in (
       (refl, λ w. inline_key_written o (with_parts w) _),
-      record { writes_back = tt; key = c.key_at_mut.ensures.key; leaves = inline_key-leaves o.at o.table.now; keeps = inline_key-keeps o.at o.table.now },
+      record {
+        writes_back = tt;
+        key = c.key_at_mut.ensures.key;
+        leaves = inline_key-leaves o.at o.table.now;
+        keeps =
+            inline_key-keeps o.at o.table.now;
+      },
     )

@@ -15,4 +15,5 @@ of_key P (Some s) h = h
 pub returns-clause-removed : goal.returns-clause-removed
 returns-clause-removed c =
     let t = c.args.self.table.now in
-    of_key (λ key. inline_slots_of c.remove_value_at.new.self ≡ without key.name (inline_slots_of t)) (slice_get (out-InlineTable t).items c.args.self.at) c.remove_value_at.ensures.removed
+    of_key (λ key. inline_slots_of c.remove_value_at.new.self
+    ≡ without key.name (inline_slots_of t)) (slice_get (out-InlineTable t).items c.args.self.at) c.remove_value_at.ensures.removed

@@ -22,11 +22,13 @@ returns-in-Ok c =
     let es = (out-InlineTable t).items in
     let k = c.args.self.key in
     let x = items.Value c.args.value in
-    let put : (w : Value) → with_item c.len-at.result (items.Value w) c.push.new.self ≡ es ++ record { key = k; item = items.Value w } ∷ [] =
+    let put : (w : Value) → with_item c.len-at.result (items.Value w) c.push.new.self ≡ es ++ record { key = k; item = items.Value w }
+    ∷ [] =
     λ w. rw (c.in-Ok.ensures.slots, c.len-at.ensures) (with_item-last es (record { key = k; item = x }) (items.Value w)) in
     let held : slice_get (items_of c.push.new.self) c.len-at.result ≡ Some x =
     rw (c.in-Ok.ensures.slots, c.len-at.ensures) (item-last es (record { key = k; item = x })) in
-    let there : value_at c.len-at.result c.push.new.self ≡ Some c.args.value = ap (option_and_then value_held) held ∙ held-Value c.args.value in (
+    let there : value_at c.len-at.result c.push.new.self ≡ Some c.args.value = ap (option_and_then value_held) held
+    ∙ held-Value c.args.value in (
       (λ j. inl (c.value_at_mut.result.ghost_name, λ w. ap (λ l. record t { items = l }) (put w) j)),
       record {
         writes_back = tt;
@@ -46,7 +48,8 @@ returns-in-Err c =
         value = tt;
         leaves = inline_entry-leaves (Vacant c.args.self);
         keeps = inline_entry-keeps (Vacant c.args.self);
-        back = same_Some _ _ (sym c.into_own_value.ensures ∙ ap value_held (c.into_item.ensures ∙ ap (λ (s : Slot Item). s.item) c.in-Err.ensures.back) ∙ held-Value c.args.value);
+        back = same_Some _ _ (sym c.into_own_value.ensures
+            ∙ ap value_held (c.into_item.ensures ∙ ap (λ (s : Slot Item). s.item) c.in-Err.ensures.back) ∙ held-Value c.args.value);
       },
     )
 

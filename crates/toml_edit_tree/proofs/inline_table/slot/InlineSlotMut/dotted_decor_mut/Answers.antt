@@ -16,5 +16,11 @@ pub returns : goal.returns
 returns c =
     let o = c.args.self.now in (
       (refl, λ w. slot_key_written o (λ k. record k { dotted = w }) _),
-      record { writes_back = tt; decor = part-of-key (λ k. k.dotted) (slice_get (out-InlineTable o.table.now).items o.at) ∙ c.dotted_decor_in_mut.ensures.decor; leaves = inline_key-leaves o.at o.table.now; keeps = inline_key-keeps o.at o.table.now },
+      record {
+        writes_back = tt;
+        decor = part-of-key (λ k. k.dotted) (slice_get (out-InlineTable o.table.now).items o.at)
+            ∙ c.dotted_decor_in_mut.ensures.decor;
+        leaves = inline_key-leaves o.at o.table.now;
+        keeps = inline_key-keeps o.at o.table.now;
+      },
     )

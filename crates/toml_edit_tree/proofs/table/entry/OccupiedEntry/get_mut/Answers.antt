@@ -15,5 +15,11 @@ pub returns : goal.returns
 returns c =
     let o = c.args.self.now in (
       (refl, λ w. item_written o w _),
-      record { writes_back = tt; item = c.item_at_mut.ensures.item; leaves = item-leaves o.at o.table.now; keeps = item-keeps o.at o.table.now },
+      record {
+        writes_back = tt;
+        item = c.item_at_mut.ensures.item;
+        leaves = item-leaves o.at o.table.now;
+        keeps =
+            item-keeps o.at o.table.now;
+      },
     )

@@ -17,7 +17,8 @@ invariant_of-self c =
 pub returns-clause-holds : goal.returns-clause-holds
 returns-clause-holds c =
     let o = c.args.self.now in
-    ap (λ l. slice_get (items_of l) o.at) c.replace_item.ensures.slots ∙ item-with_item (out-Table o.table.now).slots o.at c.args.item o.within
+    ap (λ l. slice_get (items_of l) o.at) c.replace_item.ensures.slots
+    ∙ item-with_item (out-Table o.table.now).slots o.at c.args.item o.within
 
 pub returns-clause-slots : goal.returns-clause-slots
 returns-clause-slots c =

@@ -7,5 +7,11 @@ pub returns : goal.returns
 returns c =
     let o = c.args.self in (
       (refl, λ w. refl),
-      record { writes_back = tt; item = c.item_mut.ensures.item; leaves = item-leaves o.at o.table.now; keeps = item-keeps o.at o.table.now },
+      record {
+        writes_back = tt;
+        item = c.item_mut.ensures.item;
+        leaves = item-leaves o.at o.table.now;
+        keeps =
+            item-keeps o.at o.table.now;
+      },
     )

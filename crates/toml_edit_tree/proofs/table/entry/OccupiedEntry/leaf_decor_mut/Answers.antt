@@ -15,5 +15,11 @@ pub returns : goal.returns
 returns c =
     let o = c.args.self.now in (
       (refl, λ w. key_written o (λ k. record k { leaf = w }) _),
-      record { writes_back = tt; decor = part-of-key (λ k. k.leaf) (slice_get (out-Table o.table.now).slots o.at) ∙ c.leaf_decor_at_mut.ensures.decor; leaves = key-leaves o.at o.table.now; keeps = key-keeps o.at o.table.now },
+      record {
+        writes_back = tt;
+        decor = part-of-key (λ k. k.leaf) (slice_get (out-Table o.table.now).slots o.at)
+            ∙ c.leaf_decor_at_mut.ensures.decor;
+        leaves = key-leaves o.at o.table.now;
+        keeps = key-keeps o.at o.table.now;
+      },
     )

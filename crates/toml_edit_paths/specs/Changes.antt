@@ -1,0 +1,33 @@
+-- What a change at a path leaves, and how it is refused.
+use Rattle.std.specs.Prelude.{◌≡◌, Bool, false, List, [], ◌∷◌, map, Result, Ok, Err}
+use Rattle.toml_edit_model.specs.Text.{Text}
+use Rattle.toml_edit_model.specs.Tree.{Key, Node}
+use Rattle.toml_edit_model.specs.Slots.{Slot, lookup_slot}
+use Rattle.toml_edit_laws.specs.Commands.{Answer, done, refused, no_such_path, wrong_kind, present, element_of, change_slot, change_element}
+use Rattle.toml_edit_laws.specs.Commands.{drop_slot, drop_element, remove_below}
+use Rattle.toml_edit_paths.specs.declared.fault.ChangeFault.{ChangeFault}
+use Rattle.toml_edit_paths.specs.declared.fault.ChangeFault.TheVariants.{NoSuchPath, WrongKind, Memory}
+
+-- the texts of a path's keys
+abbrev pub names : List Key → List Text
+names path = map (λ k. k.name) path
+
+-- What is done leaves what is meant. A refusal is the one that is meant, and leaves all as it was,
+-- as running out of memory does.
+abbrev pub Changes : {A : Type 0} → Answer A → A → A → Result (Unit {0}) ChangeFault → Type 0
+Changes meant old new (Ok u) = meant ≡ done new
+Changes meant old new (Err NoSuchPath) = (meant ≡ refused no_such_path) × (new ≡ old)
+Changes meant old new (Err WrongKind) = (meant ≡ refused wrong_kind) × (new ≡ old)
+Changes meant old new (Err Memory) = new ≡ old
+
+-- the slots of a table without what a path leads to: the slot of its only key, or what is below
+-- that of its first
+abbrev pub removed_slot : Text → List Text → List (Slot Node) → Answer (List (Slot Node))
+removed_slot k [] ss = drop_slot k ss (present (lookup_slot k ss))
+removed_slot k (l ∷ path) ss = change_slot false k (remove_below (l ∷ path)) ss (lookup_slot k ss)
+
+-- the elements of this kind, likewise
+abbrev pub removed_element : (Node → Bool) → Text → List Text → List Node → Answer (List Node)
+removed_element is k [] ns = drop_element ns (element_of is k ns)
+removed_element is k (l ∷ path) ns =
+    change_element (remove_below (l ∷ path)) ns (element_of is k ns)

@@ -1,6 +1,0 @@
--- An interrupted read took nothing.
-use Rattle.std.specs.Io.KnownBytes.{Keeps}
-use Rattle.toml_edit_stream.proofs.watch.read_once.Given as goal
-
-abbrev pub invariant-loop : goal.invariant-loop
-invariant-loop g l = Keeps (g.R.Read.remaining l.fn.reader) (g.R.Read.remaining l.reader)

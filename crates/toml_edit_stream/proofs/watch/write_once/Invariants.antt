@@ -1,6 +1,0 @@
--- An interrupted write wrote nothing.
-use Rattle.std.specs.Io.KnownBytes.{Keeps}
-use Rattle.toml_edit_stream.proofs.watch.write_once.Given as goal
-
-abbrev pub invariant-loop : goal.invariant-loop
-invariant-loop g l = Keeps (g.W.Write.contents l.fn.writer) (g.W.Write.contents l.writer)
