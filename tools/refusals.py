@@ -11,6 +11,8 @@ back, or has told what is no beginning of its answer; and of rows that run `toml
 no output.
 
 A row with the step `take_no_memory` is run once more with every allocation behind that step refused. It has to hold then.
+
+Of a row with steps that has more than 6,000 characters, only each 17th allocation is refused.
 """
 import collections, multiprocessing, os, re, subprocess, sys, tempfile
 
@@ -18,6 +20,7 @@ TOP = os.path.dirname(os.path.dirname(os.path.abspath(__file__)))
 PROGRAMS = ["test_rows", "test_rows_tables", "test_rows_values"]
 GENERATED = 500
 STEP_WITHOUT = "take_no_memory"
+LONG, EACH = 6000, 17
 # The library is loaded before the program. It forks it for each run before `main`, so a run costs no start of a program.
 COUNTING = r"""
 #define _GNU_SOURCE
@@ -52,7 +55,7 @@ static void begin(long at, int out, int told) {
 }
 __attribute__((constructor)) static void run_each(void) {
   static char text[1 << 20];
-  for (long at = atol(getenv("FIRST")); ; at = at < 0 ? 1 : at + 1) {
+  for (long at = atol(getenv("FIRST")); ; at = at < 0 ? 1 : at + atol(getenv("EACH"))) {
     int out[2], told[2], status; long seen[2] = {0, 0}; ssize_t size = 0, more;
     if (pipe(out) || pipe(told)) _exit(9);
     pid_t child = fork();
@@ -76,7 +79,8 @@ def runs(program, row, library):
     with tempfile.NamedTemporaryFile() as file:
         file.write(row.encode() + b"\n")
         file.flush()
-        given = {"LD_PRELOAD": library, "ROW": file.name, "FIRST": str(-ROOM if STEP_WITHOUT in row else 1)}
+        first, each = -ROOM if STEP_WITHOUT in row else 1, EACH if len(row) > LONG and '"steps"' in row else 1
+        given = {"LD_PRELOAD": library, "ROW": file.name, "FIRST": str(first), "EACH": str(each)}
         told = subprocess.run([TOP + "/crates/%s/out/%s" % (program, program)], stdin=subprocess.DEVNULL, capture_output=True, env=given).stdout
     place = 0
     while place < len(told):
