@@ -31,26 +31,26 @@ impl Meaning {
         if levels == 0 {
             return self.json.push_str("null");
         }
-        let mut between = "{";
+        let mut is_first = true;
         for (name, item) in table.iter() {
-            self.json.push_str(between)?;
+            self.json.push_str(if is_first { "{" } else { "," })?;
             self.name(name)?;
             match item {
                 Item::None => self.json.push_str("null")?,
                 Item::Value(value) => self.value(value, LEVELS)?,
                 Item::Table(table) => self.table(table, levels - 1)?,
                 Item::ArrayOfTables(tables) => {
-                    let mut between = "[";
+                    let mut is_first = true;
                     for table in tables.iter() {
-                        self.json.push_str(between)?;
+                        self.json.push_str(if is_first { "[" } else { "," })?;
                         self.table(table, levels - 1)?;
-                        between = ",";
+                        is_first = false;
                     }
                     self.json
                         .push_str(if tables.is_empty() { "[]" } else { "]" })?;
                 }
             }
-            between = ",";
+            is_first = false;
         }
         self.json
             .push_str(if table.is_empty() { "{}" } else { "}" })
@@ -63,22 +63,22 @@ impl Meaning {
         }
         match value {
             Value::Array(array) => {
-                let mut between = "[";
+                let mut is_first = true;
                 for value in array.iter() {
-                    self.json.push_str(between)?;
+                    self.json.push_str(if is_first { "[" } else { "," })?;
                     self.value(value, levels - 1)?;
-                    between = ",";
+                    is_first = false;
                 }
                 self.json
                     .push_str(if array.is_empty() { "[]" } else { "]" })
             }
             Value::InlineTable(table) => {
-                let mut between = "{";
+                let mut is_first = true;
                 for (name, value) in table.iter() {
-                    self.json.push_str(between)?;
+                    self.json.push_str(if is_first { "{" } else { "," })?;
                     self.name(name)?;
                     self.value(value, levels - 1)?;
-                    between = ",";
+                    is_first = false;
                 }
                 self.json
                     .push_str(if table.is_empty() { "{}" } else { "}" })
