@@ -11,7 +11,7 @@ The program writes a meaning as the suite has it: run `rt run < stdin` in crates
 reads TOML 1.0 where its last argument is `strict`, and ends with 0, or with 1 where it refuses the text. Floats are compared by their
 value, and date-times by their parts.
 
-`KNOWN` has the texts that the program takes otherwise than the suite, with the reason. One that no longer differs is told too.
+`KNOWN` has the texts that the program takes otherwise than the suite, with the reason. One that no longer differs is reported too.
 """
 import concurrent.futures, json, os, re, subprocess, sys
 
@@ -142,9 +142,9 @@ def main():
         sys.exit("no program at %s: run `rt run < stdin` in crates/test_meaning first, or name another by --program" % program)
     with concurrent.futures.ThreadPoolExecutor(os.cpu_count()) as pool:
         results = [try_version(pool, program, suite, version) for version in VERSIONS]
-    told = sum(count for count, _ in results)
-    print("%s; %s" % ("; ".join(line for _, line in results), "%d differ" % told if told else "all others as the suite says"))
-    return 1 if told else 0
+    differ = sum(count for count, _ in results)
+    print("%s; %s" % ("; ".join(line for _, line in results), "%d differ" % differ if differ else "all others as the suite says"))
+    return 1 if differ else 0
 
 
 if __name__ == "__main__":

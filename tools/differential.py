@@ -4,7 +4,7 @@
     tools/differential.py [--in FOLDER] [COUNT [SEED]]     tries COUNT texts (2000) by a SEED (1)
     tools/differential.py [--in FOLDER] --text FILE        tries one text
 
-Each text is made by a grammar, and half of them are then changed somewhere. Asked are, each if it is there:
+Each text is made by a grammar, and half of them are then changed somewhere. It asks each of these that is there:
 
 - Python's `tomllib`, and `tomlkit` (Debian's package `python3-tomlkit`);
 - toml++ (`libtomlplusplus-dev`, and `g++` to compile a small driver for it);
@@ -258,7 +258,7 @@ def by_crate(plain):
     return read
 
 
-# Differences that are meant or faults of others: of which reader (or any), why, and how such a text is told from others.
+# Differences that are meant or faults of others: of which reader (or any), why, and how such a text is recognized.
 LONG = re.compile(r"\d[\d_]{18,}")
 EXPLAINED = [
     ("", "a byte order mark is skipped", lambda text: text.startswith("\ufeff")),

@@ -227,7 +227,7 @@ def main():
             shutil.copytree(made, TOP + "/fuzz-found", ignore=shutil.ignore_patterns("*.bc", "*.o", "new-*"), dirs_exist_ok=True)
             print("the inputs are kept in fuzz-found")
     print("%s: %s" % ("corpus" if seconds is None else "%d seconds each" % seconds, ", ".join(
-        "%s %d runs, %s" % (target, runs, "well" if is_well else "WRONG") for target, (is_well, runs) in zip(targets, results))))
+        "%s %d runs, %s" % (target, runs, "no fault" if is_well else "WRONG") for target, (is_well, runs) in zip(targets, results))))
     return 0 if all(is_well for is_well, _ in results) else 1
 
 
