@@ -5,8 +5,8 @@ use std::alloc::Global;
 use std::cmp::Ordering;
 use std::hash::Hash;
 use toml_edit::{
-    Datetime, Decor, FloatText, Formatted, FromStr, Key, Mem, ParseFault, RawString, Repr,
-    TomlError, Value, ValueRepr,
+    Datetime, Decor, FloatText, Formatted, FromStr, Key, Mem, ParseFault, ParsePath, RawString,
+    Repr, TomlError, Value, ValueRepr,
 };
 
 fn are_alike<T: Hash + Eq>(one: &T, other: &T) -> bool {

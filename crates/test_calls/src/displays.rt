@@ -6,7 +6,7 @@ use std::fmt::Display;
 use std::str::FromStr;
 use toml_edit::{
     Broken, Date, Datetime, DatetimeFault, Document, DocumentMut, Excerpt, FloatText, Formatted,
-    Item, Key, NoMemory, ParseFault, ParseOptions, PrintFault, Time, Value, ValueRepr,
+    Item, Key, NoMemory, ParseFault, ParseOptions, ParsePath, PrintFault, Time, Value, ValueRepr,
 };
 use toml_edit_io::ReadFault;
 
@@ -83,11 +83,15 @@ fn lends_key(alloc: Global, key: Key) -> bool {
     holds_changed(alloc, key, shows_lent_key)
 }
 
+fn read_key(alloc: Global, text: &str) -> Option<Key> {
+    <Key as toml_edit::FromStr>::from_str(alloc, text).ok()
+}
+
 #[test]
 fn shows_keys(rt: HostRuntime) {
     let alloc = rt.alloc();
-    assert!(rt; shows_made(alloc, Key::from_str(alloc, "'a'").ok(), "'a'"));
-    assert!(rt; holds_moved(alloc, Key::from_str(alloc, "'a'").ok(), lends_key));
+    assert!(rt; shows_made(alloc, read_key(alloc, "'a'"), "'a'"));
+    assert!(rt; holds_moved(alloc, read_key(alloc, "'a'"), lends_key));
 }
 
 /// The name of a key, and its default spelling.

@@ -194,7 +194,7 @@ fn is_refused(alloc: Global, slots: &mut Slots<u8>, name: &str) -> Mem<bool> {
     let there = slots.find(name);
     match slots.insert_at(0, key, 7) {
         Ok(()) => Ok(false),
-        Err(refused) => Ok(there.is_some() && refused.place() == there),
+        Err(refused) => Ok(there.is_some() && refused.present_place() == there),
     }
 }
 

@@ -4,7 +4,8 @@ use std::alloc::Global;
 use std::mem;
 use test_calls::holding::{holds_changed, is_text, no_memory};
 use toml_edit::{
-    Array, Document, DocumentMut, IndexFault, InlineTable, Item, Key, Mem, Table, Value, value,
+    Array, Document, DocumentMut, FromStr, IndexFault, InlineTable, Item, Key, Mem, Table, Value,
+    value,
 };
 
 const HELLO: &str = "\n\"hello\" = 'toml!' # comment\n['a'.b]\n    ";

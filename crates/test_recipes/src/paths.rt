@@ -1,7 +1,7 @@
 //! Calls that only this library has, on documents whose texts before and after are written by hand.
 use std::alloc::{AllocError, Global};
 use test_calls::holding::is_text;
-use toml_edit::{DocumentMut, Item, Key, Mem, Value};
+use toml_edit::{DocumentMut, Item, Key, Mem, ParsePath, Value};
 use toml_edit_recipes::paths::{set_string_at, string_at};
 
 /// Returns the path that the text spells.

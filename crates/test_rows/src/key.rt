@@ -5,7 +5,7 @@ use test_rows_read::key::{ask, ask_found, call_lent};
 use test_rows_read::steps::{Tries, behind, copied, word};
 use test_rows_read::value::{Plain, change_decor};
 use test_rows_read::{Answer, Row, refusal, steps};
-use toml_edit::Key;
+use toml_edit::{FromStr, Key, ParsePath};
 
 /// Answers rows on a key or a path.
 pub fn answer(row: Row<'_>, out: &mut Answer) {

@@ -4,7 +4,7 @@ use crate::steps::word;
 use serde_json::Value as Json;
 use toml_edit_error::ParseFault;
 use toml_edit_key::Key;
-use toml_edit_parser::FromStr;
+use toml_edit_parser::{FromStr, ParsePath};
 use toml_edit_repr::{Decor, RawString};
 use toml_edit_tree::{Item, Table, Value, item};
 

@@ -157,13 +157,6 @@ module _ (mode : Mode) where
 
   -- ---- documents
 
-  -- the print by its parts, where these are known to be these
-  pub print-by-parts : (t : Tree) (p r s u : Text) (b : Bool) (hs : List Headed) → p ≡ shown_prefix mode [] t.root.decor
-      → r ≡ root_lines mode t.root t.slots → b ≡ begins t.root t.slots → hs ≡ sorted_by by_place (headed_tables t.root t.slots)
-      → s ≡ shown_suffix mode [] t.root.decor → u ≡ shown_raw mode t.trailing
-      → p ++ (r ++ (headers_text mode b hs ++ (s ++ u))) ≡ print_in mode false t
-  print-by-parts t p r s u b hs ep er eb eh es eu = rw (ep, er, eb, eh, es, eu) (sym (print-by-visits mode t))
-
   -- the print by its parts, where the text of the headers is one of them
   pub print-by-texts : (t : Tree) (p r h s u : Text) → p ≡ shown_prefix mode [] t.root.decor → r ≡ root_lines mode t.root t.slots
       → h ≡ headers_text mode (begins t.root t.slots) (sorted_by by_place (headed_tables t.root t.slots))

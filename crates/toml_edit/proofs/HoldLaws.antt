@@ -1,13 +1,12 @@
 -- A sink that holds back a tail takes one text behind another as both together, and what it holds in the end is the last newline.
-use Rattle.std.proofs.Common.{◌≡◌, ℕ, ◌+◌, ◌-◌, ◌≤◌, List, [], ◌∷◌, ◌++◌, length, take, refl, sym, ap, subst, ◌∙◌, arith, append_assoc}
+use Rattle.std.proofs.Common.{◌≡◌, ℕ, ◌+◌, ◌-◌, List, [], ◌∷◌, ◌++◌, length, take, refl, sym, ap, ◌∙◌, arith, append_assoc}
 use Rattle.std.proofs.Common.{append-nil, length-append, Option, None, Some, Bool, true, false}
 use Rattle.std.specs.Prelude.{if◌then◌else◌}
 use Rattle.std.specs.Borrow.{MutBor}
-use Rattle.std.specs.Fmt.{WritesInCalls}
 use Rattle.std.proofs.Math.Seq.{take-append_seam}
 use Rattle.std.proofs.lemmas.List.{append_cancel_right}
 use Rattle.toml_edit_model.specs.Mode.{exact, ends_in_return}
-use Rattle.toml_edit_model.specs.Text.{Text, carriage_return, line_feed, newline}
+use Rattle.toml_edit_model.specs.Text.{Text, carriage_return, newline}
 use Rattle.toml_edit_model.specs.Tree.{Decor, shown_suffix}
 use Rattle.toml_edit_io.proofs.Puts.{put_none, put_two}
 use Rattle.toml_edit.specs.Holding.{Holds}
@@ -15,7 +14,8 @@ use Rattle.toml_edit.specs.LastLines.{newline_of}
 use Rattle.toml_edit.specs.Tails.{tail_after, tail_text}
 use Rattle.toml_edit.specs.declared.tail.Tail.{Tail}
 use Rattle.toml_edit.specs.declared.tail.Tail.TheVariants.{Nothing}
-use Rattle.toml_edit.proofs.TailLaws.{EndsWith, after-append, both-are-held, feed-is-held, none-is-held}
+use Rattle.toml_edit.proofs.TailLaws.{after-append, both-are-held, feed-is-held, none-is-held}
+use Rattle.toml_edit_syntax.specs.Batches.{EndsWith}
 
 module _ {S : Type 0} (puts : S → List ℕ → S → Type 0) where
   pub holds_none : (h : Tail) (s : MutBor S) → Holds puts h s [] h s

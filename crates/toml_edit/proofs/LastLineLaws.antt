@@ -1,6 +1,6 @@
 -- The newline of the last printed statement is that of the last line or header, as it is found.
 use Rattle.std.proofs.Common.{◌≡◌, refl, sym, ap, ◌∙◌, ℤ, pos, Bool, true, false, List, [], ◌∷◌, ◌++◌, Option, None, Some, inl, inr}
-use Rattle.std.specs.Prelude.{filter, int_le, map, not, ◌&&◌, ◌||◌, if◌then◌else◌}
+use Rattle.std.specs.Prelude.{filter, map, ◌&&◌, if◌then◌else◌}
 use Rattle.std.specs.List.{AllByRecursion}
 use Rattle.std.proofs.lemmas.Bool.{cases_Bool}
 use Rattle.toml_edit_model.specs.Mode.{Mode}
@@ -15,12 +15,14 @@ use Rattle.toml_edit_model.specs.Order.{sorted_by}
 use Rattle.toml_edit_model.specs.Print.{Line, Printed, dotted_lines, inside_lines, is_line_node, line_of, lines_inside, lines_of}
 use Rattle.toml_edit_model.specs.Print.{printed_line, printed_table, printed_tables, statements_of, table_lines, value_of}
 use Rattle.toml_edit_laws.specs.OpenEnds.{last_newline}
-use Rattle.toml_edit_laws.specs.PrintByVisits.{Headed, by_place, last_pair, last_pair_in}
+use Rattle.toml_edit_laws.specs.PrintByVisits.{Headed, by_place, last_pair, last_pair_in, last_shown}
 use Rattle.toml_edit_laws.proofs.common.OrderLaws.{all-sorted, sorted-alike}
 use Rattle.toml_edit_laws.proofs.common.Statements.{own_header}
 use Rattle.toml_edit_laws.proofs.common.Visits.{places-all, root-first, slots-below}
-use Rattle.toml_edit_laws.proofs.print_by_visits.PrintParts.{has-header, headed-are, shown-sorted, without-header}
+use Rattle.toml_edit_laws.proofs.print_by_visits.PrintParts.{has-header, headed-are, shown-sorted, without-header, IsBelow, placed_before}
 use Rattle.toml_edit_laws.proofs.print_by_visits.WalkOnce.{head_of, shown_heads, shows_header}
+use Rattle.toml_edit_laws.proofs.print_by_visits.PrintParts.{same-order}
+use Rattle.toml_edit_laws.proofs.print_by_visits.PairTexts.{last_shown-append}
 use Rattle.toml_edit.specs.LastLines.{last_dotted, last_headed, last_line, last_of_root, last_statement, newline_of}
 
 -- ---- the newline of the last statement
@@ -43,29 +45,7 @@ last-newline : (ps : List Printed) → last_newline (map (λ (p : Printed). p.st
 last-newline [] = refl
 last-newline (p ∷ ps) = last-behind [] p ps
 
--- ---- the last of lines
-
--- the decor of the last of these lines, or this one where there are none
-abbrev last_shown : Option Decor → List Line → Option Decor
-last_shown before [] = before
-last_shown before (l ∷ ls) = last_shown (Some (node_decor l.item)) ls
-
-shown-append : (before : Option Decor) (xs ys : List Line) → last_shown before (xs ++ ys) ≡ last_shown (last_shown before xs) ys
-shown-append before [] ys = refl
-shown-append before (l ∷ xs) ys = shown-append (Some (node_decor l.item)) xs ys
-
 -- ---- tables below the root
-
-abbrev IsBelow : PlacedVisit → Type 0
-IsBelow v = is_root v.1 ≡ false
-
-abbrev placed_before : PlacedVisit → PlacedVisit → Bool
-placed_before g h = int_le g.0 h.0
-
--- the place decides which comes first
-same-order : (a b : PlacedVisit) → IsBelow a → IsBelow b → comes_before a b ≡ placed_before a b
-same-order a b p q =
-    ap (λ (r : Bool). r || (not (is_root b.1) && int_le a.0 b.0)) p ∙ ap (λ (r : Bool). not r && int_le a.0 b.0) q
 
 places-below : (p : ℤ) (ss : Slots) → AllByRecursion IsBelow (places_from p (slots_walk ss [] []))
 places-below p ss = places-all (λ v. is_root v ≡ false) p (slots_walk ss [] []) (slots-below ss [] [])
@@ -86,7 +66,7 @@ module _ (mode : Mode) where
       ≡ behind (elim b [ true ↦ Some (node_decor n) | false ↦ in_slot ])
   slot-last k n ks inner rest o in_slot behind true first next = next (Some (node_decor n))
   slot-last k n ks inner rest o in_slot behind false first next =
-      shown-append o inner rest ∙ ap (λ (d : Option Decor). last_shown d rest) first ∙ next in_slot
+      last_shown-append o inner rest ∙ ap (λ (d : Option Decor). last_shown d rest) first ∙ next in_slot
 
   mutual
     inside-last : (ss : Slots) (ks : List Key) (o : Option Decor) → last_shown o (inside_lines mode ss ks) ≡ last_pair ss o

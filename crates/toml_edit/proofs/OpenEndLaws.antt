@@ -1,9 +1,7 @@
 -- The text with an open end is that with a closed one, but for the newline of the last statement, which may be cut off.
-use Rattle.std.proofs.Common.{◌≡◌, ℕ, suc, ◌+◌, ◌-◌, ◌<◌, ◌≤◌, Bool, true, false, [], ◌∷◌, ◌++◌, length, get_or, take, refl, sym, ap, subst}
-use Rattle.std.proofs.Common.{◌∙◌, arith, length-append, IsUtf8, IsCharBoundary, lit<}
+use Rattle.std.proofs.Common.{◌≡◌, suc, ◌+◌, ◌-◌, Bool, true, false, [], ◌∷◌, ◌++◌, length, get_or, refl, sym, ap}
+use Rattle.std.proofs.Common.{◌∙◌, arith}
 use Rattle.std.specs.Prelude.{◌==◌, slice_index}
-use Rattle.std.proofs.lemmas.List.{take-append-le}
-use Rattle.std.proofs.lemmas.Str.{IsCharBoundary-at_seam}
 use Rattle.toml_edit_model.specs.Mode.{Mode, plain, exact, ends_in_return}
 use Rattle.toml_edit_model.specs.Text.{Text, carriage_return}
 use Rattle.toml_edit_model.specs.Tree.{Tree}
@@ -26,38 +24,6 @@ pub closed-print : (mode : Mode) (is_open : Bool) (t : Tree) → leaves_open mod
     ≡ print_in mode false t
 closed-print mode true t e = (open-prints mode t).1 e
 closed-print mode false t e = refl
-
--- ---- the cut
-
--- the text may be cut there
-abbrev pub MayBeCut : Text → ℕ → Type 0
-MayBeCut t n = (n ≤ length t) × (0 < n → n < length t → 128 ≤ slice_index t n → 192 ≤ slice_index t n)
-
-module _ (whole front end : Text) (n : ℕ) (e : front ++ end ≡ whole) (is : n ≡ length end) where
-  lengths : length front + n ≡ length whole
-  lengths = ap (λ m. length front + m) is ∙ sym (length-append front end) ∙ ap length e
-
-  -- the end is no longer than the whole
-  pub end-fits : n ≤ length whole
-  end-fits = let h = lengths in omega arith
-
-  where-cut : length whole - n ≡ length front
-  where-cut = let h = lengths in omega arith
-
-  pub front-taken : take (length whole - n) whole ≡ front
-  front-taken =
-      ap (λ m. take m whole) where-cut ∙ ap (take (length front)) (sym e) ∙ take-append-le (length front) front end (omega arith)
-      ∙ take-all front
-    where
-      take-all : (t : Text) → take (length t) t ≡ t
-      take-all [] = refl
-      take-all (c ∷ t) = ap (λ u. c ∷ u) (take-all t)
-
-  -- no character is cut
-  pub cut-between : IsUtf8 end → MayBeCut whole (length whole - n)
-  cut-between h =
-      let at = subst (IsCharBoundary whole) (sym where-cut) (IsCharBoundary-at_seam whole front end (sym e) h) in
-      (at.0, λ some. at.1)
 
 -- ---- how a text ends
 

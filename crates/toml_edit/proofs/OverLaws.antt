@@ -15,8 +15,8 @@ use Rattle.toml_edit_tree.specs.declared.table.Table.{Table}
 use Rattle.toml_edit.specs.Roots.{tree_under}
 use Rattle.toml_edit.proofs.RootLaws.{tree-under}
 use Rattle.toml_edit_tree.specs.View.{table_slots, fields_view, tree_view}
-use Rattle.toml_edit_builder.specs.DocumentRead.{IsParsedWith}
-use Rattle.toml_edit_builder.specs.StatementRead.{tree_of}
+use Rattle.toml_edit_parser.specs.DocumentRead.{IsParsedWith}
+use Rattle.toml_edit_parser.specs.StatementRead.{tree_of}
 use Rattle.toml_edit_model.specs.Version.{Version}
 use Rattle.toml_edit_model.specs.Syntax.{Document, IsCut}
 use Rattle.toml_edit_model.specs.Accepted.{AcceptedAs, AcceptedIn, is_accepted_in}

@@ -1,31 +1,28 @@
 -- A tree that was read in one mode fits in the other too: where carriage returns are printed, those that were read stand before line feeds.
-use Rattle.std.proofs.Common.{◌≡◌, refl, sym, ◌∙◌, ap, subst, ℕ, suc, Bool, true, false, List, [], ◌∷◌, ◌++◌, Some, inl, inr}
+use Rattle.std.proofs.Common.{◌≡◌, refl, sym, ◌∙◌, ap, subst, ℕ, suc, true, false, List, [], ◌∷◌, ◌++◌, Some, inl, inr}
 use Rattle.std.specs.Prelude.{pos, if◌then◌else◌}
-use Rattle.std.specs.List.{AllByRecursion}
 use Rattle.std.proofs.lemmas.Bool.{cases_Bool}
 use Rattle.toml_edit_model.specs.Mode.{Mode, plain, exact, line_end}
-use Rattle.toml_edit_model.specs.Text.{Text, one, is_empty, newline}
+use Rattle.toml_edit_model.specs.Text.{Text, one, newline}
 use Rattle.toml_edit_model.specs.Trivia.{IsWhiteSpace, IsWholeTrivia, IsLineEnd, IsFinalTrivia, lf}
-use Rattle.toml_edit_model.specs.Syntax.{Statement, key_line, header, Document, IsSpacedSegment, IsDocument}
+use Rattle.toml_edit_model.specs.Syntax.{Statement, key_line, header, Document, IsDocument}
 use Rattle.toml_edit_model.specs.Paths.{at_key, at_element, Path, to_key, to_element, Mention, Source, all_mentions}
 use Rattle.toml_edit_model.specs.Tree.{owned, Decor, unset, Key, TableFields, Node, nothing, leaf, list, inline, table, tables, Items}
 use Rattle.toml_edit_model.specs.Tree.{no_items, item, Slots, no_slots, slot, Tree, shown_prefix, shown_suffix, shown_raw, node_decor}
 use Rattle.toml_edit_model.specs.TreeOf.{owned_in, owned_form, key_at, statement_leaf, frame_leaf, fields_of, header_fields, IsTableRole}
 use Rattle.toml_edit_model.specs.TreeOf.{IsLineNode, IsNodeOf, AreElementsOf, AreSlotsOf, IsTreeOf}
-use Rattle.toml_edit_model.specs.HeaderOrder.{Visit, visit_of, node_walk, items_walk, slots_walk, walk, places_from, comes_before}
+use Rattle.toml_edit_model.specs.HeaderOrder.{visit_of, node_walk, items_walk, slots_walk, walk, places_from, comes_before}
 use Rattle.toml_edit_model.specs.HeaderOrder.{in_header_order}
 use Rattle.toml_edit_model.specs.Print.{one_space, Line, is_line_node, last_leaf, table_lines, dotted_lines, line_of, value_of}
 use Rattle.toml_edit_model.specs.Fits.{LineSuits, Suits, EndsLine, PrintedLineSuits, TableSuits, DecorsSuit, FitsIn}
-use Rattle.toml_edit_model.specs.Roles.{Role, dotted_role, implied_role, header_role, array_role, value_role, continued_role, is_array_role}
+use Rattle.toml_edit_model.specs.Roles.{Role, dotted_role, implied_role, header_role, array_role, value_role, continued_role}
 use Rattle.toml_edit_model.specs.Roles.{ends_path}
-use Rattle.toml_edit_model.specs.TableMentions.{own, under, array_headers, kept}
-use Rattle.toml_edit_laws.proofs.common.Each.{all-append, all-filter, all-map}
+use Rattle.toml_edit_model.specs.TableMentions.{under, array_headers, kept}
+use Rattle.toml_edit_laws.proofs.common.Each.{all-append, all-map}
 use Rattle.toml_edit_laws.proofs.common.LineEnds.{ended}
 use Rattle.toml_edit_laws.proofs.common.OrderLaws.{all-sorted}
 use Rattle.toml_edit_laws.proofs.common.Tests.{append-nil}
 use Rattle.toml_edit_laws.proofs.common.Trivia.{empty-trivia}
-use Rattle.toml_edit_laws.proofs.adding.HeaderReady.{all-under}
-use Rattle.toml_edit_laws.proofs.mentions.KeptOrder.{kept-all}
 use Rattle.toml_edit_laws.proofs.mentions.KeptPaths.{last-key}
 use Rattle.toml_edit_laws.proofs.mentions.Placed.{is_header}
 use Rattle.toml_edit_laws.proofs.mentions.RoleTests.{is_bracket_role}
@@ -33,11 +30,11 @@ use Rattle.toml_edit_laws.proofs.normal_texts.DecorsSuit.{IsSpacedKey, AreSpaced
 use Rattle.toml_edit_laws.proofs.normal_texts.DecorsSuit.{node-suits}
 use Rattle.toml_edit_laws.proofs.normal_texts.Lean.{lean-trivia, lean-final}
 use Rattle.toml_edit_laws.proofs.normal_texts.SettledStays.{IsAny}
-use Rattle.toml_edit_laws.proofs.normal_texts.SteadyMentions.{IsBracketed}
 use Rattle.toml_edit_laws.proofs.normal_texts.TreeDecors.{AllSuit, AllVisits, IsInner, VisitSuits, document-fit, empty-ends, header-suits}
-use Rattle.toml_edit_laws.proofs.normal_texts.TreeDecors.{one-line, places-suit, table-suits, unset-inner}
+use Rattle.toml_edit_laws.proofs.normal_texts.TreeDecors.{one-line, places-suit, table-suits, unset-inner, IsFitSource, AllFit, fit-under}
 use Rattle.toml_edit_laws.proofs.values.ValueItems.{owned-decor, value-line}
 use Rattle.toml_edit_laws.proofs.normal_texts.LinesInModes.{limits-same, ordered-same}
+use Rattle.toml_edit_laws.proofs.normal_texts.TreeDecors.{fit-element, fit-kept, arrays-fit}
 use Rattle.toml_edit.proofs.WeakerFits.{weaker-fits}
 
 -- a suffix without a carriage return suits the end of a line
@@ -45,24 +42,6 @@ ends-exact : (t : Text) → IsLineEnd t → EndsLine exact t
 ends-exact t h = subst IsLineEnd (sym (ap (line_end exact) (sym (append-nil t)) ∙ (ended exact t newline h (inl (lf, refl))).trailing)) h
 
 -- ---- mentions
-
-abbrev IsFitSource : Mention Source → Type 0
-IsFitSource m = IsSpacedSegment m.segment × IsAny m.source.statement × IsBracketed m
-
-abbrev AllFit : List (Mention Source) → Type 0
-AllFit ms = AllByRecursion IsFitSource ms
-
-fit-under : (k : Text) (ms : List (Mention Source)) → AllFit ms → AllFit (under (at_key k) ms)
-fit-under k ms h = all-under IsFitSource (λ m t p e a. a) (at_key k) ms h
-
-fit-element : (i : ℕ) (ms : List (Mention Source)) → AllFit ms → AllFit (under (at_element i) ms)
-fit-element i ms h = all-under IsFitSource (λ m t p e a. a) (at_element i) ms h
-
-fit-kept : (ms : List (Mention Source)) → AllFit ms → AllFit (kept ms)
-fit-kept ms h = kept-all IsFitSource [] ms h
-
-arrays-fit : (us : List (Mention Source)) → AllFit us → AllFit (array_headers us)
-arrays-fit us h = all-filter IsFitSource (λ m. is_array_role m.role) (own us) (all-filter IsFitSource (λ m. is_empty m.path) us h)
 
 -- ---- lines
 

@@ -7,8 +7,9 @@ use Rattle.toml_edit_tree.specs.View.{item_view, fields_view, table_slots, tree_
 use Rattle.toml_edit_tree.specs.declared.item.Item.{Item, the_lemmas}
 use Rattle.toml_edit_tree.specs.declared.item.Item.TheVariants as items
 use Rattle.toml_edit_tree.specs.declared.table.Table.{Table}
-use Rattle.toml_edit.specs.Roots.{is_table, root_node, tree_at, tree_under}
+use Rattle.toml_edit.specs.Roots.{is_table, tree_at, tree_under}
 use Rattle.toml_edit.specs.declared.document.DocumentMut.{DocumentMut}
+use Rattle.toml_edit_laws.specs.Commands.{root_item}
 
 -- what a table is seen as
 pub view-table : (t : Table) → item_view (items.Table t) ≡ table (fields_view t) (table_slots t)
@@ -49,5 +50,5 @@ trailing-at (inline f ss) r = refl
 trailing-at (table f ss) r = refl
 trailing-at (tables e xs) r = refl
 
-pub root-under : (t : Table) (r : Raw) → root_node (tree_under (items.Table t) r) ≡ table (fields_view t) (table_slots t)
-root-under t r = ap (λ n. root_node (tree_at n r)) (view-table t)
+pub root-under : (t : Table) (r : Raw) → root_item (tree_under (items.Table t) r) ≡ table (fields_view t) (table_slots t)
+root-under t r = ap (λ n. root_item (tree_at n r)) (view-table t)

@@ -1,5 +1,5 @@
 -- What a text ends in, told by its last two bytes, and what is held back of it.
-use Rattle.std.proofs.Common.{◌≡◌, ℕ, zero, suc, ◌+◌, ◌-◌, ◌<◌, ◌≤◌, ◌⊎◌, inl, inr, Bool, true, false, [], ◌∷◌, ◌++◌, length, get_or, take}
+use Rattle.std.proofs.Common.{◌≡◌, ℕ, suc, ◌+◌, ◌-◌, ◌<◌, ◌≤◌, ◌⊎◌, inl, inr, Bool, true, false, [], ◌∷◌, ◌++◌, length, get_or, take}
 use Rattle.std.proofs.Common.{refl, sym, ap, subst, ◌∙◌, arith, append-nil, length-append, IsUtf8, IsCharBoundary}
 use Rattle.std.specs.Prelude.{◌==◌}
 use Rattle.std.proofs.lemmas.Bool.{eqb-true}
@@ -8,6 +8,7 @@ use Rattle.toml_edit_model.specs.Text.{Text, carriage_return, line_feed}
 use Rattle.toml_edit.specs.declared.tail.Tail.{Tail}
 use Rattle.toml_edit.specs.declared.tail.Tail.TheVariants.{Nothing, Return, Feed, Both}
 use Rattle.toml_edit.specs.Tails.{after_feed, tail_step, tail_after, tail_text}
+use Rattle.toml_edit_syntax.specs.Batches.{EndsWith}
 
 pub after-append : (h : Tail) (x y : Text) → tail_after h (x ++ y) ≡ tail_after (tail_after h x) y
 after-append h [] y = refl
@@ -144,9 +145,6 @@ tail-joined h (a ∷ b ∷ t) lt =
     absurd (omega arith)
 
 -- ---- a newline at the end
-
-abbrev pub EndsWith : Text → Text → Type 0
-EndsWith t end = (front : Text) × (t ≡ front ++ end)
 
 feed-held : (h : Tail) → EndsWith (tail_text (after_feed h)) (line_feed ∷ [])
 feed-held Nothing = ([], refl)

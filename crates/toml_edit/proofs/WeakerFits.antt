@@ -3,7 +3,7 @@ use Rattle.std.proofs.Common.{◌≡◌, refl, sym, ◌∙◌, ap, subst, Bool, 
 use Rattle.std.specs.Prelude.{◌==◌, ◌||◌, not, MatchBool, if◌then◌else◌}
 use Rattle.std.specs.List.{AllByRecursion}
 use Rattle.std.proofs.lemmas.Bool.Decides.{Decides-eqb}
-use Rattle.toml_edit_model.specs.Mode.{Mode, plain, exact, ends_in_return, but_last}
+use Rattle.toml_edit_model.specs.Mode.{plain, exact, ends_in_return, but_last}
 use Rattle.toml_edit_model.specs.Text.{Text, carriage_return, line_feed, one, has_byte, without_returns}
 use Rattle.toml_edit_model.specs.Trivia.{IsWhiteSpace, IsWholeTrivia, IsLineEnd, IsFinalTrivia}
 use Rattle.toml_edit_model.specs.Syntax.{IsSpacedSegment}

@@ -13,9 +13,9 @@ use Rattle.toml_edit_model.specs.Shown.{shown_meaning}
 use Rattle.toml_edit_model.specs.Tree.{owned, no_slots, Tree, SlotsAreWellMade}
 use Rattle.toml_edit_model.specs.TreeOf.{spanned_in, owned_in, IsTreeOf}
 use Rattle.toml_edit_model.specs.OwnedForm.{owned_tree}
+use Rattle.toml_edit_model.specs.Conversions.{new_table}
 use Rattle.toml_edit_error.specs.Report.{Report}
-use Rattle.toml_edit_builder.specs.DocumentRead as builder
-use Rattle.toml_edit_tree.specs.TableLending.{new_table}
+use Rattle.toml_edit_parser.specs.DocumentRead as parser
 use Rattle.toml_edit_laws.specs.NormalTexts.{IsNormalForm}
 use Rattle.toml_edit_laws.specs.ReadTrees.{HaveCutSpellings}
 
@@ -29,7 +29,7 @@ new_tree = record {
 
 -- the report says why the version refuses the text
 abbrev pub IsRefusalIn : Version → Text → Report → Type 0
-IsRefusalIn version t r = builder.IsRefusalIn version t r
+IsRefusalIn version t r = parser.IsRefusalIn version t r
 
 -- the report says why TOML 1.1 refuses it
 abbrev pub IsRefusal : Text → Report → Type 0

@@ -2,8 +2,8 @@
 use Rattle.std.specs.Prelude.{◌≡◌, Bool, true, is_some}
 use Rattle.std.proofs.Common.{ap, sym, ◌∙◌}
 use Rattle.toml_edit_model.specs.Tree.{Raw, Node, table, no_slots, Tree}
+use Rattle.toml_edit_model.specs.Conversions.{new_table}
 use Rattle.toml_edit_tree.specs.Containers.{ArrayView, InlineView, TableView, TablesView, table_in}
-use Rattle.toml_edit_tree.specs.TableLending.{new_table}
 use Rattle.toml_edit_tree.specs.View.{item_view, item_step, value_step, array_step, inline_step, tables_step, table_step}
 use Rattle.toml_edit_tree.specs.declared.item.Item.{Item, fold-roll-Item}
 use Rattle.toml_edit_tree.specs.declared.item.Item.TheOpen.{Item-F}
@@ -30,7 +30,3 @@ tree_at _ trailing = record { root = new_table; slots = no_slots; trailing = tra
 
 abbrev pub tree_under : Item → Raw → Tree
 tree_under x trailing = tree_at (item_view x) trailing
-
--- the root of a tree, as a node
-abbrev pub root_node : Tree → Node
-root_node t = table t.root t.slots

@@ -1,5 +1,5 @@
 -- The end of a text that may be a newline.
-use Rattle.std.specs.Prelude.{ℕ, List, [], ◌∷◌, ◌==◌, if◌then◌else◌}
+use Rattle.std.specs.Prelude.{ℕ, [], ◌∷◌, ◌==◌, if◌then◌else◌}
 use Rattle.toml_edit_model.specs.Text.{Text, carriage_return, line_feed}
 use Rattle.toml_edit.specs.declared.tail.Tail.{Tail}
 use Rattle.toml_edit.specs.declared.tail.Tail.TheVariants.{Nothing, Return, Feed, Both}

@@ -5,10 +5,9 @@ ghost use Rattle.toml_edit_model.specs.OwnedForm.{IsOver};
 
 use crate::root::table_of;
 use std::alloc::Global;
-use toml_edit_builder as builder;
 use toml_edit_error::ParseFault;
 use toml_edit_fits::{Misfit, first_misfit, tree_fits};
-use toml_edit_parser::ParseOptions;
+use toml_edit_parser::{ParseOptions, parse_with};
 use toml_edit_repr::{Mem, Mode, RawString};
 use toml_edit_tree::{Item, Iter, Table};
 
@@ -113,7 +112,7 @@ impl<S: SourceText> Document<S> {
     ghost use Rattle.toml_edit.specs.DocumentView.{IsPlainRead, mode_owned, mode_read, open_owned, open_read, source, tree_owned, tree_read};
     ghost use Rattle.toml_edit.specs.Documents.{IsOwnedTreeWith, IsReading, IsReadingIn, IsRefusal, IsRefusalIn, PrintsMeaningOf};
     ghost use Rattle.toml_edit_parser.specs.Options.{mode_of, version_of};
-    ghost use Rattle.toml_edit.specs.Roots.{root_node};
+    ghost use Rattle.toml_edit_laws.specs.Commands.{root_item};
     ghost use Rattle.toml_edit_tree.specs.Held.{held_left};
     ghost use Rattle.toml_edit_model.specs.Iterating.{filled_pairs};
     ghost use Rattle.toml_edit_model.specs.Lists.{slot_list};
@@ -170,7 +169,7 @@ impl<S: SourceText> Document<S> {
     {
         let version = options.get_version();
         let mode = options.get_mode();
-        let (slots, trailing, is_open) = builder::parse_with(alloc, raw.text(), version, mode)?;
+        let (slots, trailing, is_open) = parse_with(alloc, raw.text(), version, mode)?;
         Ok(Document {
             raw,
             root: Item::Table(Table::root(slots)),
@@ -182,7 +181,7 @@ impl<S: SourceText> Document<S> {
 
     /// Returns the root table, as an item.
     pub fn as_item(&self) -> &Item
-        ensures { item_view result.now ≡ root_node (tree_read self.now) }
+        ensures { item_view result.now ≡ root_item (tree_read self.now) }
     {
         &self.root
     }
@@ -230,7 +229,7 @@ impl<S: SourceText> Document<S> {
     /// them, call [`into_mut`](Self::into_mut) first. As the root of a document it fits and prints
     /// a text that means what the source means, whether or not the document keeps line endings.
     pub fn into_item(self) -> Item
-        ensures root { item_view result ≡ root_node (tree_read self) }
+        ensures root { item_view result ≡ root_item (tree_read self) }
         // As the root of a document, in either mode, its print means what the source means.
         ensures print { (printed : model.Mode) (d : Cut) → AcceptedAs (source self) d
             → IsTreeOf (spanned_in (mode_read self)) d (tree_read self)
@@ -411,7 +410,7 @@ impl DocumentMut {
     ghost use Rattle.toml_edit.specs.DocumentView.{IsPlain, IsPrintedAs, mode_owned, open_owned, print_of, tree_owned};
     ghost use Rattle.toml_edit.specs.Documents.{IsOwnedReading, IsOwnedReadingIn, IsRefusal, IsRefusalIn, MeansWhatIsShown, new_tree};
     ghost use Rattle.toml_edit_parser.specs.Options.{mode_of, version_of};
-    ghost use Rattle.toml_edit.specs.Roots.{root_node};
+    ghost use Rattle.toml_edit_laws.specs.Commands.{root_item};
     ghost use Rattle.toml_edit_tree.specs.Held.{held_left};
     ghost use Rattle.toml_edit_model.specs.Iterating.{filled_pairs};
     ghost use Rattle.toml_edit_model.specs.Lists.{slot_list};
@@ -493,7 +492,7 @@ impl DocumentMut {
 
     /// Returns the root table, as an item.
     pub fn as_item(&self) -> &Item
-        ensures { item_view result.now ≡ root_node (tree_owned self.now) }
+        ensures { item_view result.now ≡ root_item (tree_owned self.now) }
     {
         &self.root
     }
@@ -525,7 +524,7 @@ impl DocumentMut {
 
     /// Returns the root table as an item, and drops the trailing text.
     pub fn into_item(self) -> Item
-        ensures { item_view result ≡ root_node (tree_owned self) }
+        ensures { item_view result ≡ root_item (tree_owned self) }
     {
         let DocumentMut {
             root,

@@ -182,9 +182,7 @@ fn add_table<'p, 'a>(
     Ok(())
 }
 
-/// Returns the number of tables below the slots that have headers, or more where dotted tables
-/// below them have no lines.
-#[cycle(count)]
+/// Returns how many headers come from slots of the root themselves. The tables inside have more.
 fn count_headers(slots: &Slots<Item>) -> usize {
     let mut count: usize = 0;
     for slot in slots.as_slice() {
@@ -193,54 +191,13 @@ fn count_headers(slots: &Slots<Item>) -> usize {
     count
 }
 
-/// Returns the number of such tables in the item.
-#[cycle(count)]
+/// Returns how many headers come from the item itself, but for a table that is implicit.
 fn count_in_item(item: &Item) -> usize {
     match item {
-        Item::Table(table) => count_in_table(table, false),
-        Item::ArrayOfTables(tables) => count_in_elements(&tables.values),
+        Item::Table(table) => usize::from(!table.is_dotted() && !table.is_implicit()),
+        Item::ArrayOfTables(tables) => tables.values.len(),
         Item::None | Item::Value(_) => 0,
     }
-}
-
-/// Returns the number of such tables in the elements.
-#[cycle(count)]
-fn count_in_elements(items: &Vec<Item>) -> usize {
-    let mut count: usize = 0;
-    for item in items {
-        if let Item::Table(table) = item {
-            count = count.saturating_add(count_in_table(table, true));
-        }
-    }
-    count
-}
-
-/// Returns the number of such tables: this one, if it is one, and those below it.
-#[cycle(count)]
-fn count_in_table(table: &Table, is_element: bool) -> usize {
-    let below = count_headers(&table.slots);
-    if !table.is_dotted() && (is_element || !table.is_implicit() || may_have_lines(&table.slots)) {
-        below.saturating_add(1)
-    } else {
-        below
-    }
-}
-
-/// Returns `false` only if a table of these slots has no lines: it has no values then, and no
-/// dotted tables.
-fn may_have_lines(slots: &Slots<Item>) -> bool {
-    for slot in slots.as_slice() {
-        match &slot.item {
-            Item::Value(_) => return true,
-            Item::Table(table) => {
-                if table.is_dotted() {
-                    return true;
-                }
-            }
-            Item::None | Item::ArrayOfTables(_) => {}
-        }
-    }
-    false
 }
 
 /// Sorts the headers by their places. Those of one place stay in the order of the walk.
@@ -273,6 +230,7 @@ pub(crate) fn headers_in_order<'p, 'a>(
     };
     let mut walk = Walk {
         arena,
+        // Most documents have few others.
         headers: Vec::with_capacity(root.slots.allocator(), count_headers(&root.slots))?,
         seen,
     };

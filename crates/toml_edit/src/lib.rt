@@ -83,7 +83,7 @@ pub use toml_edit_error::{Excerpt, ParseFault, TomlError, line_column};
 pub use toml_edit_fits::{FitRule, Misfit};
 pub use toml_edit_io::{Broken, Input, Output, Printed, Sink, Watched, print_to};
 pub use toml_edit_key::{Key, KeyMut};
-pub use toml_edit_parser::{FromStr, FromStrWith, ParseOptions, Version};
+pub use toml_edit_parser::{FromStr, FromStrWith, ParseOptions, ParsePath, Version};
 pub use toml_edit_paths::ChangeFault;
 pub use toml_edit_repr::{
     CommentFault, Comments, Decor, Formatted, Mem, RawString, Repr, ScalarValue, ValueRepr,

@@ -35,7 +35,7 @@ fn step(tail: Tail, byte: u8) -> Tail
 
 /// Returns the tail of a text that ended in `tail`, after these bytes more. It depends on the last
 /// two of them.
-fn after(tail: Tail, bytes: &[u8]) -> Tail
+fn tail_after(tail: Tail, bytes: &[u8]) -> Tail
     ensures { result ≡ tail_after tail bytes.now }
 {
     let count = bytes.len();
@@ -87,7 +87,7 @@ impl<S: Sink> Sink for Held<'_, S> {
     ghost puts = { λ s text t. Holds S.puts s.tail s.out text t.tail t.out };
 
     fn put(&mut self, text: &str) {
-        let tail = after(self.tail, text.as_bytes());
+        let tail = tail_after(self.tail, text.as_bytes());
         let held = text_of(tail).len();
         // A shorter text only adds to the tail.
         if held <= text.len() {

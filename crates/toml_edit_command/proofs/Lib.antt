@@ -2,5 +2,4 @@
 pub mod Reading
 pub mod Spelled
 pub mod Local
-pub mod Items
 pub mod Ends

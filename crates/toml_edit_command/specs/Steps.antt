@@ -6,6 +6,7 @@ use Rattle.toml_edit_model.specs.Mode.{Mode}
 use Rattle.toml_edit_model.specs.Version.{Version}
 use Rattle.toml_edit_model.specs.Syntax.{Document}
 use Rattle.toml_edit_model.specs.Fits.{FitsIn}
+use Rattle.toml_edit_model.specs.Keys.{names}
 use Rattle.toml_edit_io.specs.Streams.{AppendsBeginning}
 use Rattle.toml_edit_tree.specs.View.{value_view}
 use Rattle.toml_edit_command.specs.Words.{Action, printing, getting, setting, removing, Request, IsCommand}
@@ -14,7 +15,6 @@ use Rattle.toml_edit_command.specs.Mistakes.{InWords, InTree, InRead, mistake_li
 use Rattle.toml_edit_command.specs.Run.{OutputChange, IsExcerptOf, IsRefused, IsUnwritten, Tells}
 use Rattle.toml_edit_command.specs.declared.words.Command.{Command}
 use Rattle.toml_edit_command.specs.declared.words.Command.TheVariants.{Print, Get, Set, Remove}
-use Rattle.toml_edit_paths.specs.Changes.{names}
 use Rattle.toml_edit_paths.specs.declared.fault.ChangeFault.{ChangeFault}
 use Rattle.toml_edit_paths.specs.declared.fault.ChangeFault.TheVariants.{NoSuchPath, WrongKind}
 use Rattle.toml_edit_paths.specs.declared.fault.ChangeFault.TheVariants as faults

@@ -7,7 +7,7 @@ ghost use Rattle.toml_edit_command.specs.Words.{IsCommand, IsPrint, SaysAction, 
 
 use crate::act::perform;
 use crate::error::RunError;
-use crate::tell::end;
+use crate::tell::report_error;
 use crate::words::Command;
 use std::alloc::Global;
 use toml_edit_io::{Input, Output};
@@ -108,11 +108,11 @@ pub fn run<I: Input, O: Output, E: Output>(
 {
     let (command, options) = match Command::of_words(alloc, words) {
         Ok(read) => read,
-        Err(error) => return end(&error, errors),
+        Err(error) => return report_error(&error, errors),
     };
     match perform(alloc, command, options, input, output) {
         Ok(()) => DONE,
-        Err(error) => end(&error, errors),
+        Err(error) => report_error(&error, errors),
     }
 }
 
@@ -122,16 +122,5 @@ pub fn end_without_memory<E: Output>(errors: &mut E) -> u8
     ensures status { result ≡ 3 }
     ensures told { Tells memory_line (written E.contents E.has_failed errors.old errors.new) }
 {
-    end(&RunError::Memory, errors)
-}
-
-/// Writes to `errors` that the output has failed, and returns the exit status for that, which is 4.
-///
-/// For a caller that buffers the output of [`run`], and finds at the end that the rest can't be
-/// written. A fault in writing to `errors` is ignored.
-pub fn end_unwritten<E: Output>(errors: &mut E) -> u8
-    ensures status { result ≡ 4 }
-    ensures told { Tells write_line (written E.contents E.has_failed errors.old errors.new) }
-{
-    end(&RunError::WriteFailed, errors)
+    report_error(&RunError::Memory, errors)
 }

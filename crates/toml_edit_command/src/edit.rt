@@ -1,11 +1,11 @@
 //! The commands `set` and `remove`.
 ghost use Rattle.std.specs.Prelude.{◌≡◌, false, IfErr, OnOk};
 ghost use Rattle.toml_edit_tree.specs.View.{value_view};
-ghost use Rattle.toml_edit_paths.specs.Changes.{names};
 ghost use Rattle.toml_edit_command.specs.Run.{written};
 ghost use Rattle.toml_edit_command.specs.Steps.{Printed, StopsActing, StopsPrinting, Wrote, error_for};
 ghost use Rattle.toml_edit_command.specs.Words.{removing, setting};
 ghost use Rattle.toml_edit_command.specs.Written.{held};
+ghost use Rattle.toml_edit_model.specs.Keys.{names};
 
 use crate::act::print;
 use crate::error::{CommandError, RunError};

@@ -10,4 +10,4 @@ mod read;
 mod tell;
 mod words;
 
-pub use command::{end_unwritten, end_without_memory, run};
+pub use command::{end_without_memory, run};

@@ -8,7 +8,7 @@ use crate::error::{CommandError, RunError};
 use toml_edit_io::{Output, write_all};
 
 /// Writes to `errors` why a run stopped, and returns its exit status.
-pub fn end<E: Output>(error: &RunError, errors: &mut E) -> u8
+pub fn report_error<E: Output>(error: &RunError, errors: &mut E) -> u8
     ensures status { result ≡ status_of error.now }
     ensures told { TellsError error.now
         (written E.contents E.has_failed errors.old errors.new) }

@@ -1,7 +1,7 @@
 //! Reading the words of a command.
 ghost use Rattle.std.specs.Prelude.{◌≡◌, [], ◌∷◌, IfErr, IfOk, map, if◌then◌else◌, string_bytes};
 ghost use Rattle.toml_edit_model.specs.Mode as model;
-ghost use Rattle.toml_edit_paths.specs.Changes.{names};
+ghost use Rattle.toml_edit_model.specs.Keys.{names};
 ghost use Rattle.toml_edit_command.specs.Steps.{StopsInWords, action_of};
 ghost use Rattle.toml_edit_command.specs.Words.{Says, SpellsPath, SpellsValue, asked_in, request};
 ghost use Rattle.toml_edit_command.specs.Forms.{IsForm, MayStopPath, MayStopValue, request_by};
@@ -10,7 +10,7 @@ ghost use Rattle.toml_edit_tree.specs.View.{value_view};
 
 use crate::error::{CommandError, RunError};
 use std::alloc::Global;
-use toml_edit::{FromStrWith, Key, ParseFault, ParseOptions, Value, Version};
+use toml_edit::{FromStrWith, Key, ParseFault, ParseOptions, ParsePath, Value, Version};
 
 /// What is done to the document that is read.
 #[derive(Drop)]

@@ -48,14 +48,14 @@ fn real_datetime(text: &str) -> Result<Datetime, DatetimeFault>
     ensures { option_map datetime_view (result_ok result) ≡ spec.ranged_of text.now }
 {
     let parts = reading::read(text.as_bytes()).ok_or(DatetimeFault)?;
-    let date = real_date(parts.date)?;
+    let date = date_of_parts(parts.date)?;
     let time = real_time(parts.time)?;
     let offset = real_offset(parts.offset)?;
     Datetime::new(date, time, offset).ok_or(DatetimeFault)
 }
 
 /// Returns the date, if there is one. Fails if the calendar has no such day.
-fn real_date(parts: Option<DateParts>) -> Result<Option<Date>, DatetimeFault>
+fn date_of_parts(parts: Option<DateParts>) -> Result<Option<Date>, DatetimeFault>
     ensures { option_map (option_map date_view) (result_ok result)
         ≡ (if is_absent_or is_real_date (option_map date_parts_view parts)
         then Some (option_map date_parts_view parts) else None) }

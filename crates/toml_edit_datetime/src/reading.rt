@@ -17,7 +17,7 @@ pub(crate) fn read(text: &[u8]) -> Option<Parts>
     ensures { option_map parts_view result ≡ spec.parts_of text.now }
 {
     if matches!(text, [_, _, b':', ..]) {
-        let time = whole(read_time(text))?;
+        let time = value_if_whole(read_time(text))?;
         return Some(Parts {
             date: None,
             time: Some(time),
@@ -47,7 +47,7 @@ fn after_date(date: DateParts, text: &[u8]) -> Option<Parts>
     let offset = if rest.is_empty() {
         None
     } else {
-        Some(whole(read_offset(rest))?)
+        Some(value_if_whole(read_offset(rest))?)
     };
     Some(Parts {
         date: Some(date),
@@ -216,7 +216,7 @@ fn after_byte(text: &[u8], byte: u8) -> Option<&[u8]>
 }
 
 /// Returns what was read if nothing is left.
-fn whole<T: Copy>(read: Option<(T, &[u8])>) -> Option<T>
+fn value_if_whole<T: Copy>(read: Option<(T, &[u8])>) -> Option<T>
     ensures { result ≡ spec.whole (read_of read.entry) }
 {
     match read {

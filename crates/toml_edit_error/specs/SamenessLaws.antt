@@ -1,24 +1,19 @@
 -- Equal reports are one, equality is an equivalence, and what is equal is hashed alike.
-use Rattle.std.specs.Prelude.{◌≡◌, ℕ, Bool, true, false, ◌&&◌, IsTrue, Option, Some, None}
+use Rattle.std.specs.Prelude.{◌≡◌, ℕ, true, IsTrue, Option, Some, None}
 use Rattle.std.specs.Bool.{Decides}
 use Rattle.std.specs.Cmp.{IsEquivalence, IsPartialEquivalence, partial_equiv_from_equiv}
 use Rattle.std.specs.Option.{option_eq}
 use Rattle.std.proofs.Common.{refl, ap, sym}
-use Rattle.std.proofs.lemmas.Bool.{eqb-true, eq-eqb}
+use Rattle.std.proofs.lemmas.Bool.{eqb-true, eq-eqb, and_parts}
 use Rattle.std.proofs.lemmas.Bool.Decides.{same_from_decides}
 use Rattle.std.proofs.lemmas.Slice.Eq.{bytes_eq-Decides}
 use Rattle.toml_edit_model.specs.Text.{Text, same_text}
 use Rattle.toml_edit_error.specs.Report.{Report}
 use Rattle.toml_edit_error.specs.Sameness.{same_span, same_report, report_hash_input}
 
-both : (a b : Bool) → (a && b) ≡ true → (a ≡ true) × (b ≡ true)
-both true true e = (refl, refl)
-both true false e = absurd cc
-both false b e = absurd cc
-
 same_span_exact : (a b : ℕ × ℕ) → same_span a b ≡ true → a ≡ b
 same_span_exact (i, j) (k, l) e =
-    let (first, second) = both _ _ e in
+    let (first, second) = and_parts _ _ e in
     let i-k : i ≡ k = eqb-true i k first in
     let j-l : j ≡ l = eqb-true j l second in
     cc
@@ -41,8 +36,8 @@ same_text_itself t = (bytes_eq-Decides t t).1 refl
 
 pub same_report_exact : (a b : Report) → same_report a b ≡ true → a ≡ b
 same_report_exact a b e =
-    let (first, others) = both _ _ e in
-    let (second, third) = both _ _ others in
+    let (first, others) = and_parts _ _ e in
+    let (second, third) = and_parts _ _ others in
     let message = (bytes_eq-Decides a.message b.message).0 first in
     let span = same_place_exact a.span b.span second in
     let input = (bytes_eq-Decides a.input b.input).0 third in

@@ -39,7 +39,7 @@ impl fmt::Display for Excerpt<'_> {
 
     fn fmt<W: fmt::Write>(&self, f: &mut fmt::Formatter<W>) -> fmt::Result {
         let (start, end) = self.span;
-        let place = Place::of(self.source, start, end);
+        let place = Place::new(self.source, start, end);
         write_place(f, self.title, &place)?;
         write_message(f, self.message)
     }

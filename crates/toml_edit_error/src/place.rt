@@ -23,7 +23,7 @@ pub struct Place<'a> {
 
 impl<'a> Place<'a> {
     /// Finds the line and the column of the bytes of the text from `start` up to `end`.
-    pub fn of(text: &'a str, start: usize, end: usize) -> Place<'a>
+    pub fn new(text: &'a str, start: usize, end: usize) -> Place<'a>
         ensures line { result.line ≡ suc (position_in text.now start).line }
         ensures column { result.column ≡ suc (position_in text.now start).column }
         ensures content { result.content.now ≡ line_at (position_in text.now start).line text.now }
@@ -38,7 +38,7 @@ impl<'a> Place<'a> {
             line,
             column,
             content,
-            marks: marked_count(text, start, end).min(room).max(1),
+            marks: characters_between(text, start, end).min(room).max(1),
         }
     }
 }
@@ -52,7 +52,7 @@ pub fn line_column(text: &str, byte: usize) -> (usize, usize)
     ensures line { result.0 ≡ suc (position_in text.now byte).line }
     ensures column { result.1 ≡ suc (position_in text.now byte).column }
 {
-    let cut = cut(text, byte);
+    let cut = byte_within(text, byte);
     let head = &text.as_bytes()[..cut];
     let before = &head[line_start(text, cut)..];
     // The end of the text is one column after the last character.
@@ -64,12 +64,12 @@ pub fn line_column(text: &str, byte: usize) -> (usize, usize)
 fn line_around(text: &str, byte: usize) -> &str
     ensures { result.now ≡ line_at (position_in text.now byte).line text.now }
 {
-    let start = line_start(text, cut(text, byte));
+    let start = line_start(text, byte_within(text, byte));
     first_line(&text[start..])
 }
 
 /// Returns the byte, or where the last character begins for the end of the text and beyond.
-fn cut(text: &str, byte: usize) -> usize
+fn byte_within(text: &str, byte: usize) -> usize
     ensures within { result ≤ length text.now }
     ensures cut { result ≡ cut_of text.now byte }
 {
@@ -128,7 +128,7 @@ fn begun_count(bytes: &[u8]) -> usize
 }
 
 /// Returns the number of characters that begin in the bytes of the text from `start` up to `end`.
-fn marked_count(text: &str, start: usize, end: usize) -> usize
+fn characters_between(text: &str, start: usize, end: usize) -> usize
     ensures { result ≡ characters (take (end - start) (drop start text.now)) }
 {
     let end = end.min(text.len());

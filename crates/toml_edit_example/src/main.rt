@@ -4,7 +4,7 @@
 use anyhow::{Result, bail};
 use std::alloc::Global;
 use std::io;
-use toml_edit::{DocumentMut, Key, Value};
+use toml_edit::{DocumentMut, Key, ParsePath, Value};
 
 /// Sets `package.version`, which has to be there, and keeps the comments around it.
 fn set_version(alloc: Global, document: &mut DocumentMut, version: &str) -> Result<()> {

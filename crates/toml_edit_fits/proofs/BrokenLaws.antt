@@ -10,8 +10,8 @@ use Rattle.std.proofs.lemmas.List.Elements.{All-contains, All-from_recursion, Co
 use Rattle.toml_edit_model.specs.Mode.{Mode}
 use Rattle.toml_edit_model.specs.Text.{Text, one}
 use Rattle.toml_edit_model.specs.Trivia.{IsWholeTrivia}
-use Rattle.toml_edit_model.specs.Syntax.{is_short}
-use Rattle.toml_edit_model.specs.Keys.{new_key}
+use Rattle.toml_edit_model.specs.Syntax.{is_short, nesting_limit}
+use Rattle.toml_edit_model.specs.Keys.{new_key, names}
 use Rattle.toml_edit_model.specs.Lists.{item_list}
 use Rattle.toml_edit_model.specs.Paths.{Path, to_key, to_element}
 use Rattle.toml_edit_model.specs.Tree.{Raw, Key, TableFields, Node, nothing, leaf, list, inline, table, tables, Items, no_items, item}
@@ -26,6 +26,7 @@ use Rattle.toml_edit_laws.proofs.common.Each.{all-append, all-front, all-back, a
 use Rattle.toml_edit_laws.proofs.common.Tests.{and_both, and_left, and_right, append-nil, false-by, not-true, or-true, true-false}
 use Rattle.toml_edit_laws.proofs.common.Pairs.{AllPairs, pairs-of}
 use Rattle.toml_edit_laws.proofs.common.Visits.{IsBelowRoot, before-total, before-trans}
+use Rattle.toml_edit_laws.proofs.accepted_prints.HeaderNumbers.{pairs-unimage}
 use Rattle.toml_edit_fits.specs.declared.misfit.FitRule.{FitRule}
 use Rattle.toml_edit_fits.specs.declared.misfit.FitRule.TheVariants as rule
 use Rattle.toml_edit_fits.specs.declared.route.Route.{Route}
@@ -35,7 +36,7 @@ use Rattle.toml_edit_fits.specs.Misfits.{MisfitView, here, unless, below, path_r
 use Rattle.toml_edit_fits.specs.Misfits.{inside_misfits, within_misfits, lines_misfits, dotted_misfits, table_misfits, tables_misfits}
 use Rattle.toml_edit_fits.specs.Misfits.{node_misfits, elements_misfits, root_misfits, Located, in_step, located_slots, located_node}
 use Rattle.toml_edit_fits.specs.Misfits.{located_items, Headed, headed_from, is_too_early, early_after, early_misfits, misfits}
-use Rattle.toml_edit_fits.specs.BrokenRules.{ComesBefore, MisfitsAreBroken, names, located, a_table, a_line, an_element, a_value, the_root}
+use Rattle.toml_edit_fits.specs.BrokenRules.{ComesBefore, MisfitsAreBroken, located, a_table, a_line, an_element, a_value, the_root}
 use Rattle.toml_edit_fits.specs.BrokenRules.{IsAt, MayFollow, Breaks, IsBrokenAt, root_at, table_at, line_at, pair_at, element_at}
 use Rattle.toml_edit_fits.specs.BrokenRules.{line_value_at, element_value_at}
 use Rattle.toml_edit_fits.proofs.TriviaLaws.{final-decides}
@@ -43,7 +44,7 @@ use Rattle.toml_edit_fits.proofs.ValueLaws.{IsRouteOf, no-keys, then-route, leng
 use Rattle.toml_edit_fits.proofs.NodeLaws.{short-decides}
 use Rattle.toml_edit_fits.proofs.TableLaws.{header-decides, own-header}
 use Rattle.toml_edit_fits.proofs.OrderLaws.{heads}
-use Rattle.toml_edit_fits.proofs.FitsLaws.{Turned, before-is, headed-is, heads-below, pairs-unimage, sorted-pairs}
+use Rattle.toml_edit_fits.proofs.FitsLaws.{Turned, before-is, headed-is, heads-below, sorted-pairs}
 use Rattle.toml_edit_fits.proofs.EarlyLaws.{headed-placed, visits-slots}
 
 -- ---- lists
@@ -115,18 +116,18 @@ module _ (mode : Mode) (t : Tree) where
 
   -- ---- lines and pairs
 
-  follow-line : (room : ℕ) → room ≡ 80 → (ks : List Key) (x : Node) → LineSuits mode (EndsLine mode) ks x
+  follow-line : (room : ℕ) → room ≡ nesting_limit → (ks : List Key) (x : Node) → LineSuits mode (EndsLine mode) ks x
       → LineSuits mode (Follows mode room) ks x
   follow-line room e ks x h =
-      subst (λ b. LineSuits mode (λ u. MatchBool b (EndsLine mode u) (IsWholeTrivia u)) ks x) (sym (eq-eqb room 80 e)) h
+      subst (λ b. LineSuits mode (λ u. MatchBool b (EndsLine mode u) (IsWholeTrivia u)) ks x) (sym (eq-eqb room nesting_limit e)) h
 
-  follow-pair : (room : ℕ) → room < 80 → (ks : List Key) (x : Node) → LineSuits mode IsWholeTrivia ks x
+  follow-pair : (room : ℕ) → room < nesting_limit → (ks : List Key) (x : Node) → LineSuits mode IsWholeTrivia ks x
       → LineSuits mode (Follows mode room) ks x
   follow-pair room e ks x h =
       subst (λ b. LineSuits mode (λ u. MatchBool b (EndsLine mode u) (IsWholeTrivia u)) ks x)
-      (sym (ne_eqb room 80 (λ g. absurd (omega (arith, g))))) h
+      (sym (ne_eqb room nesting_limit (λ g. absurd (omega (arith, g))))) h
 
-  follows-in : (n room : ℕ) → room + n ≡ 80 → (ks : List Key) (x : Node) → LineSuits mode (MayFollow mode t n) ks x
+  follows-in : (n room : ℕ) → room + n ≡ nesting_limit → (ks : List Key) (x : Node) → LineSuits mode (MayFollow mode t n) ks x
       → LineSuits mode (Follows mode room) ks x
   follows-in zero room e ks x h = follow-line room (omega arith) ks x h
   follows-in (suc n) room e ks x h = follow-pair room (omega arith) ks x h
@@ -134,7 +135,8 @@ module _ (mode : Mode) (t : Tree) where
   abbrev line : List Key → Key → Node → Line
   line ks k x = record { keys = ks ++ one k; item = x; value = value_of mode x }
 
-  pair-broken : (p : List Text) (room n : ℕ) (r : Route) (ks : List Key) (k : Key) (x : Node) → room + n ≡ 80 → IsRouteOf mode r ks
+  pair-broken : (p : List Text) (room n : ℕ) (r : Route) (ks : List Key) (k : Key) (x : Node) → room + n ≡ nesting_limit
+      → IsRouteOf mode r ks
       → IsAt mode t p (a_line n (line ks k x)) → pair_fits mode room r k (node_decor x) ≡ false → IsBrokenAt mode t p (path_rule r)
   pair-broken p room n r ks k x e is at f = by_room (nat_lt 0 r.room) refl
     where
@@ -158,7 +160,7 @@ module _ (mode : Mode) (t : Tree) where
                 (λ s.
                 let none = ltb-false 0 r.room g in
                 let len = length-one ks k in
-                let short : length (ks ++ one k) ≤ 80 = (short-decides mode (ks ++ one k)).0 s in
+                let short : length (ks ++ one k) ≤ nesting_limit = (short-decides mode (ks ++ one k)).0 s in
                 absurd (omega (arith, len, is.room, none, short)));
           }
 
@@ -167,7 +169,7 @@ module _ (mode : Mode) (t : Tree) where
 
   slot-good : (p : List Text) (room n : ℕ) (r : Route) (ks : List Key) (k : Key) (x : Node) (ls more : List Line)
       (inner lines rest : List MisfitView)
-      → room + n ≡ 80 → IsRouteOf mode r ks
+      → room + n ≡ nesting_limit → IsRouteOf mode r ks
       → (IsAt mode t (p ++ names (ks ++ one k)) (a_value n x) → Good (p ++ names (ks ++ one k)) inner)
       → (AllLines p n ls → Good (p ++ names (ks ++ one k)) lines)
       → (AllLines p n more → Good (p ++ names ks) rest)
@@ -209,9 +211,10 @@ module _ (mode : Mode) (t : Tree) where
       (i : ℕ) (x : Node) → slice_get ns i ≡ Some x → is_value_node x ≡ true → (j : ℕ) → j ≡ at + i
       → IsAt mode t (p ++ one (decimal j)) (an_element n x)
 
-  brackets-good : (p : List Text) (room n : ℕ) (x : Node) (r : Raw) (inner : List MisfitView) → room + n ≡ 80 → IsAt mode t p (a_value n x)
+  brackets-good : (p : List Text) (room n : ℕ) (x : Node) (r : Raw) (inner : List MisfitView) → room + n ≡ nesting_limit
+      → IsAt mode t p (a_value n x)
       → ((IsWholeTrivia (shown_raw mode r) → ⊥) → Breaks mode t (a_value n x) rule.Decor)
-      → (80 ≤ n → Breaks mode t (a_value n x) rule.Limits)
+      → (nesting_limit ≤ n → Breaks mode t (a_value n x) rule.Limits)
       → (0 < room → Good p inner)
       → Good p (if nat_lt 0 room then unless (is_whole (shown_raw mode r)) rule.Decor ++ inner else here rule.Limits)
   brackets-good p room n x r inner e at decor limits inside = by_room (nat_lt 0 room) refl
@@ -263,7 +266,8 @@ module _ (mode : Mode) (t : Tree) where
       by_value false v = tt
 
   mutual
-    value-good : (x : Node) (room n : ℕ) (p : List Text) → room + n ≡ 80 → IsAt mode t p (a_value n x) → Good p (value_misfits mode room x)
+    value-good : (x : Node) (room n : ℕ) (p : List Text) → room + n ≡ nesting_limit → IsAt mode t p (a_value n x)
+        → Good p (value_misfits mode room x)
     value-good (leaf s y d) room n p e at = tt
     value-good (table f ss) room n p e at = tt
     value-good (tables y xs) room n p e at = tt
@@ -280,7 +284,7 @@ module _ (mode : Mode) (t : Tree) where
         (each-itself (λ (l : Line). IsAt mode t (p ++ names l.keys) (a_line (suc n) l)) (inside_lines mode ss [])
         (λ l c. pair_at p n f ss l at c))))
 
-    items-good : (xs : Items) (room n at : ℕ) (p : List Text) → room + n ≡ 80 → AllElements p n at (item_list xs)
+    items-good : (xs : Items) (room n at : ℕ) (p : List Text) → room + n ≡ nesting_limit → AllElements p n at (item_list xs)
         → Good p (items_misfits mode room at xs)
     items-good no_items room n at p e h = tt
     items-good (item x xs) room n at p e h =
@@ -296,7 +300,7 @@ module _ (mode : Mode) (t : Tree) where
         (λ g. value-good x room n q e g)))
         (items-good xs room n (suc at) p e (λ i y s v j g. h (suc i) y s v j (omega (arith, g))))
 
-    inside-good : (ss : Slots) (room n : ℕ) (r : Route) (ks : List Key) (p : List Text) → room + n ≡ 80 → IsRouteOf mode r ks
+    inside-good : (ss : Slots) (room n : ℕ) (r : Route) (ks : List Key) (p : List Text) → room + n ≡ nesting_limit → IsRouteOf mode r ks
         → AllLines p n (inside_lines mode ss ks)
         → Good (p ++ names ks) (inside_misfits mode room r ss)
     inside-good no_slots room n r ks p e is h = tt
@@ -307,7 +311,7 @@ module _ (mode : Mode) (t : Tree) where
         (λ g. within-good x room n (then_key mode r k) (ks ++ one k) p e (then-route mode r ks k is) g)
         (λ g. inside-good ss room n r ks p e is g) h
 
-    within-good : (x : Node) (room n : ℕ) (r : Route) (ks : List Key) (p : List Text) → room + n ≡ 80 → IsRouteOf mode r ks
+    within-good : (x : Node) (room n : ℕ) (r : Route) (ks : List Key) (p : List Text) → room + n ≡ nesting_limit → IsRouteOf mode r ks
         → AllLines p n (lines_inside mode x ks)
         → Good (p ++ names ks) (within_misfits mode room r x)
     within-good (inline f ss) room n r ks p e is h = inside-good ss room n r ks p e is h
@@ -322,14 +326,15 @@ module _ (mode : Mode) (t : Tree) where
         → Good (p ++ names ks) (lines_misfits mode r ss)
     lines-good no_slots r ks p is h = tt
     lines-good (slot k x ss) r ks p is h =
-        slot-good p 80 0 r ks k x (dotted_lines mode x (ks ++ one k)) (table_lines mode ss ks) (value_misfits mode 80 x)
+        slot-good p nesting_limit 0 r ks k x (dotted_lines mode x (ks ++ one k)) (table_lines mode ss ks)
+        (value_misfits mode nesting_limit x)
         (dotted_misfits mode (then_key mode r k) x)
-        (lines_misfits mode r ss) refl is (λ g. value-good x 80 0 (p ++ names (ks ++ one k)) refl g)
+        (lines_misfits mode r ss) refl is (λ g. value-good x nesting_limit 0 (p ++ names (ks ++ one k)) refl g)
         (λ g. dotted-good x (then_key mode r k) (ks ++ one k) p (then-route mode r ks k is) g) (λ g. lines-good ss r ks p is g) h
 
     dotted-good : (x : Node) (r : Route) (ks : List Key) (p : List Text) → IsRouteOf mode r ks → AllLines p 0 (dotted_lines mode x ks)
         → Good (p ++ names ks) (dotted_misfits mode r x)
-    dotted-good (inline f ss) r ks p is h = inside-good ss 80 0 r ks p refl is h
+    dotted-good (inline f ss) r ks p is h = inside-good ss nesting_limit 0 r ks p refl is h
     dotted-good (table f ss) r ks p is h = by_dot f.is_dotted (λ g. lines-good ss r ks p is g) h
       where
         by_dot : (b : Bool) → (AllLines p 0 (table_lines mode ss ks) → Good (p ++ names ks) (lines_misfits mode r ss))
@@ -360,9 +365,6 @@ module _ (mode : Mode) (t : Tree) where
 
   module _ (p : List Text) (r : Route) (q : Path) (ks : List Key) (k : Key) (is_element : Bool) (f : TableFields) (ss : Slots)
       (is : IsRouteOf mode r ks) (at : IsAt mode t p (a_table (visit_of q (ks ++ one k) is_element f ss))) where
-    abbrev entered : Visit
-    entered = visit_of q (ks ++ one k) is_element f ss
-
     header-broken : has_own_header is_element f ss ≡ true → header_fits mode r k f.decor ≡ false → IsBrokenAt mode t p (path_rule r)
     header-broken own unfit = by_room (nat_lt 0 r.room) refl
       where
@@ -376,7 +378,7 @@ module _ (mode : Mode) (t : Tree) where
                 λ suits.
                     let some = ltb-true 0 r.room g in
                     let len = length-one ks k in
-                    let short : length (ks ++ one k) ≤ 80 = omega (arith, len, is.room, some) in
+                    let short : length (ks ++ one k) ≤ nesting_limit = omega (arith, len, is.room, some) in
                     true-false (header_fits mode r k f.decor) ((header-decides mode r q ks k is_element f ss is).1 (
                       suits,
                       (short-decides mode (ks ++ one k)).1 short,
@@ -393,7 +395,7 @@ module _ (mode : Mode) (t : Tree) where
                     (λ s.
                     let none = ltb-false 0 r.room g in
                     let len = length-one ks k in
-                    let short : length (ks ++ one k) ≤ 80 = (short-decides mode (ks ++ one k)).0 s in
+                    let short : length (ks ++ one k) ≤ nesting_limit = (short-decides mode (ks ++ one k)).0 s in
                     absurd (omega (arith, len, is.room, none, short))),
               );
             }
@@ -519,9 +521,6 @@ module _ (mode : Mode) (t : Tree) where
   tables-broken = tables-good t.slots no_keys [] [] [] (no-keys mode) all-located.1
 
   -- ---- the order of headers
-
-  abbrev order : List Visit
-  order = headed mode t
 
   -- of these two, in the order of the walk, the second is printed first
   abbrev Meets : PlacedVisit → PlacedVisit → Type 0

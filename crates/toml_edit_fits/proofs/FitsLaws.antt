@@ -6,7 +6,7 @@ use Rattle.std.proofs.lemmas.Bool.{cases_Bool}
 use Rattle.toml_edit_model.specs.Mode.{Mode}
 use Rattle.toml_edit_model.specs.Tree.{Tree}
 use Rattle.toml_edit_model.specs.Order.{insert_by, sorted_by}
-use Rattle.toml_edit_model.specs.HeaderOrder.{Visit, PlacedVisit, visit_of, slots_walk, walk, place_of, places_from, comes_before}
+use Rattle.toml_edit_model.specs.HeaderOrder.{Visit, PlacedVisit, visit_of, slots_walk, walk, places_from, comes_before}
 use Rattle.toml_edit_model.specs.HeaderOrder.{in_header_order}
 use Rattle.toml_edit_model.specs.Print.{has_header}
 use Rattle.toml_edit_model.specs.Fits.{FitsIn, is_too_late, none_too_late, headed, elements_are_ordered}
@@ -15,15 +15,15 @@ use Rattle.toml_edit_laws.proofs.common.Each.{all-map, all-insert}
 use Rattle.toml_edit_laws.proofs.common.Tests.{and_both, true-false, false-by}
 use Rattle.toml_edit_laws.proofs.common.Pairs.{AllPairs, pairs-filter, pairs-image, pairs-of}
 use Rattle.toml_edit_laws.proofs.common.OrderLaws.{all-sorted}
-use Rattle.toml_edit_laws.proofs.common.Sorting.{filter-sorted}
+use Rattle.toml_edit_laws.proofs.common.Sorting.{filter-sorted, all-inserted}
 use Rattle.toml_edit_laws.proofs.common.Lists.{filter-image}
 use Rattle.toml_edit_laws.proofs.common.Visits.{IsBelowRoot, slots-below, places-all, before-total, before-trans}
-use Rattle.toml_edit_laws.proofs.accepted_prints.HeaderNumbers.{not-late}
+use Rattle.toml_edit_laws.proofs.accepted_prints.HeaderNumbers.{not-late, pairs-unimage, pairs-places}
 use Rattle.toml_edit_laws.proofs.print_by_visits.PrintParts.{has-header}
 use Rattle.toml_edit_laws.proofs.print_by_visits.WalkOnce.{shows_header}
 use Rattle.toml_edit_fits.specs.FitTests.{parts_fit}
 use Rattle.toml_edit_fits.specs.OrderTests.{SlotsAreApart, reaches, order_slots, root_marks}
-use Rattle.toml_edit_fits.proofs.TableLaws.{all-inserted, all-unsorted, parts-decide}
+use Rattle.toml_edit_fits.proofs.TableLaws.{all-unsorted, parts-decide}
 use Rattle.toml_edit_fits.proofs.LatePaths.{Calm, slots-are-calm}
 use Rattle.toml_edit_fits.proofs.OrderLaws.{Fine, heads, heads-all, slots-ordered}
 
@@ -101,27 +101,6 @@ all-calm (g ∷ rest) h =
 abbrev CalmAt : PlacedVisit → PlacedVisit → Type 0
 CalmAt x y = Calm x.1 y.1
 
-pub pairs-unimage : {A B : Type 0} (f : A → B) (R : B → B → Type 0) (xs : List A) → AllPairs R (map f xs)
-    → AllPairs (λ a b. R (f a) (f b)) xs
-pairs-unimage f R [] h = tt
-pairs-unimage {A} f R (x ∷ xs) h = (each xs h.0, pairs-unimage f R xs h.1)
-  where
-    each : (ys : List A) → AllByRecursion (R (f x)) (map f ys) → AllByRecursion (λ b. R (f x) (f b)) ys
-    each [] g = tt
-    each (y ∷ ys) g = (g.0, each ys g.1)
-
-pairs-places : (R : Visit → Visit → Type 0) (seen : ℤ) (vs : List Visit) → AllPairs R vs
-    → AllPairs (λ (a b : PlacedVisit). R a.1 b.1) (places_from seen vs)
-pairs-places R seen [] h = tt
-pairs-places R seen (v ∷ vs) h = by_dot v.fields.is_dotted (pairs-places R seen vs h.1) (pairs-places R (place_of seen v) vs h.1)
-  where
-    by_dot : (b : Bool) → AllPairs (λ (a b : PlacedVisit). R a.1 b.1) (places_from seen vs)
-        → AllPairs (λ (a b : PlacedVisit). R a.1 b.1) (places_from (place_of seen v) vs)
-        → AllPairs (λ (a b : PlacedVisit). R a.1 b.1) (if b then places_from seen vs else (place_of seen v, v)
-        ∷ places_from (place_of seen v) vs)
-    by_dot true x y = x
-    by_dot false x y = (places-all (R v) (place_of seen v) vs h.0, y)
-
 filter-alike : {A : Type 0} (P : A → Type 0) (first second : A → Bool) → ((x : A) → P x → first x ≡ second x) → (xs : List A)
     → AllByRecursion P xs → filter first xs ≡ filter second xs
 filter-alike P first second same [] h = refl
@@ -131,12 +110,6 @@ filter-alike P first second same (x ∷ xs) h =
 module _ (mode : Mode) (t : Tree) where
   abbrev has_own : PlacedVisit → Bool
   has_own v = has_header mode v.1
-
-  abbrev below_root : List Visit
-  below_root = slots_walk t.slots [] []
-
-  abbrev in_walk : List PlacedVisit
-  in_walk = heads (root_place t.root) (slots_walk t.slots [] [])
 
   -- those below the root, where these places are seen
   own-heads : (seen : ℤ) → filter has_own (places_from seen (slots_walk t.slots [] [])) ≡ heads seen (slots_walk t.slots [] [])

@@ -13,12 +13,13 @@ use Rattle.toml_edit_model.specs.Syntax.{has_short_keys, elements_have_short_key
 use Rattle.toml_edit_model.specs.Syntax.{nesting_limit}
 use Rattle.toml_edit_model.specs.Tree.{Key, Node, nothing, leaf, list, inline, table, tables, Items, no_items, item, Slots, no_slots, slot}
 use Rattle.toml_edit_model.specs.Tree.{shown_raw, node_decor, is_value_node, shown_prefix, shown_suffix}
-use Rattle.toml_edit_model.specs.Print.{Line, segments, segments_after, frame_of, add_after, close_array, add_after_pairs, close_inline}
+use Rattle.toml_edit_model.specs.Print.{Line, segments, frame_of, add_after, close_array, add_after_pairs, close_inline}
 use Rattle.toml_edit_model.specs.Print.{line_of, line_statement, is_line_node, around_of, one_space, pairs_of_lines, value_of, elements_of}
 use Rattle.toml_edit_model.specs.Print.{inside_lines, lines_inside, table_lines, dotted_lines}
 use Rattle.toml_edit_model.specs.Fits.{LineSuits, ElementSuits, Suits, ItemsSuit, InsideSuits, NodeSuitsInside, PrintedLineSuits, EndsLine}
 use Rattle.toml_edit_laws.proofs.common.Each.{all-append, all-front, all-back, all-map, all-both}
 use Rattle.toml_edit_laws.proofs.common.Tests.{and_left, and_right, and_both}
+use Rattle.toml_edit_laws.proofs.normal_texts.LinesInModes.{segments-length}
 use Rattle.toml_edit_fits.specs.TriviaTests.{is_whole}
 use Rattle.toml_edit_fits.specs.declared.route.Route.{Route}
 use Rattle.toml_edit_fits.specs.FitTests.{no_keys, then_key, pair_fits, element_fits, value_fits, items_fit, inside_fits, within_fits}
@@ -85,31 +86,23 @@ inline-short true t (pair f v ps) = refl
 inline-short false t (pair f v ps) = after_pairs-short t (pair f v ps)
 
 module _ (mode : Mode) where
-  after-length : (ks : List Key) → length (segments_after mode ks) ≡ length ks
-  after-length [] = refl
-  after-length (k ∷ []) = refl
-  after-length (k ∷ l ∷ ks) = ap suc (after-length (l ∷ ks))
-
-  pub segments-length : (ks : List Key) → length (segments mode ks) ≡ length ks
-  segments-length [] = refl
-  segments-length (k ∷ []) = refl
-  segments-length (k ∷ l ∷ ks) = ap suc (after-length (l ∷ ks))
-
-  pub short-decides : (ks : List Key) → Decides (is_short (segments mode ks)) (length ks ≤ 80)
+  pub short-decides : (ks : List Key) → Decides (is_short (segments mode ks)) (length ks ≤ nesting_limit)
   short-decides ks =
-      let same = segments-length ks in (
-        λ h. let small : length (segments mode ks) ≤ 80 = leb-true (length (segments mode ks)) 80 h in omega (arith, same, small),
-        λ h. le-leb (length (segments mode ks)) 80 (let short : length ks ≤ 80 = h in omega (arith, same, short)),
+      let same = segments-length mode ks in (
+        λ h. let small : length (segments mode ks) ≤ nesting_limit = leb-true (length (segments mode ks)) nesting_limit h in
+            omega (arith, same, small),
+        λ h. le-leb (length (segments mode ks)) nesting_limit (let short : length ks ≤ nesting_limit = h in omega (arith, same, short)),
       )
 
   -- ---- lines
 
   abbrev LineKeeps : ℕ → Line → Type 0
-  LineKeeps room l = (length l.keys ≤ 80) × KeepsIn room l.value
+  LineKeeps room l = (length l.keys ≤ nesting_limit) × KeepsIn room l.value
 
   -- what stands around the pair and in it suits its place, and all is within the limits
   abbrev pub LineFits : ℕ → Line → Type 0
-  LineFits room l = ((length l.keys ≤ 80) × LineSuits mode (Follows mode room) l.keys l.item) × (Suits mode l.item × KeepsIn room l.value)
+  LineFits room l = ((length l.keys ≤ nesting_limit) × LineSuits mode (Follows mode room) l.keys l.item)
+      × (Suits mode l.item × KeepsIn room l.value)
 
   abbrev LineIsSuited : Line → Type 0
   LineIsSuited l = LineSuits mode IsWholeTrivia l.keys l.item × Suits mode l.item
@@ -175,15 +168,15 @@ module _ (mode : Mode) where
     node-suited nothing ks = (λ h. h, λ h. h)
 
   -- in brackets, trivia follows
-  follows-inside : (room : ℕ) → room < 80 → (ks : List Key) (n : Node) → LineSuits mode (Follows mode room) ks n
+  follows-inside : (room : ℕ) → room < nesting_limit → (ks : List Key) (n : Node) → LineSuits mode (Follows mode room) ks n
       ↔ LineSuits mode IsWholeTrivia ks n
   follows-inside room h ks n =
-      let other : (room == nesting_limit) ≡ false = ne_eqb room 80 (λ e. absurd (omega (arith, e))) in (
+      let other : (room == nesting_limit) ≡ false = ne_eqb room nesting_limit (λ e. absurd (omega (arith, e))) in (
         λ s. subst (λ b. LineSuits mode (λ t. MatchBool b (EndsLine mode t) (IsWholeTrivia t)) ks n) other s,
         λ s. subst (λ b. LineSuits mode (λ t. MatchBool b (EndsLine mode t) (IsWholeTrivia t)) ks n) (sym other) s,
       )
 
-  inline-fits : (room : ℕ) → room < 80 → (ss : Slots) (ks : List Key)
+  inline-fits : (room : ℕ) → room < nesting_limit → (ss : Slots) (ks : List Key)
       → AllByRecursion (LineFits room) (inside_lines mode ss ks)
       ↔ (InsideSuits mode ss ks × PairsKeep room (pairs_of_lines mode (inside_lines mode ss ks)))
   inline-fits room small ss ks =
@@ -205,7 +198,7 @@ module _ (mode : Mode) where
   ValueFits room n = Suits mode n × KeepsIn room (value_of mode n)
 
   mutual
-    pub value-decides : (n : Node) (room : ℕ) → room ≤ 80 → Decides (value_fits mode room n) (ValueFits room n)
+    pub value-decides : (n : Node) (room : ℕ) → room ≤ nesting_limit → Decides (value_fits mode room n) (ValueFits room n)
     value-decides (leaf s x d) room small = (λ h. (tt, (omega arith, refl)), λ h. refl)
     value-decides (table f ss) room small =
         Decides-like (nat_lt 0 room) (λ h. (tt, (let some : 0 < room = h in omega (arith, some), refl)))
@@ -254,7 +247,7 @@ module _ (mode : Mode) where
         (Decides-and (is_whole t) (inside_fits mode (room - 1) no_keys ss) (whole-side mode (Some f.trailing))
         (inside-decides ss (room - 1) no_keys [] (omega arith) (no-keys mode))))
 
-    items-decide : (xs : Items) (room : ℕ) (is_first : Bool) → room ≤ 80
+    items-decide : (xs : Items) (room : ℕ) (is_first : Bool) → room ≤ nesting_limit
         → Decides (items_fit mode room xs) (ItemsSuit mode xs × ElementsKeep room (elements_of mode xs is_first))
     items-decide no_items room is_first small = (λ h. (tt, (omega arith, refl)), λ h. refl)
     items-decide (item n xs) room is_first small =
@@ -293,7 +286,7 @@ module _ (mode : Mode) where
         by_value false here more =
             Decides-like (items_fit mode room xs) (λ h. ((tt, h.0), h.1)) (λ h. (h.0.1, h.1)) (more is_first)
 
-    inside-decides : (ss : Slots) (room : ℕ) (r : Route) (ks : List Key) → room ≤ 80 → IsRouteOf mode r ks
+    inside-decides : (ss : Slots) (room : ℕ) (r : Route) (ks : List Key) → room ≤ nesting_limit → IsRouteOf mode r ks
         → Decides (inside_fits mode room r ss) (AllByRecursion (LineFits room) (inside_lines mode ss ks))
     inside-decides no_slots room r ks small is = (λ h. tt, λ h. refl)
     inside-decides (slot k n ss) room r ks small is =
@@ -323,7 +316,7 @@ module _ (mode : Mode) where
             both-lists (LineFits room) (within_fits mode room (then_key mode r k) n) (inside_fits mode room r ss) (lines_inside mode n (ks
             ++ one k)) (inside_lines mode ss ks) below more
 
-    within-decides : (n : Node) (room : ℕ) (r : Route) (ks : List Key) → room ≤ 80 → IsRouteOf mode r ks
+    within-decides : (n : Node) (room : ℕ) (r : Route) (ks : List Key) → room ≤ nesting_limit → IsRouteOf mode r ks
         → Decides (within_fits mode room r n) (AllByRecursion (LineFits room) (lines_inside mode n ks))
     within-decides (inline f ss) room r ks small is = inside-decides ss room r ks small is
     within-decides (table f ss) room r ks small is = inside-decides ss room r ks small is
@@ -336,43 +329,46 @@ module _ (mode : Mode) where
 
   mutual
     pub lines-decide : (ss : Slots) (r : Route) (ks : List Key) → IsRouteOf mode r ks
-        → Decides (lines_fit mode r ss) (AllByRecursion (LineFits 80) (table_lines mode ss ks))
+        → Decides (lines_fit mode r ss) (AllByRecursion (LineFits nesting_limit) (table_lines mode ss ks))
     lines-decide no_slots r ks is = (λ h. tt, λ h. refl)
     lines-decide (slot k n ss) r ks is =
         by_line (is_line_node n) (dotted-decides n (then_key mode r k) (ks ++ one k) (then-route mode r ks k is)) (lines-decide ss r ks is)
       where
         by_line : (b : Bool) → Decides (dotted_fits mode (then_key mode r k) n)
-            (AllByRecursion (LineFits 80) (dotted_lines mode n (ks ++ one k)))
-            → Decides (lines_fit mode r ss) (AllByRecursion (LineFits 80) (table_lines mode ss ks))
+            (AllByRecursion (LineFits nesting_limit) (dotted_lines mode n (ks ++ one k)))
+            → Decides (lines_fit mode r ss) (AllByRecursion (LineFits nesting_limit) (table_lines mode ss ks))
             → Decides (elim b [
-              | true ↦ pair_fits mode 80 r k (node_decor n) && value_fits mode 80 n
+              | true ↦ pair_fits mode nesting_limit r k (node_decor n) && value_fits mode nesting_limit n
               | false ↦
                   dotted_fits mode (then_key mode r k) n
             ] && lines_fit mode r ss)
-            (AllByRecursion (LineFits 80) (elim b [
+            (AllByRecursion (LineFits nesting_limit) (elim b [
               | true ↦ line_of (ks ++ one k) n (value_of mode n)
               | false ↦
                   dotted_lines mode n (ks ++ one k)
             ] ++ table_lines mode ss ks))
         by_line true below more =
-            both-lists (LineFits 80) (pair_fits mode 80 r k (node_decor n)
-            && value_fits mode 80 n) (lines_fit mode r ss) (line_of (ks ++ one k) n (value_of mode n)) (table_lines mode ss ks)
-            (Decides-like (pair_fits mode 80 r k (node_decor n) && value_fits mode 80 n) (λ h. (h, tt)) (λ h. h.0)
-            (Decides-and (pair_fits mode 80 r k (node_decor n)) (value_fits mode 80 n) (pair-decides mode 80 r ks k n is)
-            (value-decides n 80 (omega arith)))) more
+            both-lists (LineFits nesting_limit) (pair_fits mode nesting_limit r k (node_decor n)
+            && value_fits mode nesting_limit n) (lines_fit mode r ss) (line_of (ks ++ one k) n (value_of mode n)) (table_lines mode ss ks)
+            (Decides-like (pair_fits mode nesting_limit r k (node_decor n) && value_fits mode nesting_limit n) (λ h. (h, tt)) (λ h. h.0)
+            (Decides-and (pair_fits mode nesting_limit r k (node_decor n)) (value_fits mode nesting_limit n)
+            (pair-decides mode nesting_limit r ks k n is)
+            (value-decides n nesting_limit (omega arith)))) more
         by_line false below more =
-            both-lists (LineFits 80) (dotted_fits mode (then_key mode r k) n) (lines_fit mode r ss) (dotted_lines mode n (ks ++ one k))
+            both-lists (LineFits nesting_limit) (dotted_fits mode (then_key mode r k) n) (lines_fit mode r ss)
+            (dotted_lines mode n (ks ++ one k))
             (table_lines mode ss ks) below more
 
     dotted-decides : (n : Node) (r : Route) (ks : List Key) → IsRouteOf mode r ks
-        → Decides (dotted_fits mode r n) (AllByRecursion (LineFits 80) (dotted_lines mode n ks))
+        → Decides (dotted_fits mode r n) (AllByRecursion (LineFits nesting_limit) (dotted_lines mode n ks))
     dotted-decides (table f ss) r ks is = by_dot f.is_dotted (lines-decide ss r ks is)
       where
-        by_dot : (b : Bool) → Decides (lines_fit mode r ss) (AllByRecursion (LineFits 80) (table_lines mode ss ks))
-            → Decides (if b then lines_fit mode r ss else true) (AllByRecursion (LineFits 80) (if b then table_lines mode ss ks else []))
+        by_dot : (b : Bool) → Decides (lines_fit mode r ss) (AllByRecursion (LineFits nesting_limit) (table_lines mode ss ks))
+            → Decides (if b then lines_fit mode r ss else true)
+            (AllByRecursion (LineFits nesting_limit) (if b then table_lines mode ss ks else []))
         by_dot true h = h
         by_dot false h = (λ e. tt, λ e. refl)
-    dotted-decides (inline f ss) r ks is = inside-decides ss 80 r ks (omega arith) is
+    dotted-decides (inline f ss) r ks is = inside-decides ss nesting_limit r ks (omega arith) is
     dotted-decides (leaf s x d) r ks is = (λ h. tt, λ h. refl)
     dotted-decides (list f xs) r ks is = (λ h. tt, λ h. refl)
     dotted-decides (tables e xs) r ks is = (λ h. tt, λ h. refl)
@@ -382,22 +378,27 @@ module _ (mode : Mode) where
   abbrev pub PrintedLineFits : Line → Type 0
   PrintedLineFits l = PrintedLineSuits mode l × (keeps_limits (line_statement mode l) ≡ true)
 
-  line-fits : (l : Line) → LineFits 80 l ↔ PrintedLineFits l
+  line-fits : (l : Line) → LineFits nesting_limit l ↔ PrintedLineFits l
   line-fits l =
       let short = short-decides l.keys in (
         λ h. (
           (h.0.1, h.1.0),
-          and_both (is_short (segments mode l.keys)) (nat_le (depth l.value) 80 && has_short_keys l.value) (short.1 h.0.0)
-              (and_both (nat_le (depth l.value) 80) (has_short_keys l.value) (le-leb (depth l.value) 80 h.1.1.0) h.1.1.1),
+          and_both (is_short (segments mode l.keys)) (nat_le (depth l.value) nesting_limit && has_short_keys l.value) (short.1 h.0.0)
+              (and_both (nat_le (depth l.value) nesting_limit) (has_short_keys l.value)
+              (le-leb (depth l.value) nesting_limit h.1.1.0) h.1.1.1),
         ),
-        λ h. let others : (nat_le (depth l.value) 80 && has_short_keys l.value) ≡ true =
-            and_right (is_short (segments mode l.keys)) (nat_le (depth l.value) 80 && has_short_keys l.value) h.1 in (
-              (short.0 (and_left (is_short (segments mode l.keys)) (nat_le (depth l.value) 80 && has_short_keys l.value) h.1), h.0.0),
+        λ h. let others : (nat_le (depth l.value) nesting_limit && has_short_keys l.value) ≡ true =
+            and_right (is_short (segments mode l.keys)) (nat_le (depth l.value) nesting_limit && has_short_keys l.value) h.1 in (
+              (
+                short.0 (and_left (is_short (segments mode l.keys))
+                    (nat_le (depth l.value) nesting_limit && has_short_keys l.value) h.1),
+                h.0.0,
+              ),
               (
                 h.0.1,
                 (
-                  leb-true (depth l.value) 80 (and_left (nat_le (depth l.value) 80) (has_short_keys l.value) others),
-                  and_right (nat_le (depth l.value) 80) (has_short_keys l.value) others,
+                  leb-true (depth l.value) nesting_limit (and_left (nat_le (depth l.value) nesting_limit) (has_short_keys l.value) others),
+                  and_right (nat_le (depth l.value) nesting_limit) (has_short_keys l.value) others,
                 ),
               ),
             ),
@@ -406,6 +407,6 @@ module _ (mode : Mode) where
   pub table-lines-decide : (ss : Slots) → Decides (lines_fit mode no_keys ss) (AllByRecursion PrintedLineFits (table_lines mode ss []))
   table-lines-decide ss =
       let ls = table_lines mode ss [] in
-      Decides-like (lines_fit mode no_keys ss) (all-map (LineFits 80) PrintedLineFits ls (λ l. (line-fits l).0))
-      (all-map PrintedLineFits (LineFits 80) ls (λ l. (line-fits l).1))
+      Decides-like (lines_fit mode no_keys ss) (all-map (LineFits nesting_limit) PrintedLineFits ls (λ l. (line-fits l).0))
+      (all-map PrintedLineFits (LineFits nesting_limit) ls (λ l. (line-fits l).1))
       (lines-decide ss no_keys [] (no-keys mode))

@@ -10,19 +10,21 @@ use Rattle.toml_edit_model.specs.Syntax.{is_short, keeps_limits}
 use Rattle.toml_edit_model.specs.Paths.{Path, to_key, to_element}
 use Rattle.toml_edit_model.specs.Tree.{Decor, Key, TableFields, Node, nothing, leaf, list, inline, table, tables, Items, no_items, item}
 use Rattle.toml_edit_model.specs.Tree.{Slots, no_slots, slot, Tree, shown_prefix, shown_suffix, shown_raw}
-use Rattle.toml_edit_model.specs.Order.{insert_by, sorted_by}
+use Rattle.toml_edit_model.specs.Order.{sorted_by}
 use Rattle.toml_edit_model.specs.HeaderOrder.{Visit, PlacedVisit, visit_of, node_walk, items_walk, slots_walk, walk, place_of, places_from}
 use Rattle.toml_edit_model.specs.HeaderOrder.{comes_before, in_header_order}
 use Rattle.toml_edit_model.specs.Print.{Line, segments, last_leaf, lines_of, line_statement, has_header, header_statement, printed_line}
 use Rattle.toml_edit_model.specs.Print.{printed_table, printed_tables, Printed, statements_of}
 use Rattle.toml_edit_model.specs.Fits.{HeaderSuits, TableSuits, DecorsSuit, is_undotted, PrintedLineSuits}
 use Rattle.toml_edit_laws.specs.PrintByVisits.{has_own_header, holds_newline}
+use Rattle.toml_edit_laws.specs.Locality.{root_visit}
 use Rattle.toml_edit_laws.proofs.common.Each.{all-append, all-front, all-back, all-map, all-both, all-of}
 use Rattle.toml_edit_laws.proofs.common.Lists.{not_empty-last}
 use Rattle.toml_edit_laws.proofs.common.Tests.{and_left, and_right, and_both, true-false}
 use Rattle.toml_edit_laws.proofs.accepted_prints.PrintedCut.{order-all}
 use Rattle.toml_edit_laws.proofs.print_by_visits.KeyTexts.{last_leaf-end}
 use Rattle.toml_edit_laws.proofs.print_by_visits.PrintParts.{has-header}
+use Rattle.toml_edit_laws.proofs.common.Sorting.{all-inserted}
 use Rattle.toml_edit_fits.specs.declared.route.Route.{Route}
 use Rattle.toml_edit_fits.specs.TriviaTests.{is_white, is_whole, is_final, ends_line}
 use Rattle.toml_edit_fits.specs.FitTests.{no_keys, key_fits, then_key, lines_fit, brackets_fit, header_fits, table_fits, tables_fit}
@@ -44,17 +46,6 @@ list-of test (x ∷ xs) h = and_both (test x) (list_all test xs) h.0 (list-of te
 not-false : (b : Bool) → not b ≡ true → b ≡ false
 not-false true h = sym h
 not-false false h = refl
-
--- what holds of the tables in order holds of those of the walk
-pub all-inserted : {A : Type 0} (P : A → Type 0) (before : A → A → Bool) (a : A) (xs : List A) → AllByRecursion P (insert_by before a xs)
-    → P a × AllByRecursion P xs
-all-inserted P before a [] h = (h.0, tt)
-all-inserted {A} P before a (x ∷ xs) h = by_test (before a x) h (all-inserted P before a xs)
-  where
-    by_test : (b : Bool) → AllByRecursion P (if b then a ∷ x ∷ xs else x ∷ insert_by before a xs)
-        → (AllByRecursion P (insert_by before a xs) → P a × AllByRecursion P xs) → P a × AllByRecursion P (x ∷ xs)
-    by_test true g ih = (g.0, g.1)
-    by_test false g ih = (let more = ih g.1 in (more.0, (g.0, more.1)))
 
 pub all-unsorted : {A : Type 0} (P : A → Type 0) (before : A → A → Bool) (xs : List A) → AllByRecursion P (sorted_by before xs)
     → AllByRecursion P xs
@@ -92,9 +83,6 @@ image-kept (p ∷ ps) =
 
 abbrev Undotted : Visit → Type 0
 Undotted v = not (v.is_element && v.fields.is_dotted) ≡ true
-
-abbrev root_visit : Tree → Visit
-root_visit t = visit_of [] [] false t.root t.slots
 
 module _ (mode : Mode) where
   -- ---- headers

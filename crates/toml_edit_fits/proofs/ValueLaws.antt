@@ -81,21 +81,21 @@ module _ (mode : Mode) where
 
   -- the route is that of the keys
   pub record IsRouteOf (r : Route) (ks : List Key) : Type 0 where
-    pub room : r.room ≡ 80 - length ks
-    pub fits : Decides r.fits ((length ks ≤ 80) × OnRoute ks)
+    pub room : r.room ≡ nesting_limit - length ks
+    pub fits : Decides r.fits ((length ks ≤ nesting_limit) × OnRoute ks)
 
   pub no-keys : IsRouteOf no_keys []
   no-keys = record { room = refl; fits = (λ h. (omega arith, tt), λ h. refl) }
 
   -- the path is short, with white space alone at its dots
   abbrev pub IsFitPath : List Key → Type 0
-  IsFitPath ks = (length ks ≤ 80) × AreSpaced ks
+  IsFitPath ks = (length ks ≤ nesting_limit) × AreSpaced ks
 
-  ends-decides : (r : Route) (ks : List Key) (k : Key) → r.room ≡ 80 - length ks
+  ends-decides : (r : Route) (ks : List Key) (k : Key) → r.room ≡ nesting_limit - length ks
       → Decides (r.room == nesting_limit || is_white (dot_prefix mode k)) (EndsRoute ks k)
-  ends-decides r [] k e = (λ h. tt, λ h. or_left (r.room == nesting_limit) (is_white (dot_prefix mode k)) (eq-eqb r.room 80 e))
+  ends-decides r [] k e = (λ h. tt, λ h. or_left (r.room == nesting_limit) (is_white (dot_prefix mode k)) (eq-eqb r.room nesting_limit e))
   ends-decides r (j ∷ ks) k e =
-      let other : (r.room == nesting_limit) ≡ false = ne_eqb r.room 80 (λ g. absurd (omega (arith, e, g))) in
+      let other : (r.room == nesting_limit) ≡ false = ne_eqb r.room nesting_limit (λ g. absurd (omega (arith, e, g))) in
       Decides-at (r.room == nesting_limit || is_white (dot_prefix mode k)) (is_white (dot_prefix mode k)) (ap (λ b. b
       || is_white (dot_prefix mode k)) other) (white-decides (dot_prefix mode k))
 
@@ -107,7 +107,7 @@ module _ (mode : Mode) where
       let len = length-one ks k in
       Decides-like (key_fits mode r k)
       (λ h. let small : 0 < r.room = h.0.1 in (omega (arith, len, is.room, small), path.1 (h.0.0.1, h.1)))
-      (λ h. let parts = path.0 h.1 in let short : length (ks ++ one k) ≤ 80 = h.0 in
+      (λ h. let parts = path.0 h.1 in let short : length (ks ++ one k) ≤ nesting_limit = h.0 in
       (((omega (arith, len, short), parts.0), omega (arith, len, short, is.room)), parts.1)) both
 
   pub then-route : (r : Route) (ks : List Key) (k : Key) → IsRouteOf r ks → IsRouteOf (then_key mode r k) (ks ++ one k)
@@ -116,7 +116,7 @@ module _ (mode : Mode) where
       let path = spaced ks k in
       let more = route-more ks k in
       record {
-        room = (let same : r.room - 1 ≡ 80 - length (ks ++ one k) = omega (arith, len, is.room) in same);
+        room = (let same : r.room - 1 ≡ nesting_limit - length (ks ++ one k) = omega (arith, len, is.room) in same);
         fits = Decides-like (key_fits mode r k && is_white (dot_suffix mode k))
             (λ h. (h.0.0, more.1 (path.0 h.0.1, h.1))) (λ h. let parts = more.0 h.1 in ((h.0, path.1 parts.0), parts.1))
             (Decides-and (key_fits mode r k) (is_white (dot_suffix mode k)) (key-decides r ks k is) (white-decides (dot_suffix mode k)));
@@ -140,7 +140,8 @@ module _ (mode : Mode) where
   white-at default r e = (λ h. e ∙ h, λ h. sym e ∙ h)
 
   pub pair-decides : (room : ℕ) (r : Route) (ks : List Key) (k : Key) (n : Node) → IsRouteOf r ks
-      → Decides (pair_fits mode room r k (node_decor n)) ((length (ks ++ one k) ≤ 80) × LineSuits mode (Follows room) (ks ++ one k) n)
+      → Decides (pair_fits mode room r k (node_decor n))
+      ((length (ks ++ one k) ≤ nesting_limit) × LineSuits mode (Follows room) (ks ++ one k) n)
   pair-decides room r ks k n is =
       let d = node_decor n in
       let last : last_leaf (ks ++ one k) ≡ k.leaf = last_leaf-end ks k in

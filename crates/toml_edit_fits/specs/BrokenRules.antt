@@ -1,5 +1,5 @@
 -- What it means that a rule of documents that fit is broken at a place, by the parts of `FitsIn`.
-use Rattle.std.specs.Prelude.{◌≡◌, ℕ, zero, suc, ◌≤◌, Bool, true, false, not, ◌&&◌, ◌||◌, List, [], ◌∷◌, ◌++◌, Contains, map, slice_get}
+use Rattle.std.specs.Prelude.{◌≡◌, ℕ, zero, suc, ◌≤◌, Bool, true, false, not, ◌&&◌, ◌||◌, List, [], ◌∷◌, ◌++◌, Contains, slice_get}
 use Rattle.std.specs.Prelude.{Some}
 use Rattle.std.specs.Fmt.{decimal}
 use Rattle.toml_edit_model.specs.Mode.{Mode}
@@ -7,17 +7,14 @@ use Rattle.toml_edit_model.specs.Text.{Text, one}
 use Rattle.toml_edit_model.specs.Trivia.{IsWholeTrivia, IsFinalTrivia}
 use Rattle.toml_edit_model.specs.Syntax.{nesting_limit, is_short}
 use Rattle.toml_edit_model.specs.Lists.{item_list}
-use Rattle.toml_edit_model.specs.Tree.{ArrayFields, InlineFields, Key, Node, list, inline, Items, Slots, Tree, shown_raw, is_value_node}
+use Rattle.toml_edit_model.specs.Tree.{ArrayFields, InlineFields, Node, list, inline, Items, Slots, Tree, shown_raw, is_value_node}
 use Rattle.toml_edit_model.specs.HeaderOrder.{Visit, visit_of, is_root}
 use Rattle.toml_edit_model.specs.Print.{Line, segments, lines_of, inside_lines, has_header, root_prefix, root_suffix}
 use Rattle.toml_edit_model.specs.Fits.{LineSuits, ElementSuits, EndsLine, HeaderSuits, is_too_late, headed}
+use Rattle.toml_edit_model.specs.Keys.{names}
 use Rattle.toml_edit_fits.specs.declared.misfit.FitRule.{FitRule}
 use Rattle.toml_edit_fits.specs.declared.misfit.FitRule.TheVariants as rule
 use Rattle.toml_edit_fits.specs.Misfits.{MisfitView, Located, located_slots, misfits}
-
--- the names of a path's keys
-abbrev pub names : List Key → List Text
-names path = map (λ k. k.name) path
 
 -- the tables that the walk enters, the root first, with the paths to them
 abbrev pub located : Tree → List Located

@@ -31,7 +31,7 @@ fn reaches(low: Option<isize>, place: isize) -> bool
 }
 
 /// Returns the later of two places, if there are two.
-fn later(high: Option<isize>, place: isize) -> Option<isize>
+fn later_place(high: Option<isize>, place: isize) -> Option<isize>
     ensures { result ≡ tests.later high place }
 {
     match high {
@@ -47,11 +47,11 @@ fn later(high: Option<isize>, place: isize) -> Option<isize>
 }
 
 /// Returns the later of two places, of those that there are.
-fn latest(high: Option<isize>, other: Option<isize>) -> Option<isize>
+fn latest_place(high: Option<isize>, other: Option<isize>) -> Option<isize>
     ensures { result ≡ tests.latest high other }
 {
     match other {
-        Some(place) => later(high, place),
+        Some(place) => later_place(high, place),
         None => high,
     }
 }
@@ -82,7 +82,7 @@ fn enter(is_element: bool, low: Option<isize>, marks: Marks, table: &Table) -> O
     if reaches(low, place) && (!is_element || reaches(marks.highest, place)) {
         Some(Marks {
             seen: place,
-            highest: later(marks.highest, place),
+            highest: later_place(marks.highest, place),
         })
     } else {
         None
@@ -96,7 +96,7 @@ fn low_in(low: Option<isize>, marks: Marks, table: &Table) -> Option<isize>
     if table.is_dotted() {
         low
     } else {
-        later(low, place_in(marks, table))
+        later_place(low, place_in(marks, table))
     }
 }
 
@@ -117,7 +117,7 @@ pub(crate) fn order_slots<R: Report>(
         match order_node(report, low, last, &slot.item) {
             Some(marks) => last = marks,
             None => {
-                report.under(&slot.key);
+                report.report_key(&slot.key);
                 return None;
             }
         }
@@ -140,7 +140,7 @@ fn order_node<R: Report>(
         Item::Table(table) => match enter(false, low, marks, table) {
             Some(entered) => order_slots(report, low, entered, &table.slots),
             None => {
-                report.here(FitRule::Order);
+                report.report_rule(FitRule::Order);
                 None
             }
         },
@@ -152,7 +152,7 @@ fn order_node<R: Report>(
             let last = order_items(report, low, before, &tables.values)?;
             Some(Marks {
                 seen: last.seen,
-                highest: latest(marks.highest, last.highest),
+                highest: latest_place(marks.highest, last.highest),
             })
         }
         Item::None | Item::Value(_) => Some(marks),
@@ -175,7 +175,7 @@ fn order_items<R: Report>(
         match order_item(report, low, last, item) {
             Some(marks) => last = marks,
             None => {
-                report.in_item(number);
+                report.report_element(number);
                 return None;
             }
         }
@@ -198,7 +198,7 @@ fn order_item<R: Report>(
         Item::Table(table) => match enter(true, low, marks, table) {
             Some(entered) => order_slots(report, low_in(low, marks, table), entered, &table.slots),
             None => {
-                report.here(FitRule::Order);
+                report.report_rule(FitRule::Order);
                 None
             }
         },

@@ -19,16 +19,16 @@ pub(crate) trait Report {
     ghost tells: { Self → MisfitView → Type 0 };
 
     /// Reports that the rule is broken by the item itself.
-    fn here(&mut self, rule: FitRule)
+    fn report_rule(&mut self, rule: FitRule)
         ensures { tells self.new (record { path = []; rule = rule }) };
 
     /// Reports that the item with the place is under the key.
-    fn under(&mut self, key: &Key)
+    fn report_key(&mut self, key: &Key)
         ensures { (place : MisfitView) → tells self.old place
             → tells self.new (below_step key.now.name place) };
 
     /// Reports that the item with the place has this number in its array.
-    fn in_item(&mut self, number: usize)
+    fn report_element(&mut self, number: usize)
         ensures { (place : MisfitView) → tells self.old place
             → tells self.new (below_step (decimal number) place) };
 
@@ -40,7 +40,7 @@ pub(crate) trait Report {
         ensures reports { fits ≡ false → tells self.new (record { path = []; rule = rule }) }
     {
         if !fits {
-            self.here(rule);
+            self.report_rule(rule);
         }
         fits
     }
@@ -53,11 +53,11 @@ pub(crate) struct Silent;
 impl Report for Silent {
     ghost tells = { λ _ _. Unit {0} };
 
-    fn here(&mut self, _rule: FitRule) {}
+    fn report_rule(&mut self, _rule: FitRule) {}
 
-    fn under(&mut self, _key: &Key) {}
+    fn report_key(&mut self, _key: &Key) {}
 
-    fn in_item(&mut self, _number: usize) {}
+    fn report_element(&mut self, _number: usize) {}
 }
 
 /// A report that keeps the rule and the path.
@@ -116,19 +116,19 @@ impl Trail {
 impl Report for Trail {
     ghost tells = { TrailTells };
 
-    fn here(&mut self, rule: FitRule) {
+    fn report_rule(&mut self, rule: FitRule) {
         self.steps.clear();
         self.rule = rule;
     }
 
-    fn under(&mut self, key: &Key) {
+    fn report_key(&mut self, key: &Key) {
         match Key::from_text(self.alloc, key.get()) {
             Ok(step) => self.add(step),
             Err(_) => self.refused = true,
         }
     }
 
-    fn in_item(&mut self, number: usize) {
+    fn report_element(&mut self, number: usize) {
         match number.to_string(self.alloc) {
             Ok(digits) => self.add(Key::new(digits)),
             Err(_) => self.refused = true,

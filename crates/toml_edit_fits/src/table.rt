@@ -81,7 +81,7 @@ pub(crate) fn tables_fit<R: Report>(
     let entries = slots.as_slice();
     'slots: for slot in entries {
         if !node_fits(report, mode, route, &slot.key, &slot.item) {
-            report.under(&slot.key);
+            report.report_key(&slot.key);
             return false;
         }
     }
@@ -95,7 +95,7 @@ fn node_fits<R: Report>(report: &mut R, mode: Mode, route: Route, key: &Key, ite
         (item_view item.now)) true false result report.new }
 {
     match item {
-        Item::Table(table) => entered_fits(report, mode, route, key, false, table),
+        Item::Table(table) => subtree_fits(report, mode, route, key, false, table),
         Item::ArrayOfTables(tables) => elements_fit(report, mode, route, key, &tables.values),
         Item::None | Item::Value(_) => true,
     }
@@ -115,7 +115,7 @@ fn elements_fit<R: Report>(
 {
     'items: for (number, item) in items.iter().enumerate() {
         if !as_element_fits(report, mode, route, key, item) {
-            report.in_item(number);
+            report.report_element(number);
             return false;
         }
     }
@@ -135,14 +135,14 @@ fn as_element_fits<R: Report>(
         (item_view item.now)) true false result report.new }
 {
     match item {
-        Item::Table(table) => entered_fits(report, mode, route, key, true, table),
+        Item::Table(table) => subtree_fits(report, mode, route, key, true, table),
         Item::None | Item::Value(_) | Item::ArrayOfTables(_) => true,
     }
 }
 
 /// Returns `true` if a table fits, and those below it.
 #[cycle(tables)]
-fn entered_fits<R: Report>(
+fn subtree_fits<R: Report>(
     report: &mut R,
     mode: Mode,
     route: Route,

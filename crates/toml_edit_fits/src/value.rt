@@ -51,7 +51,7 @@ fn items_fit<R: Report>(report: &mut R, mode: Mode, room: usize, items: &Vec<Ite
 {
     'items: for (number, item) in items.iter().enumerate() {
         if !item_fits(report, mode, room, item) {
-            report.in_item(number);
+            report.report_element(number);
             return false;
         }
     }
@@ -89,7 +89,7 @@ fn inside_fits<R: Report>(
     let entries = slots.as_slice();
     'slots: for slot in entries {
         if !pair_slot_fits(report, mode, room, route, &slot.key, &slot.item) {
-            report.under(&slot.key);
+            report.report_key(&slot.key);
             return false;
         }
     }
@@ -160,7 +160,7 @@ pub(crate) fn lines_fit<R: Report>(
     let entries = slots.as_slice();
     'slots: for slot in entries {
         if !slot_fits(report, mode, route, &slot.key, &slot.item) {
-            report.under(&slot.key);
+            report.report_key(&slot.key);
             return false;
         }
     }

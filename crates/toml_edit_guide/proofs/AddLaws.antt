@@ -8,8 +8,7 @@ use Rattle.toml_edit.specs.model.Slots.{inserted}
 use Rattle.toml_edit.specs.model.Text.{Text}
 use Rattle.toml_edit.specs.model.Tree.{InlineFields, Node, Slots, TableFields, inline, list, no_slots, slot, table}
 use Rattle.toml_edit.specs.tree.Containers.{ArrayView, InlineView, TableView, array_node, inline_node, table_node}
-use Rattle.toml_edit.specs.tree.View.{inline_view, item_view, table_view, value_view}
-use Rattle.toml_edit.specs.tree.declared.inline_table.InlineTable.{InlineTable}
+use Rattle.toml_edit.specs.tree.View.{item_view, table_view, value_view}
 use Rattle.toml_edit.specs.tree.declared.item.Item.{the_lemmas}
 use Rattle.toml_edit.specs.tree.declared.item.Item.TheVariants as items
 use Rattle.toml_edit.specs.tree.declared.table.Table.{Table}

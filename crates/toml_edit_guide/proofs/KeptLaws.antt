@@ -1,5 +1,5 @@
 -- What a closure keeps whose answer is a test.
-use Rattle.std.proofs.Common.{◌≡◌, refl, sym, ap, ap₂, ◌∙◌, Bool, true, false, cond, List, [], ◌∷◌}
+use Rattle.std.proofs.Common.{◌≡◌, ap₂, ◌∙◌, Bool, cond, List, [], ◌∷◌}
 use Rattle.std.specs.Prelude.{filter}
 use Rattle.toml_edit.specs.model.Retaining.{RetainsBy}
 

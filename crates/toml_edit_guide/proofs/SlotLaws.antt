@@ -3,26 +3,19 @@ use Rattle.std.proofs.Common.{◌≡◌, ℕ, zero, suc, List, [], ◌∷◌, So
 use Rattle.std.proofs.lemmas.Option.{none-some, same_Some}
 use Rattle.toml_edit_laws.proofs.slots.Lists.{items_from-list}
 use Rattle.toml_edit.specs.model.ArrayCalls.{pushed}
-use Rattle.toml_edit.specs.model.Conversions.{with_decor}
 use Rattle.toml_edit.specs.model.Lists.{item_list, items_from, slot_list}
 use Rattle.toml_edit.specs.model.Slots as model
 use Rattle.toml_edit.specs.model.Text.{one}
 use Rattle.toml_edit.specs.model.Tree.{Decor, Node, Raw, no_items, item, nothing, leaf, list, inline, table, tables}
 use Rattle.toml_edit.specs.slots.Slots.{items_of}
 use Rattle.toml_edit.specs.slots.declared.slots.Slot.{Slot}
-use Rattle.toml_edit.specs.tree.Casts.{decorated, decorated_open}
 use Rattle.toml_edit.specs.tree.Containers.{TablesView, tables_in, tables_node}
 use Rattle.toml_edit.specs.tree.SlotsOf.{slots_of}
-use Rattle.toml_edit.specs.tree.View.{item_view, slots_view, table_view, tables_view, value_view}
-use Rattle.toml_edit.specs.tree.declared.array.Array.{Array}
+use Rattle.toml_edit.specs.tree.View.{item_view, slots_view, table_view, tables_view}
 use Rattle.toml_edit.specs.tree.declared.array_of_tables.ArrayOfTables.{ArrayOfTables}
-use Rattle.toml_edit.specs.tree.declared.inline_table.InlineTable.{InlineTable}
 use Rattle.toml_edit.specs.tree.declared.item.Item.{Item, the_lemmas}
-use Rattle.toml_edit.specs.tree.declared.item.Item.TheOpen.{Value-F}
 use Rattle.toml_edit.specs.tree.declared.item.Item.TheVariants as items
-use Rattle.toml_edit.specs.tree.declared.item.Item.TheViews.{roll-Value}
 use Rattle.toml_edit.specs.tree.declared.table.Table.{Table, out-Table}
-use Rattle.toml_edit.specs.tree.declared.value.Value.{Value, out-Value}
 use Rattle.toml_edit_guide.specs.Comments.{with_prefix}
 use Rattle.toml_edit_guide.specs.Elements.{with_last}
 
@@ -97,22 +90,3 @@ pub new-view : (x : Node) (new : TablesView) → new.extent ≡ None → item_li
 new-view x new extent items =
     let lists : new.items ≡ item x no_items = sym (items_from-list new.items) ∙ ap items_from items in
     λ i. tables (extent i) (lists i)
-
--- ---- values
-
-decorated-open : (d : Decor) (o : Value-F Item Value Array ArrayOfTables InlineTable Table) → value_view (decorated_open d o)
-    ≡ with_decor d (value_view (roll-Value o))
-decorated-open d (Value-F.String f) = search (rules, the_lemmas)
-decorated-open d (Value-F.Integer f) = search (rules, the_lemmas)
-decorated-open d (Value-F.Float f) = search (rules, the_lemmas)
-decorated-open d (Value-F.Boolean f) = search (rules, the_lemmas)
-decorated-open d (Value-F.Datetime f) = search (rules, the_lemmas)
-decorated-open d (Value-F.Array a) = search (rules, the_lemmas)
-decorated-open d (Value-F.InlineTable t) = search (rules, the_lemmas)
-
-rolled : (v : Value) → roll-Value (out-Value v) ≡ v
-rolled v = search (rules, the_lemmas)
-
--- another decor is seen as one
-pub decorated-view : (d : Decor) (v : Value) → value_view (decorated d v) ≡ with_decor d (value_view v)
-decorated-view d v = decorated-open d (out-Value v) ∙ ap (λ w. with_decor d (value_view w)) (rolled v)

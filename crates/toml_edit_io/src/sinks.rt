@@ -87,11 +87,12 @@ pub fn print<T: Printed>(alloc: Global, printed: &T) -> Result<String, AllocErro
 }
 
 /// The number of bytes that a sink over an output holds.
-const HELD: usize = 256;
+const HELD: usize = 4096;
 
 /// A sink that writes to an output, up to the first fault of that.
 ///
-/// Most texts are of a few bytes, so it holds them until it has no room for the next one.
+/// Most texts are of a few bytes, so it holds them until it has no room for the next one: an output
+/// needs no buffer of its own. They lie on the stack, so no memory is asked for.
 #[derive(Drop)]
 struct Written<'a, O> {
     output: &'a mut O,
@@ -148,8 +149,8 @@ impl<O: Output> Sink for Written<'_, O> {
 ///
 /// `Display` writes the same text to a formatter. After a failed `Display` nothing is known of what
 /// its writer holds; after a failed `print_to` the output holds a beginning of the text. It is
-/// written some 256 bytes at a time, and never held as a whole. To write a document, use its own
-/// `print_to`.
+/// written some 4,096 bytes at a time, so the output needs no buffer, and never held as a whole. To
+/// write a document, use its own `print_to`.
 ///
 /// # Errors
 ///

@@ -1,14 +1,10 @@
 -- Keys alone.
 use Rattle.std.specs.Prelude.{ℕ, Some}
 use Rattle.toml_edit_model.specs.Text.{Text}
-use Rattle.toml_edit_model.specs.Tree.{Decor, owned, span, unset, Key}
+use Rattle.toml_edit_model.specs.Tree.{Decor, span, Key}
 
 abbrev pub name_of : Key → Text
 name_of k = k.name
-
--- the key of this name that is spelled so and has no decor
-abbrev pub lone_key : Text → Text → Key
-lone_key k t = record { name = k; spelling = Some (owned t); leaf = unset; dotted = unset }
 
 -- the key of this name that is spelled by the bytes from this one up to that one, with these decors
 abbrev pub spanned_key : Text → ℕ → ℕ → Decor → Decor → Key

@@ -4,5 +4,3 @@ pub mod Keys
 pub mod LendingParts
 pub mod KeyMutView
 pub mod KeyLending
-pub mod PathReading
-pub mod ReadKeys

@@ -1,4 +1,4 @@
-//! Keys, and mutable references to all of a key but its name. Parsing is in a submodule.
+//! Keys, and mutable references to all of a key but its name.
 ghost use Rattle.std.specs.Prelude.{◌≡◌, Some, IsSome, IsOkAnd, IfOk, OnOk, option_map, option_and_then, refl, bytes_eq, string_bytes};
 ghost use Rattle.std.specs.Option.{option_copied};
 ghost use Rattle.std.specs.Cow.{cow_str_bytes, IsBorrowedStr};
@@ -25,8 +25,6 @@ use std::ops::Range;
 use toml_edit_io::{Printed, Sink, print, show};
 use toml_edit_repr::{Decor, Mem, RawString, Repr, clone_spelling, despan_spelling, spelling_text};
 use toml_edit_token::put_key;
-
-mod parse;
 
 /// A key: its name, its spelling, its *leaf* decor, and its *dotted* decor.
 ///
@@ -114,7 +112,7 @@ impl Key {
     /// Makes a key of this name, with the default spelling and no decor.
     ///
     /// Any text is a name; its spelling gets quotes and escapes where it needs them. To make a key
-    /// of a spelling, use [`from_str`](Self::from_str).
+    /// of a spelling, use `from_str` of the trait `FromStr`.
     pub fn new(text: String) -> Key
         ensures { result ≡ new_key (string_bytes text) }
     {

@@ -1,4 +1,4 @@
-//! Keys: their names, spellings and decors, how a lone key or path is parsed, and how they print.
+//! Keys: their names, spellings and decors, and how they print.
 #![tactic(auto)]
 
 pub mod key;

@@ -6,3 +6,4 @@ pub mod Retains
 pub mod Sorts
 pub mod OneSort
 pub mod DeepSorts
+pub mod Those

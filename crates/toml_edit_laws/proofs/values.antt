@@ -10,7 +10,6 @@ pub mod ValueMade
 pub mod ValueFits
 pub mod OneNode
 pub mod SomeNode
-pub mod DistinctKeys
 pub mod ValueItems
 pub mod ClosingLaws
 pub mod ValueNormal

@@ -12,7 +12,7 @@ use Rattle.toml_edit_model.specs.TreeOf.{spanned_in, key_at}
 use Rattle.toml_edit_laws.specs.InlineTree.{node_at, with_node, add_last}
 use Rattle.toml_edit_laws.specs.TableTree.{open_table, open_element, add_line, add_header}
 use Rattle.toml_edit_laws.specs.TableClash.{extend_clash, pass_clash, table_clash, element_clash, line_clash, header_clash}
-use Rattle.toml_edit_laws.specs.Building.{Builder, change_in}
+use Rattle.toml_edit_laws.specs.Building.{change_in}
 
 -- what is added at the end of a path: the item of a key line, the table of a header, or an element
 -- of one in double brackets
@@ -90,10 +90,6 @@ last_key_clash an_element m o = element_clash m o
 abbrev pub addition_of : Statement → Node → Addition
 addition_of (key_line f v end) n = a_value n
 addition_of (header h end) n = if h.is_array then an_element else a_table
-
-abbrev pub block_for : Builder → Statement → List Text
-block_for b (key_line f v end) = b.block
-block_for b (header h end) = []
 
 -- ---- the table of a block
 

@@ -1,6 +1,5 @@
 -- Building the slots of a document's root, statement by statement: what is kept between statements,
--- and what each statement does. `StandsBefore` and `IsRefusedBy` are what a parser keeps up in its
--- loop, and says where it refuses.
+-- and what each statement does. `StandsBefore` is what a parser keeps up in its loop.
 use Rattle.std.specs.Prelude.{◌≡◌, ℕ, suc, ◌+◌, ◌-◌, Bool, true, false, not, List, [], ◌∷◌, ◌++◌, length, map, flat_map, Contains, Option}
 use Rattle.std.specs.Prelude.{Some, None, is_some, option_map, option_and_then}
 use Rattle.toml_edit_model.specs.Mode.{Mode, with_return}
@@ -151,11 +150,6 @@ next_place d done s = record {
 -- its faults.
 pub record Stops (d : Document) (done : List Statement) (s : Statement) (f : Fault) : Type 0 where
   pub first : IsFirstFaulty d (done_places d done) (next_place d done s)
-  pub names : IsFirstFault d f
-  pub refused : is_accepted d ≡ false
-
--- The document is refused, and this is one of the faults of its first faulty statement.
-pub record IsRefusedBy (d : Document) (f : Fault) : Type 0 where
   pub names : IsFirstFault d f
   pub refused : is_accepted d ≡ false
 

@@ -1,15 +1,15 @@
 -- The print of a tree, piece by piece in the order in which it is written, over the tables that one
 -- walk collects (TOML 1.1.0, "Key/Value Pair" to "Array of Tables").
 use Rattle.std.specs.Prelude.{◌≡◌, ℤ, pos, Bool, true, false, not, ◌&&◌, ◌||◌, int_le, if◌then◌else◌, List, [], ◌∷◌, ◌++◌, Option, None}
-use Rattle.std.specs.Prelude.{Some, unwrap_or, codes}
+use Rattle.std.specs.Prelude.{Some, unwrap_or, codes, map}
 use Rattle.toml_edit_model.specs.Mode.{Mode}
-use Rattle.toml_edit_model.specs.Text.{Text, newline, is_empty, has_byte, line_feed}
-use Rattle.toml_edit_model.specs.Syntax.{comma_text, opening_brackets, closing_brackets, path_text}
+use Rattle.toml_edit_model.specs.Text.{Text, newline, is_empty, has_byte, joined, line_feed}
+use Rattle.toml_edit_model.specs.Syntax.{comma_text, opening_brackets, closing_brackets, path_text, statement_text, value_text}
 use Rattle.toml_edit_model.specs.Tree.{Decor, Key, TableFields, Node, nothing, leaf, list, inline, table, tables, Items, no_items, item}
 use Rattle.toml_edit_model.specs.Tree.{Slots, no_slots, slot, Tree, shown_prefix, shown_suffix, shown_raw, scalar_text, key_text}
 use Rattle.toml_edit_model.specs.Tree.{node_decor, is_value_node}
-use Rattle.toml_edit_model.specs.Print.{one_space, dot_prefix, dot_suffix, last_leaf, segments, element_default, header_default}
-use Rattle.toml_edit_model.specs.Print.{is_line_node, root_prefix, root_suffix, print_in}
+use Rattle.toml_edit_model.specs.Print.{Line, one_space, dot_prefix, dot_suffix, last_leaf, segments, element_default, header_default}
+use Rattle.toml_edit_model.specs.Print.{is_line_node, line_statement, root_prefix, root_suffix, print_in}
 use Rattle.toml_edit_model.specs.Order.{sorted_by}
 
 -- ---- commas, and whether there are lines
@@ -38,6 +38,11 @@ abbrev mutual
   last_pair_in (list f xs) before = before
   last_pair_in (tables e xs) before = before
   last_pair_in nothing before = before
+
+-- the decor of the value of the last of these lines, after one of this decor
+abbrev pub last_shown : Option Decor → List Line → Option Decor
+last_shown before [] = before
+last_shown before (l ∷ ls) = last_shown (Some (node_decor l.item)) ls
 
 -- whether there are lines in a dotted inline table
 abbrev mutual
@@ -161,17 +166,6 @@ module _ (mode : Mode) where
       (if is_first then [] else dot_prefix mode k)
       ++ (key_text k ++ (dot_suffix mode k ++ (codes "." ++ dotted_keys false ks)))
 
-  -- What is between a key, if there is one, and the next. No law cites this and the next: they are
-  -- for code that writes the path of a header key by key.
-  abbrev pub between_keys : Option Key → Key → Text
-  between_keys None k = []
-  between_keys (Some j) k = dot_suffix mode j ++ (codes "." ++ dot_prefix mode k)
-
-  -- the keys of a path, after one
-  abbrev pub written_path : Option Key → List Key → Text
-  written_path before [] = []
-  written_path before (k ∷ ks) = between_keys before k ++ (key_text k ++ written_path (Some k) ks)
-
   -- the key of a line or a pair, after these keys, with its decor and the `=`
   abbrev pub key_part : Text → List Key → Key → Text
   key_part default ks k =
@@ -183,6 +177,14 @@ module _ (mode : Mode) where
   abbrev pub pair_start : Text → List Key → Key → Node → Text → Text
   pair_start default ks k n value =
       key_part default ks k ++ (shown_prefix mode one_space (node_decor n) ++ value)
+
+  -- that, of a line whose keys and value are known
+  abbrev pub line_start : Text → Line → Text
+  line_start default l =
+      shown_prefix mode default (last_leaf l.keys)
+      ++ (path_text (segments mode l.keys)
+      ++ (shown_suffix mode one_space (last_leaf l.keys) ++ (codes "=" ++
+      (shown_prefix mode one_space (node_decor l.item) ++ value_text l.value))))
 
   -- a line
   abbrev pub line_text : List Key → Key → Node → Text → Text
@@ -210,6 +212,12 @@ module _ (mode : Mode) where
   abbrev pub after_pairs : Bool → Option Decor → Text
   after_pairs comma None = []
   after_pairs comma (Some d) = shown_suffix mode one_space d ++ comma_text comma
+
+  -- the pairs after one of this decor, up to the end of the last value
+  abbrev pub pairs_shown : Option Decor → List Line → Text
+  pairs_shown before [] = []
+  pairs_shown before (l ∷ ls) =
+      between_pairs before ++ (line_start one_space l ++ pairs_shown (Some (node_decor l.item)) ls)
 
   -- A value from its first byte to its last; the elements of an array, and the comma that ends
   -- them; the pairs of an inline table, after one whose value has this decor, each up to the end of
@@ -254,6 +262,9 @@ module _ (mode : Mode) where
     written_pairs_in nothing ks before = []
 
   -- ---- lines
+
+  abbrev pub lines_text : List Line → Text
+  lines_text ls = joined (map (λ l. statement_text (line_statement mode l)) ls)
 
   -- the lines in a dotted inline table
   abbrev mutual

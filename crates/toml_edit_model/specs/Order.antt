@@ -1,5 +1,5 @@
 -- Lists put in an order.
-use Rattle.std.specs.Prelude.{◌≡◌, ◌⊎◌, Bool, true, ◌&&◌, if◌then◌else◌, List, [], ◌∷◌, filter}
+use Rattle.std.specs.Prelude.{◌≡◌, Bool, true, ◌&&◌, if◌then◌else◌, List, [], ◌∷◌, filter}
 use Rattle.std.specs.List.Sorted.{IsPermutation}
 
 -- each of the two may come before the other
@@ -18,12 +18,6 @@ pub record IsInOrder {A : Type 0} (before : A → A → Bool) (xs ys : List A) :
   pub permutation : IsPermutation xs ys
   pub sorted : is_sorted_by before ys ≡ true
   pub stable : (a : A) → filter (is_level before a) ys ≡ filter (is_level before a) xs
-
--- of every two elements one comes before the other, and what comes before another comes before all
--- that that one does
-pub record IsAnOrder {A : Type 0} (before : A → A → Bool) : Type 0 where
-  pub total : (a b : A) → (before a b ≡ true) ⊎ (before b a ≡ true)
-  pub goes_on : (a b c : A) → before a b ≡ true → before b c ≡ true → before a c ≡ true
 
 -- What computes the list in order, where `before` is an order: each element goes before the first
 -- that it comes before.

@@ -104,6 +104,3 @@ module _ (mode : Mode) where
 
 unfoldable pub is_settled : Document → Bool
 is_settled d = is_settled_in plain d
-
-abbrev pub IsSettled : Text → Document → Type 0
-IsSettled = IsSettledIn plain

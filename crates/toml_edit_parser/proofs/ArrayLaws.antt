@@ -19,7 +19,7 @@ use Rattle.toml_edit_syntax.specs.declared.event.Event.{Event}
 use Rattle.toml_edit_syntax.specs.declared.event.EventKind.TheVariants.{ArrayClose}
 use Rattle.toml_edit_syntax.specs.ValueEvents.{close_events, shortened}
 use Rattle.toml_edit_tree.specs.declared.item.Item.{Item}
-use Rattle.toml_edit_parser.specs.declared.reader.Close.{Close}
+use Rattle.toml_edit_parser.specs.declared.events.Close.{Close}
 use Rattle.toml_edit_tree.specs.declared.value.Value as code
 use Rattle.toml_edit_parser.specs.ValueRead.{span_at, spanned_raw, split_before, split_close, ElementsStand, NamesOne, IsRead, ReadsValue}
 use Rattle.toml_edit_parser.specs.ValueRead.{AreRead, MakesArray, EndsArray, array_of}

@@ -33,7 +33,7 @@ use Rattle.toml_edit_tree.specs.declared.table.Table.{Table}
 use Rattle.toml_edit_tree.specs.declared.value.Value.{Value, out-Value}
 use Rattle.toml_edit_tree.specs.declared.value.Value.TheVariants as values
 use Rattle.toml_edit_tree.specs.declared.array.Array.{Array}
-use Rattle.toml_edit_parser.specs.declared.pairs.KeyPath.{KeyPath}
+use Rattle.toml_edit_parser.specs.declared.key.KeyPath.{KeyPath}
 use Rattle.toml_edit_parser.specs.PairRead.{AddsEntry, AddsInside, IsEndOfPath, IsPathAt, IsPathIn, NamesClash, PathView, path_of}
 use Rattle.toml_edit_parser.specs.PairRead.{split_dot}
 use Rattle.toml_edit_tree.specs.Containers.{ArrayView, InlineView, array_node, inline_node}

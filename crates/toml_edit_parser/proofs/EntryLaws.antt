@@ -28,7 +28,7 @@ use Rattle.toml_edit_syntax.specs.declared.event.Span.{Span}
 use Rattle.toml_edit_syntax.specs.declared.event.EventKind.TheVariants.{Key as key_kind, BeforeDot, AfterDot}
 use Rattle.toml_edit_syntax.specs.ValueEvents.{event, path_events}
 use Rattle.toml_edit_tree.specs.declared.item.Item.{Item}
-use Rattle.toml_edit_parser.specs.declared.pairs.KeyPath.{KeyPath}
+use Rattle.toml_edit_parser.specs.declared.key.KeyPath.{KeyPath}
 use Rattle.toml_edit_parser.specs.PairRead.{AddsEntry, AddsInside, AddsLast, IsEndOfPath, IsPassed, IsPathAt, NamesClash, AddsBelow}
 use Rattle.toml_edit_parser.specs.PairRead.{PathView, change_inside, key_with, leaf_of, path_of, split_dot}
 use Rattle.toml_edit_parser.specs.ValueRead.{span_at, spanned_raw, split_first}
@@ -38,55 +38,9 @@ use Rattle.toml_edit_parser.proofs.ReadLaws.{mapped, same_parts}
 use Rattle.toml_edit_parser.proofs.SpellingLaws.{spelled-some, span_of-some}
 use Rattle.toml_edit_model.specs.Roles.{Role, dotted_role, value_role, ends_path}
 use Rattle.toml_edit_model.specs.OwnedForm.{cut_out}
+use Rattle.toml_edit_parser.proofs.SlotLaws.{node-none, node-some, with-place}
 
 -- ---- slots at a place
-
-node_none : (b : Bool) (n : Node) (o : Option Node) (i : Option ℕ) → cond b (Some 0) (option_map suc i) ≡ None → (i ≡ None → o ≡ None)
-    → cond b (Some n) o ≡ None
-node_none true n o i h f = absurd cc
-node_none false n o None h f = f refl
-node_none false n o (Some j) h f = absurd cc
-
--- no item stands at a key that has no place
-pub node-none : (k : Text) (es : List (repr.Slot Item)) → place k es ≡ None → node_at k (slots_view es) ≡ None
-node-none k [] h = refl
-node-none k (e ∷ es) h = node_none (is_at k e) (item_view e.item) (node_at k (slots_view es)) (place k es) h (node-none k es)
-
-same_place : (i j : ℕ) → ◌≡◌ {A = Option ℕ} (Some (suc i)) (Some (suc j)) → i ≡ j
-same_place i j h = let e = same_Some (suc i) (suc j) h in omega (arith, e)
-
-node_some : (b : Bool) (e : repr.Slot Item) (es : List (repr.Slot Item)) (o : Option Node) (i : Option ℕ) (at : ℕ) (x : Item)
-    → cond b (Some 0) (option_map suc i) ≡ Some at → Some x ≡ slice_get (items_of (e ∷ es)) at
-    → ((j : ℕ) → i ≡ Some j → Some x ≡ slice_get (items_of es) j → o ≡ Some (item_view x))
-    → cond b (Some (item_view e.item)) o ≡ Some (item_view x)
-node_some true e es o i zero x h g f = ap (option_map item_view) (sym g)
-node_some true e es o i (suc at) x h g f = absurd cc
-node_some false e es o None at x h g f = absurd cc
-node_some false e es o (Some j) zero x h g f = absurd cc
-node_some false e es o (Some j) (suc at) x h g f = f at (ap Some (same_place j at h)) g
-
--- the item at the place of a key
-pub node-some : (k : Text) (es : List (repr.Slot Item)) (at : ℕ) (x : Item) → place k es ≡ Some at → Some x ≡ slice_get (items_of es) at
-    → node_at k (slots_view es) ≡ Some (item_view x)
-node-some k [] at x h g = absurd cc
-node-some k (e ∷ es) at x h g =
-    node_some (is_at k e) e es (node_at k (slots_view es)) (place k es) at x h g (λ j same there. node-some k es j x same there)
-
-with_some : (b : Bool) (e : repr.Slot Item) (es : List (repr.Slot Item)) (i : Option ℕ) (at : ℕ) (y : Item) (ss : Slots)
-    → cond b (Some 0) (option_map suc i) ≡ Some at → ((j : ℕ) → i ≡ Some j → slots_view (with_item j y es) ≡ ss)
-    → slots_view (with_item at y (e ∷ es)) ≡ cond b (slot e.key (item_view y) (slots_view es)) (slot e.key (item_view e.item) ss)
-with_some true e es i zero y ss h f = refl
-with_some true e es i (suc at) y ss h f = absurd cc
-with_some false e es None at y ss h f = absurd cc
-with_some false e es (Some j) zero y ss h f = absurd cc
-with_some false e es (Some j) (suc at) y ss h f = ap (slot e.key (item_view e.item)) (f at (ap Some (same_place j at h)))
-
--- the slots with another item at the place of a key
-pub with-place : (k : Text) (es : List (repr.Slot Item)) (at : ℕ) (y : Item) → place k es ≡ Some at
-    → slots_view (with_item at y es) ≡ with_node k (item_view y) (slots_view es)
-with-place k [] at y h = absurd cc
-with-place k (e ∷ es) at y h =
-    with_some (is_at k e) e es (place k es) at y (with_node k (item_view y) (slots_view es)) h (λ j same. with-place k es j y same)
 
 found_step : (b : Bool) (n : Node) (o : Option Node) (i : Option ℕ) → is_some (cond b (Some 0) (option_map suc i)) ≡ true
     → (is_some i ≡ true → (m : Node) × (o ≡ Some m)) → (m : Node) × (cond b (Some n) o ≡ Some m)
@@ -232,7 +186,8 @@ path_head source start s (r ∷ rest) h =
     stands-left source (key_place start s) s.spelled s.after
     (stands-right source start s.before _ (stands-left source start (segment_text s) _ h))
 
-path_rest : (source : Text) (start : ℕ) (s r : Segment) (rest : List Segment) → Stands source start (path_text (s ∷ r ∷ rest))
+-- what is behind the first key of a path is in the text too
+pub path_rest : (source : Text) (start : ℕ) (s r : Segment) (rest : List Segment) → Stands source start (path_text (s ∷ r ∷ rest))
     → Stands source (next_start start s) (path_text (r ∷ rest))
 path_rest source start s r rest h =
     stands-right source (start + length (segment_text s)) (46 ∷ []) (path_text (r ∷ rest)) (stands-right source start (segment_text s) _ h)
@@ -247,7 +202,8 @@ key-spelled source s p start first are stands e =
     ∙ cut_out-is source (key_place start s) s.spelled (path_head source start s p stands)))
     are.spelled.0
 
-end_of : (s r : Segment) (rest : List Segment) → IsEndOfPath (s ∷ r ∷ rest) → IsEndOfPath (r ∷ rest)
+-- and ends it
+pub end_of : (s r : Segment) (rest : List Segment) → IsEndOfPath (s ∷ r ∷ rest) → IsEndOfPath (r ∷ rest)
 end_of s r rest are = record { some = refl; ends = are.ends; spelled = are.spelled.1 }
 
 -- ---- what was read of a path's first key

@@ -19,7 +19,7 @@ use Rattle.toml_edit_syntax.specs.declared.event.Event.{Event}
 use Rattle.toml_edit_syntax.specs.declared.event.EventKind.TheVariants.{InlineTableClose}
 use Rattle.toml_edit_syntax.specs.Events.{IsSpanOf}
 use Rattle.toml_edit_syntax.specs.ValueEvents.{close_events, shortened}
-use Rattle.toml_edit_parser.specs.declared.reader.Close.{Close}
+use Rattle.toml_edit_parser.specs.declared.events.Close.{Close}
 use Rattle.toml_edit_tree.specs.declared.value.Value as code
 use Rattle.toml_edit_tree.specs.Containers.{inline_node}
 use Rattle.toml_edit_parser.specs.PairRead.{ArePairsRead, EndsInline, MakesInline, PairsStand, inline_of}

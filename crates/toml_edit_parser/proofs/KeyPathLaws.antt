@@ -14,7 +14,7 @@ use Rattle.toml_edit_syntax.specs.declared.event.Event.{Event}
 use Rattle.toml_edit_syntax.specs.declared.event.Span.{Span}
 use Rattle.toml_edit_syntax.specs.declared.event.EventKind.TheVariants.{Key as key_kind, BeforeDot, AfterDot}
 use Rattle.toml_edit_syntax.specs.ValueEvents.{event, path_events}
-use Rattle.toml_edit_parser.specs.declared.pairs.KeyPath.{KeyPath}
+use Rattle.toml_edit_parser.specs.declared.key.KeyPath.{KeyPath}
 use Rattle.toml_edit_parser.specs.PairRead.{IsEndOfPath, PathView, key_with, leaf_of, path_of, split_dot}
 use Rattle.toml_edit_parser.specs.PathRead.{IsFirstKey, IsPathFrom, segment_key}
 use Rattle.toml_edit_parser.specs.ValueRead.{AreIn, span_at, spanned_raw, split_first}

@@ -29,7 +29,7 @@ use Rattle.toml_edit_syntax.specs.LoneEvents.{AreLoneEvents, ValueOpensTooMany}
 use Rattle.toml_edit_syntax.specs.ValueEvents.{value_events, are_deep, shortened}
 use Rattle.toml_edit_parser.proofs.ReadLaws.{within_depth}
 use Rattle.toml_edit_parser.specs.LoneValue.{IsLoneReading, IsLoneRefusal}
-use Rattle.toml_edit_parser.specs.Listed.{IsListed}
+use Rattle.toml_edit_parser.specs.Listed.{IsErrorOf}
 use Rattle.toml_edit_parser.specs.ValueRead.{IsRead, NamesOne}
 use Rattle.toml_edit_model.specs.OwnedForm.{owned_node}
 
@@ -135,33 +135,33 @@ lone_every t v lone Memory ok h = refl
 
 pub lone_refused : (t : Text) (es : List Event) (e : ParseFault) → AreLoneEvents t es
     → ((v : Value) (lone : IsLoneValue t v) → IfToml e (NamesOne t (value_faults v (length lone.before) 0)))
-    → IfToml e (λ r. r.input ≡ t) → IfToml e IsListed → IfToml e (IsLoneRefusal t)
-lone_refused t es (Toml r) are told input listed =
+    → IfToml e (IsErrorOf t) → IfToml e (IsLoneRefusal t)
+lone_refused t es (Toml r) are told error =
     record {
-      input = input;
-      listed = listed;
-      names = record { names = λ v lone. (told v lone).1; allowed = listed.allowed };
+      input = error.input;
+      listed = error.listed;
+      names = record { names = λ v lone. (told v lone).1; allowed = error.listed.allowed };
       syntax = λ none. elim (either (are_deep es)) [
         | inl short ↦ inr (are.brackets short)
         | inr whole ↦ absurd (let found = are.has_value whole in none found.0 found.1)
       ];
       refused = λ v lone. wrong_by-fault v (length lone.before) (fault_of r) (told v lone).1;
     }
-lone_refused t es Memory are told input listed = tt
+lone_refused t es Memory are told error = tt
 
 -- a report on a text that is no lone value
-pub refused_whole : (t m : Text) (span : Option (ℕ × ℕ)) (e : ParseFault) → ((v : Value) → IsLoneValue t v → ⊥)
-    → IfToml e (λ r. r ≡ record { message = m; span = span; input = t }) → IfToml e IsListed
+pub refused_whole : (t : Text) (e : ParseFault) → ((v : Value) → IsLoneValue t v → ⊥)
+    → IfToml e (IsErrorOf t)
     → IfToml e (λ r. IsSyntaxFault (fault_of r) ⊎ ValueOpensTooMany t) → IfToml e (IsLoneRefusal t)
-refused_whole t m span (Toml r) none h listed syntax =
+refused_whole t (Toml r) none error syntax =
     record {
-      input = ap (λ x. x.input) h;
-      listed = listed;
-      names = record { names = λ v lone. absurd (none v lone); allowed = listed.allowed };
+      input = error.input;
+      listed = error.listed;
+      names = record { names = λ v lone. absurd (none v lone); allowed = error.listed.allowed };
       syntax = λ _. syntax;
       refused = λ v lone. absurd (none v lone);
     }
-refused_whole t m span Memory none h listed syntax = tt
+refused_whole t Memory none error syntax = tt
 
 -- the syntax of a text without events
 pub syntax_refused : (t m : Text) (s : ℕ × ℕ) (e : ParseFault) → Contains syntax_messages m

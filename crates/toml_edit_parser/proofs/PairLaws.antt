@@ -337,7 +337,7 @@ fewer-still t behind inner events (Err e) one two h = tt
 
 -- ---- the length of a key
 
-path_count : (s : Segment) (p : List Segment) (start : ℕ) → length (path_events start (s ∷ p)) + 2 ≡ 3 * length (s ∷ p)
+pub path_count : (s : Segment) (p : List Segment) (start : ℕ) → length (path_events start (s ∷ p)) + 2 ≡ 3 * length (s ∷ p)
 path_count s [] start = refl
 path_count s (r ∷ rest) start =
     let h = path_count r rest (start + length (segment_text s) + 1) in
@@ -353,7 +353,7 @@ pub short-path : (p : List Segment) (start : ℕ) → is_empty p ≡ false → l
 short-path [] start some h = absurd cc
 short-path (s ∷ p) start some h =
     let n = path_count s p start in
-    let few : length (s ∷ p) ≤ 80 = omega (arith, n, h) in
+    let few : length (s ∷ p) ≤ nesting_limit = omega (arith, n, h) in
     short_of (s ∷ p) (grind (arith, nat_tests, few))
 
 long : (p : List Segment) (start : ℕ) → is_empty p ≡ false → 238 < length (path_events start p) → long_path p
@@ -361,7 +361,7 @@ long : (p : List Segment) (start : ℕ) → is_empty p ≡ false → 238 < lengt
 long [] start some h = absurd cc
 long (s ∷ p) start some h =
     let n = path_count s p start in
-    let many : 80 < length (s ∷ p) = omega (arith, n, h) in
+    let many : nesting_limit < length (s ∷ p) = omega (arith, n, h) in
     long_of (s ∷ p) (grind (arith, nat_tests, many))
 
 begun_some : (p : List Segment) → begins_unspaced p ≡ true → is_empty p ≡ false

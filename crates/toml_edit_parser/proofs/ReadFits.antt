@@ -8,7 +8,7 @@ use Rattle.toml_edit_model.specs.Conversions.{with_decor}
 use Rattle.toml_edit_tree.specs.declared.item.Item.{Item}
 use Rattle.toml_edit_syntax.specs.declared.event.Event.{Event}
 use Rattle.toml_edit_syntax.specs.Events.{IsSpanOf}
-use Rattle.toml_edit_parser.specs.declared.reader.Close.{Close}
+use Rattle.toml_edit_parser.specs.declared.events.Close.{Close}
 use Rattle.toml_edit_parser.specs.ValueRead.{AreIn, split_close, is_comma, spanned_raw, array_of}
 use Rattle.toml_edit_tree.specs.Containers.{array_node}
 use Rattle.toml_edit_syntax.specs.declared.event.Span.{Span}

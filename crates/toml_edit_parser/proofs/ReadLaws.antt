@@ -17,7 +17,7 @@ use Rattle.toml_edit_syntax.specs.declared.event.EventKind.TheVariants.{TooDeep}
 use Rattle.toml_edit_syntax.specs.declared.event.Span.{Span}
 use Rattle.toml_edit_syntax.specs.ValueEvents.{event, value_events, elements_events, pairs_events, close_events, shortened}
 use Rattle.toml_edit_syntax.specs.Events.{exceeds_depth}
-use Rattle.toml_edit_parser.specs.declared.reader.Close.{Close}
+use Rattle.toml_edit_parser.specs.declared.events.Close.{Close}
 use Rattle.toml_edit_parser.specs.ValueRead.{split_first, NamesOne}
 
 pub mapped : (e : ParseFault) (P Q : Report → Type 0) → ((r : Report) → P r → Q r) → IfToml e P → IfToml e Q

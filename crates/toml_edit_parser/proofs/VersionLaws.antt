@@ -1,135 +1,83 @@
--- A lone value in a version of TOML.
-use Rattle.std.proofs.Common.{◌≡◌, inl, inr, refl, sym, ap, ◌∙◌, subst, ◌-◌, ◌≤◌, arith, true, false, Bool, List, length, Some}
-use Rattle.std.specs.Prelude.{◌&&◌, nat_le, Contains, Result, Ok, Err, IfErr, IfOk}
-use Rattle.std.proofs.lemmas.Bool.Decides.{nat_tests}
+-- Whether the statement that comes first is one of the version.
+use Rattle.std.proofs.Common.{◌≡◌, ℕ, ◌+◌, ◌-◌, Option, None, Some, Result, Ok, Err, ap, sym, subst, ◌∙◌, true, false, List, [], ◌∷◌, ◌++◌}
+use Rattle.std.proofs.Common.{inl, inr, refl, lit<, arith}
+use Rattle.std.specs.Prelude.{Contains, IfErr, IfSome}
+use Rattle.std.specs.Borrow.{Bor}
 use Rattle.std.proofs.lemmas.List.Elements.{Contains-append_left, Contains-append_right}
+use Rattle.toml_edit_model.specs.Messages.{fault_messages, fault_messages_in}
+use Rattle.toml_edit_model.specs.Mode.{Mode}
 use Rattle.toml_edit_model.specs.Text.{Text}
-use Rattle.toml_edit_model.specs.Syntax.{Value, depth, nesting_limit, has_short_keys, keeps_ranges}
-use Rattle.toml_edit_model.specs.Version.{Version, v1_0, is_value_of, late_value}
-use Rattle.toml_edit_model.specs.Accepted.{has_agreeing_pairs}
-use Rattle.toml_edit_model.specs.Faults.{needs_message, late_value_faults, value_faults}
-use Rattle.toml_edit_model.specs.Lone.{IsLoneValue, is_accepted_value, is_accepted_value_in}
-use Rattle.toml_edit_model.specs.Tree.{Node}
-use Rattle.toml_edit_laws.proofs.common.Tests.{and_left, and_right}
-use Rattle.toml_edit_laws.proofs.versions.LateValues.{late_value_fault, not_value_of}
-use Rattle.toml_edit_error.specs.Report.{Report, fault_of}
+use Rattle.toml_edit_model.specs.Syntax.{Statement}
+use Rattle.toml_edit_model.specs.Version.{Version, v1_0, v1_1, is_of_version, late_places}
+use Rattle.toml_edit_model.specs.Faults.{Fault, fault, needs_message, late_faults}
+use Rattle.toml_edit_laws.specs.Building.{Builder, faults_at}
+use Rattle.toml_edit_laws.proofs.versions.VersionFaults.{late-named, early-of-none}
 use Rattle.toml_edit_error.specs.Fault.{IfToml}
+use Rattle.toml_edit_error.specs.Report.{fault_of}
 use Rattle.toml_edit_error.specs.declared.toml_error.ParseFault.{ParseFault}
-use Rattle.toml_edit_error.specs.declared.toml_error.ParseFault.TheVariants.{Toml, Memory}
 use Rattle.toml_edit_syntax.specs.declared.event.Event.{Event}
 use Rattle.toml_edit_syntax.specs.declared.event.Span.{Span}
-use Rattle.toml_edit_syntax.specs.Events.{IsSpanOf, exceeds_depth}
-use Rattle.toml_edit_syntax.specs.LoneEvents.{AreLoneEvents}
-use Rattle.toml_edit_syntax.specs.ValueEvents.{are_deep}
-use Rattle.toml_edit_tree.specs.declared.value.Value as code
-use Rattle.toml_edit_tree.specs.View.{value_view}
-use Rattle.toml_edit_parser.proofs.LoneValueLaws.{either}
-use Rattle.toml_edit_parser.proofs.ReadLaws.{within_depth}
-use Rattle.toml_edit_parser.proofs.ListedLaws.{report_in}
-use Rattle.toml_edit_parser.specs.LoneValue.{IsLoneReading, IsLoneReadingIn, IsLoneRefusal, IsLoneRefusalIn}
-use Rattle.toml_edit_parser.specs.Listed.{IsListedIn}
+use Rattle.toml_edit_syntax.specs.Events.{IsSpanOf, has_deep_value}
+use Rattle.toml_edit_syntax.specs.LateEvents.{NamesLate}
+use Rattle.toml_edit_parser.specs.Listed.{IsMessageIn, Refuses, RefusesIn}
+use Rattle.toml_edit_parser.specs.ValueRead.{NamesOne}
+use Rattle.toml_edit_parser.specs.declared.document.building.Building.{Building}
+use Rattle.toml_edit_parser.specs.StatementRead.{ReadsStatement, ReadsInVersion}
+use Rattle.toml_edit_parser.proofs.ShallowLaws.{added-shallow}
+use Rattle.toml_edit_parser.proofs.ReadLaws.{mapped}
+use Rattle.toml_edit_parser.proofs.ListedLaws.{error_in}
 
--- ---- accepted in a version
+-- ---- in TOML 1.0
 
-pub accepted_of_version : (version : Version) (v : Value) → is_accepted_value_in version v ≡ true → is_value_of version v ≡ true
-accepted_of_version version v h = and_left (is_value_of version v) (is_accepted_value v) h
+-- a part of it that is not there is a fault
+pub late_named : (version : Version) (start : ℕ) (s : Statement) (o : Option Span) → version ≡ v1_0
+    → IfSome o (NamesLate (late_places start s))
+    → IfSome o (λ span. Contains (late_faults version start s) (fault needs_message span.start (span.end - span.start)))
+late_named version start s None is h = h
+late_named version start s (Some span) is h =
+    subst (λ v. Contains (late_faults v start s) (fault needs_message span.start (span.end - span.start))) (sym is)
+    (late-named start s (span.start, span.end - span.start) h)
 
-pub accepted_of_all : (version : Version) (v : Value) → is_accepted_value_in version v ≡ true → is_accepted_value v ≡ true
-accepted_of_all version v h = and_right (is_value_of version v) (is_accepted_value v) h
+-- without one it is of the version
+pub early_statement : (version : Version) (start : ℕ) (s : Statement) → version ≡ v1_0 → late_places start s ≡ [] → is_of_version version s
+    ≡ true
+early_statement version start s is h = ap (λ v. is_of_version v s) is ∙ early-of-none start s h
 
-wrong_in : (version : Version) (v : Value) → is_accepted_value v ≡ false → is_accepted_value_in version v ≡ false
-wrong_in version v h = by_test (is_value_of version v)
-  where
-    by_test : (b : Bool) → (b && is_accepted_value v) ≡ false
-    by_test true = h
-    by_test false = refl
+-- ---- in each version
 
--- what is accepted has few brackets in one another
-shallow : (v : Value) → is_accepted_value v ≡ true → exceeds_depth v ≡ false
-shallow v h =
-    let few = nat_le (depth v) nesting_limit in
-    let left = and_left ((few && has_short_keys v) && keeps_ranges v) (has_agreeing_pairs v) h in
-    within_depth v (fits (and_left few (has_short_keys v) (and_left (few && has_short_keys v) (keeps_ranges v) left)))
-  where
-    fits : nat_le (depth v) nesting_limit ≡ true → depth v ≤ nesting_limit
-    fits e = grind (arith, nat_tests)
+-- the error that names it
+pub names_late : (version : Version) (t : Text) (b : Builder) (s : Statement) (span : Span) (e : ParseFault)
+    → Contains (late_faults version b.start s) (fault needs_message span.start (span.end - span.start)) → IsSpanOf t span
+    → IfToml e (λ r. r ≡ record { message = needs_message; span = Some (span.start, span.end); input = t })
+    → IfToml e (NamesOne t (late_faults version b.start s ++ faults_at b s))
+names_late version t b s span e has within told =
+    mapped e _ _
+    (λ r same. let there : span.start + (span.end - span.start) ≡ span.end = (let order = within.order in omega (arith, order)) in
+    let f : Fault = record { message = needs_message; span = Some (span.start, span.end) } in
+    let named : Contains (late_faults version b.start s) f =
+    subst (λ n. Contains (late_faults version b.start s) (record { message = needs_message; span = Some (span.start, n) })) there has in (
+      ap (λ x. x.input) same,
+      Contains-append_left (late_faults version b.start s) (faults_at b s) (fault_of r)
+          (subst (Contains (late_faults version b.start s)) (sym (ap fault_of same)) named),
+    ))
+    told
 
--- ---- what TOML 1.1 answers, in a version
+-- where it is one of the version once it is known to be right, what reading it answers
+pub reads_in_version : (mode : Mode) (version : Version) (t : Text) (b : Builder) (s : Statement) (more : List Event) (new : Building)
+    (r : Result (Bor (List Event)) ParseFault)
+    → (has_deep_value s ≡ false → is_of_version version s ≡ true) → ReadsStatement mode t b s more new r
+    → ReadsInVersion mode version t b s more new r
+reads_in_version mode version t b s more new (Ok rest) early h = (early (added-shallow b.start s h.faultless), h)
+reads_in_version mode version t b s more new (Err e) early h =
+    mapped e _ _ (λ r is. (is.0, Contains-append_right (late_faults version b.start s) (faults_at b s) (fault_of r) is.1)) h
 
-module _ (version : Version) (t : Text) where
-  pub reading_in : (es : List Event) (n : Node) → AreLoneEvents t es
-      → ((v : Value) → IsLoneValue t v → are_deep es ≡ false → is_value_of version v ≡ true) → IsLoneReading t n
-      → IsLoneReadingIn version t n
-  reading_in es n are passed h =
-      record {
-        value = h.value;
-        lone = h.lone;
-        accepted = ap (λ b. b && is_accepted_value h.value) (passed h.value h.lone (are.deep h.value h.lone ∙ shallow h.value h.accepted))
-            ∙ h.accepted;
-        only = h.only;
-        item = h.item;
-      }
+-- ---- the messages
 
-  refusal_in : (r : Report) → IsLoneRefusal t r → IsLoneRefusalIn version t r
-  refusal_in r h =
-      record {
-        input = h.input;
-        listed = report_in version r h.listed;
-        names =
-            record {
-              names = λ v lone.
-                  Contains-append_right (late_value_faults version (length lone.before) v) (value_faults v (length lone.before) 0)
-                  (fault_of r)
-                  (h.names.names v lone);
-              allowed = (report_in version r h.listed).allowed;
-            };
-        syntax = h.syntax;
-        refused = λ v lone. wrong_in version v (h.refused v lone);
-      }
+-- TOML 1.0 has a message for what it lacks
+pub late-message : (version : Version) → version ≡ v1_0 → IsMessageIn version needs_message
+late-message version is = subst (λ v. IsMessageIn v needs_message) (sym is) (inr (0, lit< tt, refl))
 
-  pub fault_in : (e : ParseFault) → IfToml e (IsLoneRefusal t) → IfToml e (IsLoneRefusalIn version t)
-  fault_in (Toml r) h = refusal_in r h
-  fault_in Memory h = tt
-
-  -- the answers of a call, in the version
-  pub read_in : (es : List Event) (r : Result code.Value ParseFault) → AreLoneEvents t es
-      → ((v : Value) → IsLoneValue t v → are_deep es ≡ false → is_value_of version v ≡ true) → IfOk r (λ v. IsLoneReading t (value_view v))
-      → IfOk r (λ v. IsLoneReadingIn version t (value_view v))
-  read_in es (Ok v) are passed h = reading_in es (value_view v) are passed h
-  read_in es (Err e) are passed h = tt
-
-  pub refused_in : (r : Result code.Value ParseFault) → IfErr r (λ e. IfToml e (IsLoneRefusal t))
-      → IfErr r (λ e. IfToml e (IsLoneRefusalIn version t))
-  refused_in (Ok v) h = tt
-  refused_in (Err e) h = fault_in e h
-
--- ---- where a part is late
-
-module _ (t : Text) (s : Span) (told : (v : Value) (lone : IsLoneValue t v)
-    → Contains (late_value v (length lone.before)) (s.start, s.end - s.start)) where
-  pub not_early : (v : Value) → IsLoneValue t v → is_value_of v1_0 v ≡ false
-  not_early v lone = not_value_of v (length lone.before) (s.start, s.end - s.start) (told v lone)
-
-  pub late_refused : (es : List Event) (e : ParseFault) → AreLoneEvents t es → IsSpanOf t s
-      → IfToml e (λ r. r ≡ record { message = needs_message; span = Some (s.start, s.end); input = t }) → IfToml e (IsListedIn v1_0)
-      → IfToml e (IsLoneRefusalIn v1_0 t)
-  late_refused es (Toml r) are there is listed =
-      record {
-        input = ap (λ x. x.input) is;
-        listed = listed;
-        names =
-            record {
-              names = λ v lone.
-                  let i = length lone.before in
-                  Contains-append_left (late_value_faults v1_0 i v) (value_faults v i 0) (fault_of r)
-                  (subst (λ (x : Report). Contains (late_value_faults v1_0 i v) (fault_of x)) (sym is)
-                  (late_value_fault v i s.start s.end there.order (told v lone)));
-              allowed = listed.allowed;
-            };
-        syntax = λ none. elim (either (are_deep es)) [
-          | inl short ↦ inr (are.brackets short)
-          | inr whole ↦ absurd (let found = are.has_value whole in none found.0 found.1)
-        ];
-        refused = λ v lone. ap (λ b. b && is_accepted_value v) (not_early v lone);
-      }
-  late_refused es Memory are there is listed = tt
+-- an error in TOML 1.1 is one in each version
+pub refuses-in : {A : Type 0} (version : Version) (t : Text) (r : Result A ParseFault) → Refuses t r → RefusesIn version t r
+refuses-in version t (Ok x) h = tt
+refuses-in version t (Err e) h = mapped e _ _ (error_in version t) h

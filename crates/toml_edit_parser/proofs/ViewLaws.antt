@@ -7,7 +7,7 @@ use Rattle.toml_edit_model.specs.Tree.{nothing, leaf}
 use Rattle.toml_edit_datetime.specs.DatetimeView.{datetime_view}
 use Rattle.toml_edit_datetime.specs.declared.datetime.Datetime as code
 use Rattle.toml_edit_repr.specs.Views.{FormattedView}
-use Rattle.toml_edit_tree.specs.Containers.{array_node, inline_node}
+use Rattle.toml_edit_tree.specs.Containers.{array_node, inline_node, table_node}
 use Rattle.toml_edit_tree.specs.declared.array.Array.{Array}
 use Rattle.toml_edit_tree.specs.declared.inline_table.InlineTable.{InlineTable}
 use Rattle.toml_edit_tree.specs.declared.item.Item.{the_lemmas}
@@ -15,14 +15,18 @@ use Rattle.toml_edit_tree.specs.declared.item.Item.TheVariants as items
 use Rattle.toml_edit_tree.specs.declared.item.Item.TheViews.{roll-Value}
 use Rattle.toml_edit_tree.specs.declared.value.Value.{Value, out-Value}
 use Rattle.toml_edit_tree.specs.declared.value.Value.TheVariants as values
-use Rattle.toml_edit_tree.specs.View.{array_view, inline_view, item_view, value_view}
+use Rattle.toml_edit_tree.specs.View.{array_view, inline_view, item_view, value_view, table_view}
+use Rattle.toml_edit_tree.specs.declared.table.Table.{Table}
 
--- an item is a placeholder or what its value is
+-- an item is a placeholder, or what its value or table is
 pub view-None : item_view items.None ≡ nothing
 view-None = search (rules, the_lemmas)
 
 pub view-Value : (v : Value) → item_view (items.Value v) ≡ value_view v
 view-Value v = search (rules, the_lemmas)
+
+pub view-Table : (t : Table) → item_view (items.Table t) ≡ table_node (table_view t)
+view-Table t = search (rules, the_lemmas)
 
 -- an array and an inline table as values
 pub view-Array : (a : Array) → value_view (values.Array a) ≡ array_node (array_view a)

@@ -5,7 +5,12 @@ pub mod Options
 pub mod Faults
 pub mod Listed
 pub mod LoneValue
+pub mod ReadKeys
 pub mod PathRead
 pub mod StatementParts
+pub mod TableRead
+pub mod BlockRead
+pub mod StatementRead
+pub mod DocumentRead
 -- Cited inside this crate alone.
 pub mod ScalarRead

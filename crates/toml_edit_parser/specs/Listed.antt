@@ -25,6 +25,15 @@ pub record IsListedIn (version : Version) (r : Report) : Type 0 where
 abbrev pub IsListed : Report → Type 0
 IsListed = IsListedIn v1_1
 
+-- the report is of this text, and one of those listed of the version
+pub record IsErrorIn (version : Version) (t : Text) (r : Report) : Type 0 where
+  pub input : r.input ≡ t
+  pub listed : IsListedIn version r
+
+-- that, in TOML 1.1
+abbrev pub IsErrorOf : Text → Report → Type 0
+IsErrorOf t r = IsErrorIn v1_1 t r
+
 -- ---- errors
 
 -- the error says this of the text, at this span
@@ -34,14 +43,10 @@ Says t message s e =
 
 -- ---- results
 
--- an error is of this text
-abbrev pub BlamesOnly : {A : Type 0} → Text → Result A ParseFault → Type 0
-BlamesOnly t result = IfErr result (λ e. IfToml e (λ r. r.input ≡ t))
-
--- an error is a listed one of the version
-abbrev pub GivesListedIn : {A : Type 0} → Version → Result A ParseFault → Type 0
-GivesListedIn version result = IfErr result (λ e. IfToml e (IsListedIn version))
+-- an error is of this text, and a listed one of the version
+abbrev pub RefusesIn : {A : Type 0} → Version → Text → Result A ParseFault → Type 0
+RefusesIn version t result = IfErr result (λ e. IfToml e (IsErrorIn version t))
 
 -- that, in TOML 1.1
-abbrev pub GivesListed : {A : Type 0} → Result A ParseFault → Type 0
-GivesListed result = IfErr result (λ e. IfToml e IsListed)
+abbrev pub Refuses : {A : Type 0} → Text → Result A ParseFault → Type 0
+Refuses t result = IfErr result (λ e. IfToml e (IsErrorIn v1_1 t))

@@ -26,9 +26,9 @@ use Rattle.toml_edit_syntax.specs.declared.event.EventKind.TheVariants.{After, A
 use Rattle.toml_edit_syntax.specs.declared.event.Span.{Span}
 use Rattle.toml_edit_syntax.specs.ValueEvents.{event, close_events, pairs_events, path_events, shortened, value_at_byte, value_events}
 use Rattle.toml_edit_syntax.specs.Events.{IsSpanOf}
-use Rattle.toml_edit_parser.specs.declared.pairs.FrameSpans.{FrameSpans}
-use Rattle.toml_edit_parser.specs.declared.pairs.KeyPath.{KeyPath}
-use Rattle.toml_edit_parser.specs.declared.reader.Close.{Close}
+use Rattle.toml_edit_parser.specs.declared.key.FrameSpans.{FrameSpans}
+use Rattle.toml_edit_parser.specs.declared.key.KeyPath.{KeyPath}
+use Rattle.toml_edit_parser.specs.declared.events.Close.{Close}
 use Rattle.toml_edit_tree.specs.declared.value.Value as code
 use Rattle.toml_edit_tree.specs.Containers.{InlineView, inline_node}
 use Rattle.toml_edit_parser.specs.ValueRead.{span_at, spanned_raw, split_leading, AreIn, NamesOne}

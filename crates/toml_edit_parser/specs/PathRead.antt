@@ -8,9 +8,9 @@ use Rattle.toml_edit_model.specs.TreeOf.{spanned_form, dots_at}
 use Rattle.toml_edit_error.specs.Fault.{IfToml}
 use Rattle.toml_edit_error.specs.declared.toml_error.ParseFault.{ParseFault}
 use Rattle.toml_edit_syntax.specs.ValueEvents.{path_events}
-use Rattle.toml_edit_parser.specs.declared.key_path.PathKey.{PathKey}
-use Rattle.toml_edit_parser.specs.declared.key_path.PathName.{PathName}
-use Rattle.toml_edit_parser.specs.declared.pairs.KeyPath.{KeyPath}
+use Rattle.toml_edit_parser.specs.declared.key.PathKey.{PathKey}
+use Rattle.toml_edit_parser.specs.declared.key.PathName.{PathName}
+use Rattle.toml_edit_parser.specs.declared.key.KeyPath.{KeyPath}
 use Rattle.toml_edit_parser.specs.PairRead.{first_before, leaf_of}
 use Rattle.toml_edit_parser.specs.ValueRead.{span_at}
 

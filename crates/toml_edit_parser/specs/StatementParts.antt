@@ -19,9 +19,9 @@ use Rattle.toml_edit_syntax.specs.declared.event.Event.{Event}
 use Rattle.toml_edit_syntax.specs.declared.event.EventKind.TheVariants.{BeforeKey, AfterKey, HeaderClose, LineEnd}
 use Rattle.toml_edit_syntax.specs.declared.event.Span.{Span}
 use Rattle.toml_edit_syntax.specs.ValueEvents.{event, path_events, value_at_byte, value_events, shortened}
-use Rattle.toml_edit_parser.specs.declared.pairs.KeyPath.{KeyPath}
-use Rattle.toml_edit_parser.specs.declared.statement.HeaderSpans.{HeaderSpans}
-use Rattle.toml_edit_parser.specs.declared.statement.Reader.{Reader}
+use Rattle.toml_edit_parser.specs.declared.key.KeyPath.{KeyPath}
+use Rattle.toml_edit_parser.specs.declared.document.parts.HeaderSpans.{HeaderSpans}
+use Rattle.toml_edit_parser.specs.declared.reader.Reader.{Reader}
 use Rattle.toml_edit_repr.specs.Modes.{mode_of}
 use Rattle.toml_edit_parser.specs.PairRead.{key_events}
 use Rattle.toml_edit_parser.specs.PathRead.{IsPathFrom}

@@ -23,7 +23,7 @@ use Rattle.toml_edit_syntax.specs.declared.event.Span.{Span}
 use Rattle.toml_edit_syntax.specs.ValueEvents.{event, value_events, elements_events, close_events, shortened}
 use Rattle.toml_edit_syntax.specs.Events.{IsSpanOf}
 use Rattle.toml_edit_tree.specs.declared.item.Item.{Item}
-use Rattle.toml_edit_parser.specs.declared.reader.Close.{Close}
+use Rattle.toml_edit_parser.specs.declared.events.Close.{Close}
 use Rattle.toml_edit_tree.specs.declared.value.Value as code
 use Rattle.toml_edit_tree.specs.Containers.{ArrayView, array_node}
 use Rattle.toml_edit_tree.specs.View.{item_view, items_view, value_view}

@@ -1,5 +1,6 @@
 //! What is wrong with a text, and the errors that say so.
 ghost use Rattle.std.specs.Prelude.{◌≡◌, Contains, None, true};
+ghost use Rattle.toml_edit_model.specs.Faults as faults;
 ghost use Rattle.toml_edit_model.specs.Faults.{recursion_limit};
 ghost use Rattle.toml_edit_model.specs.Messages.{fault_messages};
 ghost use Rattle.toml_edit_model.specs.Roles.{Role, extends};
@@ -9,17 +10,16 @@ ghost use Rattle.toml_edit_error.specs.Fault.{IfToml};
 ghost use Rattle.toml_edit_syntax.specs.Events.{IsSpanOf};
 ghost use Rattle.toml_edit_tree.specs.View.{value_view};
 ghost use Rattle.toml_edit_parser.specs.Faults.{fault_message};
-ghost use Rattle.toml_edit_parser.specs.Listed.{IsListed, IsListedIn, IsMessageIn, Says};
+ghost use Rattle.toml_edit_parser.specs.Listed.{IsErrorIn, IsErrorOf, IsMessageIn, Says};
 
-use std::alloc::Global;
+use crate::reader::Reader;
 use toml_edit_error::ParseFault;
 use toml_edit_syntax::Span;
 use toml_edit_tree::Value;
 
 /// What is wrong with a text, found in its events.
-#[doc(hidden)]
 #[derive(Clone, Copy)]
-pub enum Fault {
+pub(crate) enum Fault {
     /// A key that exists already.
     DuplicateKey,
     /// A path that goes on through a string.
@@ -46,7 +46,7 @@ pub enum Fault {
 
 impl Fault {
     /// Returns what is wrong with a path that goes on through this value.
-    pub fn extending(value: &Value) -> Fault
+    pub(crate) fn extending(value: &Value) -> Fault
         ensures message { (later : Role) → extends later ≡ true
             → fault_message result ≡ table_way_message later (value_view value.now) }
         // Its message is one of the listed ones.
@@ -64,7 +64,7 @@ impl Fault {
     }
 
     /// Returns the message of the error.
-    pub fn message(self) -> &'static str
+    pub(crate) fn message(self) -> &'static str
         ensures message { result.now ≡ fault_message self }
         // It is one of the listed messages of TOML 1.0, which has them all.
         ensures listed { IsMessageIn v1_0 result.now }
@@ -88,57 +88,74 @@ impl Fault {
 }
 
 /// Returns the error about what is wrong at the span.
-#[doc(hidden)]
 #[cold]
 #[inline(never)]
-pub fn refusal(alloc: Global, source: &str, fault: Fault, span: Span) -> ParseFault
-    requires { IsSpanOf source.now span }
-    ensures report { Says source.now (fault_message fault) span result }
+pub(crate) fn refusal(reader: &Reader<'_>, fault: Fault, span: Span) -> ParseFault
+    requires { IsSpanOf reader.now.source.now span }
+    ensures report { Says reader.now.source.now (fault_message fault) span result }
     // It is an error of each version that has the message.
-    ensures listed { (version : Version) → IsMessageIn version (fault_message fault)
-        → IfToml result (IsListedIn version) }
+    ensures refused { (version : Version) → IsMessageIn version (fault_message fault)
+        → IfToml result (IsErrorIn version reader.now.source.now) }
 {
-    refusal_with(alloc, source, fault.message(), span)
+    refusal_with(reader, fault.message(), span)
 }
 
 /// Returns the error with this message, of the lexer or of a scalar that is out of range, about the
 /// span.
-#[doc(hidden)]
 #[cold]
 #[inline(never)]
-pub fn refusal_with(alloc: Global, source: &str, message: &str, span: Span) -> ParseFault
-    requires { IsSpanOf source.now span }
-    ensures report { Says source.now message.now span result }
+pub(crate) fn refusal_with(reader: &Reader<'_>, message: &str, span: Span) -> ParseFault
+    requires { IsSpanOf reader.now.source.now span }
+    ensures report { Says reader.now.source.now message.now span result }
     // It is an error of each version that has the message.
-    ensures listed { (version : Version) → IsMessageIn version message.now
-        → IfToml result (IsListedIn version) }
+    ensures refused { (version : Version) → IsMessageIn version message.now
+        → IfToml result (IsErrorIn version reader.now.source.now) }
 {
-    toml_edit_error::refusal(alloc, source, message, Some((span.start, span.end)))
+    toml_edit_error::refusal(
+        reader.alloc,
+        reader.source,
+        message,
+        Some((span.start, span.end)),
+    )
 }
 
 /// Returns the error about a limit that the text passes, which marks no part of it.
-#[doc(hidden)]
 #[cold]
 #[inline(never)]
-pub fn refusal_of_all(alloc: Global, source: &str) -> ParseFault
+pub(crate) fn refusal_of_all(reader: &Reader<'_>) -> ParseFault
     ensures report { IfToml result
-        (λ r. r ≡ record { message = recursion_limit; span = None; input = source.now }) }
-    ensures listed { (version : Version) → IfToml result (IsListedIn version) }
+        (λ r. r ≡ record { message = recursion_limit; span = None; input = reader.now.source.now }) }
+    ensures refused { (version : Version) → IfToml result
+        (IsErrorIn version reader.now.source.now) }
 {
-    toml_edit_error::refusal(alloc, source, Fault::RecursionLimit.message(), None)
+    toml_edit_error::refusal(
+        reader.alloc,
+        reader.source,
+        Fault::RecursionLimit.message(),
+        None,
+    )
+}
+
+/// Returns the error about a key at this span that exists already.
+#[cold]
+#[inline(never)]
+pub(crate) fn duplicate_key(reader: &Reader<'_>, span: Span) -> ParseFault
+    requires { IsSpanOf reader.now.source.now span }
+    ensures report { Says reader.now.source.now faults.duplicate_key span result }
+    ensures refused { IfToml result (IsErrorOf reader.now.source.now) }
+{
+    refusal(reader, Fault::DuplicateKey, span)
 }
 
 /// Returns the error about events that the lexer never makes.
 ///
 /// It gives the events of the grammar alone, each with those that belong to it, so no text has this
 /// error. The type of the events doesn't promise that, so their reader needs a way out.
-#[doc(hidden)]
 #[cold]
 #[inline(never)]
-pub fn malformed(alloc: Global, source: &str) -> ParseFault
-    ensures input { IfToml result (λ r. r.input ≡ source.now) }
-    ensures listed { IfToml result IsListed }
+pub(crate) fn malformed(reader: &Reader<'_>) -> ParseFault
+    ensures { IfToml result (IsErrorOf reader.now.source.now) }
 {
-    let end = source.len();
-    refusal(alloc, source, Fault::Malformed, Span { start: end, end })
+    let end = reader.source.len();
+    refusal(reader, Fault::Malformed, Span { start: end, end })
 }

@@ -13,18 +13,21 @@ ghost use Rattle.toml_edit_tree.specs.View.{item_view, value_view};
 ghost use Rattle.toml_edit_syntax.specs.Grammar.{grammar};
 ghost use Rattle.toml_edit_model.specs.OwnedForm.{NodeFits};
 
+use crate::events::are_cut_short;
 use crate::fault::{Fault, refusal, refusal_of_all, refusal_with};
 use crate::options::ParseOptions;
-use crate::reader::{are_cut_short, read_value};
+use crate::reader::Reader;
+use crate::value::read_value;
 use std::alloc::Global;
 use toml_edit_error::ParseFault;
+use toml_edit_repr::Mode;
 use toml_edit_syntax::{Event, SyntaxFault, Version, late_part_of_value, lone_events};
 use toml_edit_tree::{Item, Value};
 
 /// A type that can be parsed from a text that holds one value of it.
 ///
 /// It is in the place of std's trait of this name, and has to be imported: it takes an allocator,
-/// and is implemented for [`Value`] and [`Item`].
+/// and is implemented for [`Value`], [`Item`] and `Key`.
 ///
 /// # Examples
 ///
@@ -41,7 +44,8 @@ pub trait FromStr: Sized {
     /// What parsing a text may return.
     ghost answers: { List ℕ → Result Self ParseFault → Type 0 };
 
-    /// Parses a text that holds one value, with nothing but whitespace around it.
+    /// Parses a text that holds one value, with nothing but whitespace around it, or one key, with
+    /// nothing around it.
     ///
     /// # Errors
     ///
@@ -157,41 +161,40 @@ fn read_lone_text(alloc: Global, text: &str, version: Version) -> Result<Value, 
         → IsOk result ⊎ IsErrOf result ParseFault.Memory }
     ensures refused { IfErr result (λ e. IfToml e (IsLoneRefusalIn (grammar version) text.now)) }
 {
+    let reader = Reader {
+        alloc,
+        source: text,
+        version,
+        mode: Mode::Plain,
+    };
     match lone_events(alloc, text) {
         Ok(events) => {
-            refuse_late(alloc, text, events.as_slice(), version)?;
-            read_lone(alloc, text, events.as_slice())
+            refuse_late(&reader, events.as_slice())?;
+            read_lone(&reader, events.as_slice())
         }
         Err(SyntaxFault::Memory) => Err(ParseFault::Memory),
-        Err(SyntaxFault::Text(mistake, span)) => Err(refusal_with(
-            alloc,
-            text,
-            mistake.message(),
-            span,
-        )),
+        Err(SyntaxFault::Text(mistake, span)) => {
+            Err(refusal_with(&reader, mistake.message(), span))
+        }
     }
 }
 
 /// Refuses a lone value with a part that the version lacks, by its events.
-fn refuse_late(
-    alloc: Global,
-    text: &str,
-    events: &[Event],
-    version: Version,
-) -> Result<(), ParseFault>
-    requires cut { AreLoneEvents text.now events.now }
-    requires spans { AreIn text.now events.now }
-    ensures passed { (v : syntax.Value) → IsLoneValue text.now v → are_deep events.now ≡ false
-        → IsOk result
-        → is_value_of (grammar version) v ≡ true }
-    ensures every { (v : syntax.Value) → IsLoneValue text.now v
-        → is_value_of (grammar version) v ≡ true
+fn refuse_late(reader: &Reader<'_>, events: &[Event]) -> Result<(), ParseFault>
+    requires cut { AreLoneEvents reader.now.source.now events.now }
+    requires spans { AreIn reader.now.source.now events.now }
+    ensures passed { (v : syntax.Value) → IsLoneValue reader.now.source.now v
+        → are_deep events.now ≡ false → IsOk result
+        → is_value_of (grammar reader.now.version) v ≡ true }
+    ensures every { (v : syntax.Value) → IsLoneValue reader.now.source.now v
+        → is_value_of (grammar reader.now.version) v ≡ true
         → IsOk result ⊎ IsErrOf result ParseFault.Memory }
-    ensures refused { IfErr result (λ e. IfToml e (IsLoneRefusalIn (grammar version) text.now)) }
+    ensures refused { IfErr result (λ e. IfToml e
+        (IsLoneRefusalIn (grammar reader.now.version) reader.now.source.now)) }
 {
-    match version {
-        Version::V1_0 => match late_part_of_value(text, events) {
-            Some(span) => Err(refusal(alloc, text, Fault::NeedsLaterVersion, span)),
+    match reader.version {
+        Version::V1_0 => match late_part_of_value(reader.source, events) {
+            Some(span) => Err(refusal(reader, Fault::NeedsLaterVersion, span)),
             None => Ok(()),
         },
         Version::V1_1 => Ok(()),
@@ -199,16 +202,16 @@ fn refuse_late(
 }
 
 /// Reads the value that the text is but for whitespace around it, from its events.
-fn read_lone(alloc: Global, text: &str, events: &[Event]) -> Result<Value, ParseFault>
-    requires cut { AreLoneEvents text.now events.now }
-    requires spans { AreIn text.now events.now }
-    ensures read { IfOk result (λ v. IsLoneReading text.now (value_view v)) }
-    ensures every { (v : syntax.Value) → IsLoneValue text.now v → is_accepted_value v ≡ true
-        → IsOk result ⊎ IsErrOf result ParseFault.Memory }
-    ensures refused { IfErr result (λ e. IfToml e (IsLoneRefusal text.now)) }
+fn read_lone(reader: &Reader<'_>, events: &[Event]) -> Result<Value, ParseFault>
+    requires cut { AreLoneEvents reader.now.source.now events.now }
+    requires spans { AreIn reader.now.source.now events.now }
+    ensures read { IfOk result (λ v. IsLoneReading reader.now.source.now (value_view v)) }
+    ensures every { (v : syntax.Value) → IsLoneValue reader.now.source.now v
+        → is_accepted_value v ≡ true → IsOk result ⊎ IsErrOf result ParseFault.Memory }
+    ensures refused { IfErr result (λ e. IfToml e (IsLoneRefusal reader.now.source.now)) }
 {
-    let (mut value, _rest) = read_value(alloc, text, events)?;
-    match end_lone(alloc, text, events, &mut value) {
+    let (mut value, _rest) = read_value(reader, events)?;
+    match end_lone(reader, events, &mut value) {
         Ok(()) => Ok(value),
         Err(fault) => {
             drop(value);
@@ -218,25 +221,21 @@ fn read_lone(alloc: Global, text: &str, events: &[Event]) -> Result<Value, Parse
 }
 
 /// Makes a value that was read from these events own its texts, and unsets its decor.
-fn end_lone(
-    alloc: Global,
-    text: &str,
-    events: &[Event],
-    value: &mut Value,
-) -> Result<(), ParseFault>
-    requires cut { AreLoneEvents text.now events.now }
-    requires read { (rest : List Event) × ((v : syntax.Value) (lone : IsLoneValue text.now v)
+fn end_lone(reader: &Reader<'_>, events: &[Event], value: &mut Value) -> Result<(), ParseFault>
+    requires cut { AreLoneEvents reader.now.source.now events.now }
+    requires read { (rest : List Event)
+        × ((v : syntax.Value) (lone : IsLoneValue reader.now.source.now v)
         → IsRead v (length lone.before) 0 [] (value_view value.old) rest) }
-    requires fits { NodeFits text.now (value_view value.old) }
-    ensures read { OnOk result (IsLoneReading text.now (value_view value.new)) }
-    ensures every { (v : syntax.Value) → IsLoneValue text.now v → is_accepted_value v ≡ true
-        → IsOk result ⊎ IsErrOf result ParseFault.Memory }
-    ensures refused { IfErr result (λ e. IfToml e (IsLoneRefusal text.now)) }
+    requires fits { NodeFits reader.now.source.now (value_view value.old) }
+    ensures read { OnOk result (IsLoneReading reader.now.source.now (value_view value.new)) }
+    ensures every { (v : syntax.Value) → IsLoneValue reader.now.source.now v
+        → is_accepted_value v ≡ true → IsOk result ⊎ IsErrOf result ParseFault.Memory }
+    ensures refused { IfErr result (λ e. IfToml e (IsLoneRefusal reader.now.source.now)) }
 {
     if are_cut_short(events) {
-        return Err(refusal_of_all(alloc, text));
+        return Err(refusal_of_all(reader));
     }
     value.undecorate();
-    value.despan(alloc, text)?;
+    value.despan(reader.alloc, reader.source)?;
     Ok(())
 }

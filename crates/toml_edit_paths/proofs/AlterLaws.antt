@@ -1,11 +1,12 @@
 -- What a closure does to a part of an item, as what it does to the item.
 use Rattle.std.proofs.Common.{◌≡◌, ◌∙◌, refl, sym, ap, subst, ℕ, ◌<◌, Bool, false, List, [], ◌∷◌, length, get_or, set, slice_get, Option}
-use Rattle.std.proofs.Common.{Some, None, option_map, arith}
+use Rattle.std.proofs.Common.{Some, None, arith}
 use Rattle.toml_edit_model.specs.Text.{Text}
 use Rattle.toml_edit_model.specs.Tree.{Key, Node, nothing, leaf, list, inline, table, tables, is_value_node}
 use Rattle.toml_edit_model.specs.ArrayCalls.{written_at}
 use Rattle.toml_edit_model.specs.Slots.{Slot, changed, lookup_slot, with_item}
 use Rattle.toml_edit_model.specs.Lists.{is_item, items_in, on_items, on_slots, only, slots_in}
+use Rattle.toml_edit_model.specs.Keys.{names}
 use Rattle.toml_edit_laws.specs.Commands.{Answer, done, mapped, present, second, and_then, item_below, element_of, change_slot}
 use Rattle.toml_edit_laws.specs.Commands.{change_element}
 use Rattle.toml_edit_slots.specs.Slots as held
@@ -13,9 +14,9 @@ use Rattle.toml_edit_slots.specs.declared.slots.Slot as held_slot
 use Rattle.toml_edit_tree.specs.Indexed.{shown_slots}
 use Rattle.toml_edit_tree.specs.View.{item_view}
 use Rattle.toml_edit_tree.specs.declared.item.Item.{Item}
+use Rattle.toml_edit_tree.specs.Elements.{listed}
 use Rattle.toml_edit_paths.specs.Calls.{Change, ChangesBelow, ChangesElement, ChangesFound, ChangesSlot, TakesFound, replaced_below}
-use Rattle.toml_edit_paths.specs.Changes.{names}
-use Rattle.toml_edit_paths.specs.Elements.{nodes, place_named}
+use Rattle.toml_edit_paths.specs.Elements.{place_named}
 use Rattle.toml_edit_paths.specs.Items.{kind_of}
 use Rattle.toml_edit_paths.proofs.ElementLaws.{element-is, nodes-same, nodes-set}
 use Rattle.toml_edit_paths.proofs.SlotLaws.{IsFirstOfName, pairs-with, slot-some, with-same}
@@ -112,11 +113,11 @@ module _ {F R : Type 0} (g : Change F R) (f : F) where
       (λ n. ap (change_slot false k (replaced_below path n) ss) s.1) change)
 
   pub in-element : (is : Node → Bool) (k : Text) (path : List Text) (xs : List Item) (i : ℕ) (d y : Item) (r : Option R) → Some i
-      ≡ place_named is k (nodes xs) → i < length xs
-      → ChangesBelow g f path (item_view (get_or xs i d)) (item_view y) r → ChangesElement g f is k path (nodes xs) (nodes (set xs i y)) r
+      ≡ place_named is k (listed xs) → i < length xs
+      → ChangesBelow g f path (item_view (get_or xs i d)) (item_view y) r → ChangesElement g f is k path (listed xs) (listed (set xs i y)) r
   in-element is k path xs i d y r h inside change =
       let e = element-is is k xs i d h inside in
-      let ns = nodes xs in
+      let ns = listed xs in
       let make = λ (m : Node). written_at i m ns in
       renamed _ _ (make (item_view (get_or xs i d))) (make (item_view y)) _ _ r (nodes-same xs i d inside) (sym (nodes-set xs i y))
       (carried make _ _ _ _ (item_view (get_or xs i d)) (item_view y) r (ap (λ o. and_then (item_below path) (second o)) e)
@@ -126,11 +127,3 @@ module _ {F R : Type 0} (g : Change F R) (f : F) where
 
   pub no-slot : (k : Text) (path : List Text) (ss : List (Slot Node)) → lookup_slot k ss ≡ None → ChangesSlot g f k path ss ss None
   no-slot k path ss none = (ap (λ o. and_then (item_below path) (present o)) none, refl)
-
-  no_element : (path : List Text) (o : Option (ℕ × Node)) → None ≡ option_map (λ x. x.0) o → and_then (item_below path) (second o) ≡ None
-  no_element path None h = refl
-  no_element path (Some x) h = absurd cc
-
-  pub no-element : (is : Node → Bool) (k : Text) (path : List Text) (ns : List Node) → None ≡ place_named is k ns
-      → ChangesElement g f is k path ns ns None
-  no-element is k path ns h = (no_element path (element_of is k ns) h, refl)

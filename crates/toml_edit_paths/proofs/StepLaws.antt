@@ -7,6 +7,7 @@ use Rattle.toml_edit_model.specs.Shown.{is_table_node}
 use Rattle.toml_edit_model.specs.Slots.{Slot, lookup_slot}
 use Rattle.toml_edit_model.specs.Text.{Text}
 use Rattle.toml_edit_model.specs.Tree.{Key, Node, nothing, leaf, list, inline, table, tables, is_value_node}
+use Rattle.toml_edit_model.specs.Keys.{names}
 use Rattle.toml_edit_laws.specs.Commands.{Answer, refused, no_such_path, mapped, child, child_changed, change_element, change_slot}
 use Rattle.toml_edit_laws.specs.Commands.{drop_element, drop_slot, element_of, present, remove_below, second}
 use Rattle.toml_edit_laws.proofs.common.OptionSteps.{some-is}
@@ -16,7 +17,7 @@ use Rattle.toml_edit_tree.specs.Containers.{TableView, table_node}
 use Rattle.toml_edit_tree.specs.Indexed.{shown_slots}
 use Rattle.toml_edit_tree.specs.View.{slots_view}
 use Rattle.toml_edit_tree.specs.declared.item.Item.{Item}
-use Rattle.toml_edit_paths.specs.Changes.{Changes, names, removed_element, removed_slot}
+use Rattle.toml_edit_paths.specs.Changes.{Changes, removed_element, removed_slot}
 use Rattle.toml_edit_paths.specs.Items.{kind_of}
 use Rattle.toml_edit_paths.specs.declared.fault.ChangeFault.{ChangeFault}
 use Rattle.toml_edit_paths.proofs.ChangeLaws.{carried, renamed}

@@ -1,16 +1,12 @@
 -- What a change at a path leaves, and how it is refused.
-use Rattle.std.specs.Prelude.{◌≡◌, Bool, false, List, [], ◌∷◌, map, Result, Ok, Err}
+use Rattle.std.specs.Prelude.{◌≡◌, Bool, false, List, [], ◌∷◌, Result, Ok, Err}
 use Rattle.toml_edit_model.specs.Text.{Text}
-use Rattle.toml_edit_model.specs.Tree.{Key, Node}
+use Rattle.toml_edit_model.specs.Tree.{Node}
 use Rattle.toml_edit_model.specs.Slots.{Slot, lookup_slot}
 use Rattle.toml_edit_laws.specs.Commands.{Answer, done, refused, no_such_path, wrong_kind, present, element_of, change_slot, change_element}
 use Rattle.toml_edit_laws.specs.Commands.{drop_slot, drop_element, remove_below}
 use Rattle.toml_edit_paths.specs.declared.fault.ChangeFault.{ChangeFault}
 use Rattle.toml_edit_paths.specs.declared.fault.ChangeFault.TheVariants.{NoSuchPath, WrongKind, Memory}
-
--- the texts of a path's keys
-abbrev pub names : List Key → List Text
-names path = map (λ k. k.name) path
 
 -- What is done leaves what is meant. A refusal is the one that is meant, and leaves all as it was,
 -- as running out of memory does.

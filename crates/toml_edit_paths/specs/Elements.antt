@@ -2,19 +2,12 @@
 use Rattle.std.specs.Prelude.{◌≡◌, ℕ, ◌^◌, ◌≤◌, Bool, List, Option, Some, None, option_map}
 use Rattle.toml_edit_model.specs.Text.{Text}
 use Rattle.toml_edit_model.specs.Tree.{Node}
-use Rattle.toml_edit_model.specs.Lists.{item_list}
 use Rattle.toml_edit_laws.specs.Commands.{number_of, element_of}
-use Rattle.toml_edit_tree.specs.View.{items_view}
-use Rattle.toml_edit_tree.specs.declared.item.Item.{Item}
 
 -- It is the number that the text names, or none where the text names none below 2^64.
 abbrev pub IsNumberOf : Text → Option ℕ → Type 0
 IsNumberOf x (Some i) = number_of x ≡ Some i
 IsNumberOf x None = (i : ℕ) → number_of x ≡ Some i → 2 ^ 64 ≤ i
-
--- the items of an array, or of an array of tables, as the commands see them
-abbrev pub nodes : List Item → List Node
-nodes xs = item_list (items_view xs)
 
 -- the place of the element of this kind that the text names
 abbrev pub place_named : (Node → Bool) → Text → List Node → Option ℕ

@@ -2,12 +2,12 @@
 ghost use Rattle.std.specs.Prelude.{◌∷◌};
 ghost use Rattle.toml_edit_model.specs.Lists.{is_item, only};
 ghost use Rattle.toml_edit_model.specs.Slots.{lookup_slot};
+ghost use Rattle.toml_edit_model.specs.Keys.{names};
 ghost use Rattle.toml_edit_laws.specs.Commands.{and_then, item_below, present};
 ghost use Rattle.toml_edit_tree.specs.Containers.{table_node};
 ghost use Rattle.toml_edit_tree.specs.Indexed.{shown_slots};
 ghost use Rattle.toml_edit_tree.specs.View.{item_view, table_view};
 ghost use Rattle.toml_edit_paths.specs.Calls.{ChangesBelow, ChangesFound, ChangesSlot, TakesFound, item_inside, replaced_below};
-ghost use Rattle.toml_edit_paths.specs.Changes.{names};
 
 use crate::element::{items_mut, place_named};
 use toml_edit_key::Key;

@@ -4,7 +4,8 @@ ghost use Rattle.std.specs.Prelude.{◌≡◌, ◌<◌, IfSome, length, option_m
 ghost use Rattle.toml_edit_model.specs.Lists.{items_in};
 ghost use Rattle.toml_edit_tree.specs.View.{item_view};
 ghost use Rattle.toml_edit_tree.specs.declared.value.Value.{out-Value};
-ghost use Rattle.toml_edit_paths.specs.Elements.{IsNumberOf, nodes, place_named};
+ghost use Rattle.toml_edit_tree.specs.Elements.{listed};
+ghost use Rattle.toml_edit_paths.specs.Elements.{IsNumberOf, place_named};
 ghost use Rattle.toml_edit_paths.specs.Items.{LendsItems, LendsValueItems, items_held, kind_of, value_items};
 
 use toml_edit_key::Key;
@@ -28,7 +29,7 @@ pub fn number_of(text: &str) -> Option<usize>
 /// Returns the place of the element that the key names, if there is one: of a value if `values`, and
 /// else of a table.
 pub(crate) fn place_named(items: &[Item], key: &Key, values: bool) -> Option<usize>
-    ensures place { result ≡ place_named (kind_of values) key.now.name (nodes items.now) }
+    ensures place { result ≡ place_named (kind_of values) key.now.name (listed items.now) }
     ensures within { IfSome result (λ at. at < length items.now) }
 {
     let at = number_of(key.get())?;
@@ -52,7 +53,7 @@ fn is_of_kind(item: &Item, values: bool) -> bool
 
 /// Returns the items of an array or an array of tables, or `None` for any other item.
 pub(crate) fn as_items(item: &Item) -> Option<&[Item]>
-    ensures { option_map (λ xs. nodes xs.now) result ≡ items_in (item_view item.now) }
+    ensures { option_map (λ xs. listed xs.now) result ≡ items_in (item_view item.now) }
 {
     match item {
         Item::Value(Value::Array(array)) => Some(array.values.as_slice()),

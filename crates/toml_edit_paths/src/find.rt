@@ -1,11 +1,11 @@
 //! Finding the item at a path.
 ghost use Rattle.std.specs.Prelude.{◌≡◌, option_map};
 ghost use Rattle.toml_edit_model.specs.Slots.{lookup_slot};
+ghost use Rattle.toml_edit_model.specs.Keys.{names};
 ghost use Rattle.toml_edit_laws.specs.Commands as commands;
 ghost use Rattle.toml_edit_laws.specs.Commands.{item_below, present};
 ghost use Rattle.toml_edit_tree.specs.Indexed.{shown_slots};
 ghost use Rattle.toml_edit_tree.specs.View.{item_view};
-ghost use Rattle.toml_edit_paths.specs.Changes.{names};
 
 use crate::element::{as_items, place_named};
 use toml_edit_key::Key;

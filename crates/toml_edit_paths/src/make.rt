@@ -1,7 +1,7 @@
 //! Making the tables that are missing above a value.
 ghost use Rattle.std.specs.Prelude.{◌≡◌, ◌∷◌, ◌++◌, [], Bool, None, OnErr, OnOk};
 ghost use Rattle.toml_edit_model.specs.Conversions.{new_table};
-ghost use Rattle.toml_edit_model.specs.Keys.{new_key};
+ghost use Rattle.toml_edit_model.specs.Keys.{new_key, names};
 ghost use Rattle.toml_edit_model.specs.Slots.{keyed};
 ghost use Rattle.toml_edit_model.specs.Text.{one};
 ghost use Rattle.toml_edit_model.specs.Tree.{no_slots, slot, table};
@@ -9,7 +9,6 @@ ghost use Rattle.toml_edit_laws.specs.CommandLaws.{made_below};
 ghost use Rattle.toml_edit_slots.specs.Slots.{place};
 ghost use Rattle.toml_edit_tree.specs.Indexed.{shown_slots};
 ghost use Rattle.toml_edit_tree.specs.View.{item_view};
-ghost use Rattle.toml_edit_paths.specs.Changes.{names};
 ghost use Rattle.toml_edit_paths.specs.Setting.{made_by};
 
 use std::alloc::{AllocError, Global};

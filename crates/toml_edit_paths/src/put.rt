@@ -3,11 +3,12 @@ ghost use Rattle.std.specs.Prelude.{◌≡◌, ◌∷◌, Bool, true, false};
 ghost use Rattle.toml_edit_model.specs.Conversions.{with_decor};
 ghost use Rattle.toml_edit_model.specs.Slots.{lookup_slot};
 ghost use Rattle.toml_edit_model.specs.Tree.{node_decor, nothing};
+ghost use Rattle.toml_edit_model.specs.Keys.{names};
 ghost use Rattle.toml_edit_laws.specs.Commands.{change_slot, set_below, set_here};
 ghost use Rattle.toml_edit_tree.specs.Containers.{table_node};
 ghost use Rattle.toml_edit_tree.specs.Indexed.{shown_slots};
 ghost use Rattle.toml_edit_tree.specs.View.{item_view, table_view, value_view};
-ghost use Rattle.toml_edit_paths.specs.Changes.{Changes, names};
+ghost use Rattle.toml_edit_paths.specs.Changes.{Changes};
 ghost use Rattle.toml_edit_paths.specs.Headed.{set_headed_below};
 ghost use Rattle.toml_edit_paths.specs.Setting.{headers_in, set_by};
 

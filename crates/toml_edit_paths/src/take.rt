@@ -3,12 +3,14 @@ ghost use Rattle.std.specs.Prelude.{◌≡◌, ◌<◌, ◌∷◌, Bool, IfErr, 
 ghost use Rattle.toml_edit_model.specs.Slots.{lookup_slot};
 ghost use Rattle.toml_edit_model.specs.Text.{Text};
 ghost use Rattle.toml_edit_model.specs.Tree.{Node};
+ghost use Rattle.toml_edit_model.specs.Keys.{names};
 ghost use Rattle.toml_edit_laws.specs.Commands.{drop_slot, present, remove_below};
 ghost use Rattle.toml_edit_tree.specs.Containers.{table_node};
 ghost use Rattle.toml_edit_tree.specs.Indexed.{shown_slots};
 ghost use Rattle.toml_edit_tree.specs.View.{item_view, table_view};
-ghost use Rattle.toml_edit_paths.specs.Changes.{Changes, names, removed_element, removed_slot};
-ghost use Rattle.toml_edit_paths.specs.Elements.{nodes, place_named};
+ghost use Rattle.toml_edit_tree.specs.Elements.{listed};
+ghost use Rattle.toml_edit_paths.specs.Changes.{Changes, removed_element, removed_slot};
+ghost use Rattle.toml_edit_paths.specs.Elements.{place_named};
 ghost use Rattle.toml_edit_paths.specs.declared.fault.ChangeFault.TheVariants.{NoSuchPath};
 
 use crate::element::{items_mut, place_named};
@@ -76,9 +78,9 @@ fn remove_in_item(item: &mut Item, key: &Key, rest: &[Key]) -> Result<(), Change
 fn remove_in_element(items: &mut Vec<Item>, at: usize, rest: &[Key]) -> Result<(), ChangeFault>
     requires { at < length items.old.items }
     ensures changes { (is : Node → Bool) (k : Text)
-        → Some at ≡ place_named is k (nodes items.old.items)
-        → Changes (removed_element is k (names rest.now) (nodes items.old.items))
-        (nodes items.old.items) (nodes items.new.items) result }
+        → Some at ≡ place_named is k (listed items.old.items)
+        → Changes (removed_element is k (names rest.now) (listed items.old.items))
+        (listed items.old.items) (listed items.new.items) result }
     ensures fault { IfErr result (λ fault. fault ≡ NoSuchPath) }
 {
     match rest.split_first() {

@@ -1,5 +1,5 @@
 -- Empty strings, and where they are.
-use Rattle.std.specs.Prelude.{◌++◌, ℕ, suc, List, flat_map, Option, Some, None, codes, decimal, if◌then◌else◌}
+use Rattle.std.specs.Prelude.{◌++◌, ℕ, suc, List, flat_map, Option, Some, codes, decimal, if◌then◌else◌}
 use Rattle.std.specs.declared.ops.Range.{Range}
 use Rattle.toml_edit.specs.model.Excerpt.{position_in}
 use Rattle.toml_edit.specs.model.Text.{Text, is_empty}

@@ -1,10 +1,10 @@
 -- What is set or removed at a path that a text spells.
 use Rattle.std.specs.Prelude.{◌≡◌, List}
-use Rattle.toml_edit.specs.change.Changes.{names}
-use Rattle.toml_edit.specs.key.ReadKeys.{AreLoneKeys}
 use Rattle.toml_edit.specs.laws.Commands.{done, remove_at, set_at}
+use Rattle.toml_edit.specs.model.Keys.{names}
 use Rattle.toml_edit.specs.model.Text.{Text}
 use Rattle.toml_edit.specs.model.Tree.{Key, Node, Tree}
+use Rattle.toml_edit.specs.parser.ReadKeys.{AreLoneKeys}
 
 -- the value is set at the path, as `set_at` defines it
 abbrev pub IsSetAt : Text → Node → Tree → Tree → Type 0

@@ -28,7 +28,7 @@ pub fn add_sorted(alloc: Global, table: &mut Table, name: &str, value: Value) ->
         return Ok(false);
     }
     let key = Key::from_text(alloc, name)?;
-    let at = place_for(table, name);
+    let at = new_place(table, name);
     match table.insert_at(at, key, Item::Value(value)) {
         Ok(()) => Ok(true),
         Err(refused) => {
@@ -39,7 +39,7 @@ pub fn add_sorted(alloc: Global, table: &mut Table, name: &str, value: Value) ->
 }
 
 /// Returns the place of the first key that sorts after the name, or the number of slots.
-fn place_for(table: &Table, name: &str) -> usize
+fn new_place(table: &Table, name: &str) -> usize
     ensures place { result ≡ sorted_place name.now (slots_of table.now) }
     ensures within { result ≤ length (slots_of table.now) }
 {

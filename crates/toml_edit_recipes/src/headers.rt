@@ -4,7 +4,7 @@ ghost use Rattle.toml_edit.specs.DocumentView.{tree_owned};
 
 use anyhow::Result;
 use std::alloc::Global;
-use toml_edit::{DocumentMut, Key, Value};
+use toml_edit::{DocumentMut, Key, ParsePath, Value};
 
 /// Sets `tool.fmt.width`, below a header `[tool.fmt]` that is made if it is missing.
 pub fn set_width(alloc: Global, document: &mut DocumentMut, width: i64) -> Result<()>

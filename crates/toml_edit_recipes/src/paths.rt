@@ -1,13 +1,14 @@
 //! Items by their paths.
 ghost use Rattle.std.specs.Prelude.{◌≡◌, IfOk, IsTrue, None, OnErr, option_and_then, option_map};
 ghost use Rattle.toml_edit.specs.DocumentView.{tree_owned};
-ghost use Rattle.toml_edit.specs.change.Changes.{Changes, names};
+ghost use Rattle.toml_edit.specs.change.Changes.{Changes};
 ghost use Rattle.toml_edit.specs.change.Headed.{set_at_with_headers};
 ghost use Rattle.toml_edit.specs.laws.Commands.{Refusal, done, item_at, refused, set_at};
 ghost use Rattle.toml_edit.specs.model.Scalars.{string};
 ghost use Rattle.toml_edit.specs.model.Tree.{leaf, unset};
 ghost use Rattle.toml_edit.specs.tree.Casts.{text_in};
 ghost use Rattle.toml_edit.specs.tree.View.{value_view};
+ghost use Rattle.toml_edit.specs.model.Keys.{names};
 
 use std::alloc::{AllocError, Global};
 use toml_edit::{ChangeFault, DocumentMut, Key, Mem, Value};

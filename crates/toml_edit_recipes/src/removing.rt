@@ -6,7 +6,7 @@ ghost use Rattle.toml_edit_recipes.specs.Placed.{IsRemovedAt};
 
 use anyhow::Result;
 use std::alloc::Global;
-use toml_edit::{Array, DocumentMut, Key};
+use toml_edit::{Array, DocumentMut, Key, ParsePath};
 
 /// Removes what is at a path, such as `dependencies.serde`, with its comments.
 pub fn remove(alloc: Global, document: &mut DocumentMut, path: &str) -> Result<()>

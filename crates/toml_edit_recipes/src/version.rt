@@ -7,7 +7,7 @@ ghost use Rattle.toml_edit_recipes.specs.Placed.{IsSetAt};
 
 use anyhow::{Result, bail};
 use std::alloc::Global;
-use toml_edit::{DocumentMut, Key, Value};
+use toml_edit::{DocumentMut, Key, ParsePath, Value};
 
 /// Sets the version of a package, and keeps the comments around the old one.
 pub fn set_version(alloc: Global, document: &mut DocumentMut, version: &str) -> Result<()>

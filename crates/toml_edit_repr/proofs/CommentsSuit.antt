@@ -169,10 +169,6 @@ unheaded : (P : Text → Type 0) (ls : List Text) → Headed P P ls → AllByRec
 unheaded P [] h = tt
 unheaded P (l ∷ ls) h = h
 
-begun-headed : (H P : Text → Type 0) (c : ℕ) (ls : List Text) → Headed (λ l. H (c ∷ l)) P ls → Headed H P (begun_with c ls)
-begun-headed H P c [] h = (h, tt)
-begun-headed H P c (l ∷ ls) h = h
-
 headed-begun : (H P : Text → Type 0) (c : ℕ) (ls : List Text) → Headed H P (begun_with c ls) → Headed (λ l. H (c ∷ l)) P ls
 headed-begun H P c [] h = h.0
 headed-begun H P c (l ∷ ls) h = h

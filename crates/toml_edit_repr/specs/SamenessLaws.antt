@@ -1,10 +1,10 @@
 -- Equal texts and decors are one, equality is an equivalence, and what is equal is hashed alike.
-use Rattle.std.specs.Prelude.{◌≡◌, Bool, true, false, ◌&&◌, ℕ, IsTrue, List, Option, Some, None}
+use Rattle.std.specs.Prelude.{◌≡◌, Bool, true, ℕ, IsTrue, List, Option, Some, None}
 use Rattle.std.specs.Bool.{Decides}
 use Rattle.std.specs.Cmp.{IsEquivalence, IsPartialEquivalence, partial_equiv_from_equiv, on_equiv, on_per, and_equiv, and_per}
 use Rattle.std.specs.Hash.{Alike, same_Alike, on_Alike, and-Alike}
 use Rattle.std.proofs.Common.{refl, ap, sym, ◌∙◌}
-use Rattle.std.proofs.lemmas.Bool.{eqb-true, eq-eqb}
+use Rattle.std.proofs.lemmas.Bool.{eqb-true, eq-eqb, and_parts}
 use Rattle.std.proofs.lemmas.Bool.Decides.{same_from_decides}
 use Rattle.std.proofs.lemmas.Slice.Eq.{bytes_eq-Decides}
 use Rattle.toml_edit_model.specs.Tree.{Raw, owned, span, Decor}
@@ -13,11 +13,6 @@ use Rattle.toml_edit_repr.specs.Sameness.{same_raw, same_side, same_decor, same_
 use Rattle.toml_edit_repr.specs.Sameness.{decor_hash_input, formatted_hash_input}
 
 -- ---- tests that find equal what is one
-
-both : (a b : Bool) → (a && b) ≡ true → (a ≡ true) × (b ≡ true)
-both true true e = (refl, refl)
-both true false e = absurd cc
-both false b e = absurd cc
 
 -- a test that passes one with itself, and only that
 module _ {X : Type 0} (same : X → X → Bool) (exact : (a b : X) → same a b ≡ true → a ≡ b)
@@ -41,7 +36,7 @@ module _ {X : Type 0} (same : X → X → Bool) (exact : (a b : X) → same a b 
 same_raw_exact : (a b : Raw) → same_raw a b ≡ true → a ≡ b
 same_raw_exact (owned s) (owned t) e = ap owned ((bytes_eq-Decides s t).0 e)
 same_raw_exact (span i j) (span k l) e =
-    let (first, second) = both _ _ e in
+    let (first, second) = and_parts _ _ e in
     let i-k : i ≡ k = eqb-true i k first in
     let j-l : j ≡ l = eqb-true j l second in
     cc
@@ -83,7 +78,7 @@ side_alike = same_Alike side_hash_input (decides same_side same_side_exact same_
 
 same_decor_exact : (a b : Decor) → same_decor a b ≡ true → a ≡ b
 same_decor_exact a b e =
-    let (first, second) = both _ _ e in
+    let (first, second) = and_parts _ _ e in
     let prefix = same_side_exact a.prefix b.prefix first in
     let suffix = same_side_exact a.suffix b.suffix second in
     λ i. record { prefix = prefix i; suffix = suffix i }

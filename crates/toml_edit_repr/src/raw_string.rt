@@ -183,7 +183,7 @@ impl RawString {
         ensures text { IfSome result (λ text. owned text.now ≡ owned_raw source.now self.now) }
     {
         match &self.inner {
-            Inner::Span(start, end) => covered(source, *start, *end),
+            Inner::Span(start, end) => covered_text(source, *start, *end),
             _ => self.as_str(),
         }
     }
@@ -233,7 +233,7 @@ pub(crate) fn is_space(text: &str) -> bool
 }
 
 /// Returns the bytes of the source from `start` up to `end`, or `None` where they are no text.
-fn covered(source: &str, start: usize, end: usize) -> Option<&str>
+fn covered_text(source: &str, start: usize, end: usize) -> Option<&str>
     ensures some { IsSome result ↔ RawFits source.now (span start end) }
     ensures text { IfSome result (λ text. text.now ≡ cut_out source.now start end) }
 {

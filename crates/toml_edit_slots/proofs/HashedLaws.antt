@@ -20,7 +20,8 @@ use Rattle.toml_edit_slots.specs.declared.slots.Slot.{Slot}
 use Rattle.toml_edit_slots.proofs.IndexLaws.{before-removed, cases_option, length-names, none_of, place_in-congr, place_in-is, place_in-own}
 use Rattle.toml_edit_slots.proofs.IndexLaws.{some_place}
 use Rattle.toml_edit_slots.proofs.NewLaws.{with_text-new, with_text-there}
-use Rattle.toml_edit_slots.proofs.SlotLaws.{none_next, some_next}
+use Rattle.toml_edit_slots.proofs.SlotLaws.{some_next}
+use Rattle.toml_edit_laws.proofs.slots.Places.{none_next}
 
 -- a change at a long text changes no short one
 pub long-changed : (m n : Hashed) (u : Text) (w : Option ℕ) → n.short ≡ m.short → is_short u ≡ false

@@ -1,11 +1,10 @@
 -- Slots put in the order of their places.
-use Rattle.std.proofs.Common.{◌≡◌, ℕ, suc, ◌≤◌, ◌<◌, Bool, true, false, List, [], ◌∷◌, Option, Some, None, is_some, length, get_or, set}
+use Rattle.std.proofs.Common.{◌≡◌, ℕ, suc, ◌≤◌, Bool, true, false, List, [], ◌∷◌, Option, Some, None, is_some, length, get_or, set}
 use Rattle.std.proofs.Common.{refl, sym, ap, ◌∙◌, inl, inr, arith, nat_le, option_map}
 use Rattle.std.specs.Prelude.{◌||◌, ◌&&◌, if◌then◌else◌}
 use Rattle.std.specs.Global.{Box}
 use Rattle.std.specs.List.{IsDistinct, AllByRecursion}
 use Rattle.std.proofs.lemmas.Bool.{cases_Bool}
-use Rattle.std.proofs.lemmas.Bool.Decides.{nat_tests}
 use Rattle.std.proofs.lemmas.Cmp.{nat_list_eq_equiv}
 use Rattle.std.proofs.lemmas.Option.{none-some, same_Some}
 use Rattle.std.proofs.lemmas.Slice.Eq.{bytes_eq-Decides}
@@ -44,18 +43,6 @@ module _ {T : Type 0} where
   abbrev pub starts_from : ℕ → List (Slot T) → Bool
   starts_from n [] = true
   starts_from n (s ∷ es) = nat_le n (key_place s.key) && is_sorted_by by_place (s ∷ es)
-
-  pub from-zero : (es : List (Slot T)) → is_sorted_by by_place es ≡ starts_from 0 es
-  from-zero [] = refl
-  from-zero (s ∷ es) = let e : nat_le 0 (key_place s.key) ≡ true = grind (arith, nat_tests) in rw e refl
-
-  pub from-next : (n : ℕ) (s : Slot T) (es : List (Slot T)) → n ≤ key_place s.key → starts_from n (s ∷ es)
-      ≡ starts_from (key_place s.key) es
-  from-next n s [] h = let e : nat_le n (key_place s.key) ≡ true = grind (arith, nat_tests) in rw e refl
-  from-next n s (t ∷ es) h = let e : nat_le n (key_place s.key) ≡ true = grind (arith, nat_tests) in rw e refl
-
-  pub from-later : (n : ℕ) (s : Slot T) (es : List (Slot T)) → key_place s.key < n → starts_from n (s ∷ es) ≡ false
-  from-later n s es h = let e : nat_le n (key_place s.key) ≡ false = grind (arith, nat_tests) in rw e refl
 
   -- slots that are in order stay
   pub sorted-stays : (es : List (Slot T)) → is_sorted_by by_place es ≡ true → sorted_by by_place es ≡ es

@@ -5,7 +5,7 @@ use Rattle.std.proofs.lemmas.Bool.{cases_Bool, false≢true}
 use Rattle.std.proofs.lemmas.Cmp.{nat_list_eq_equiv}
 use Rattle.std.proofs.lemmas.Option.{none-some, same_Some}
 use Rattle.std.specs.List.{IsDistinct, AllByRecursion}
-use Rattle.toml_edit_laws.proofs.slots.Places.{changed-none, has_slot-none, none_at}
+use Rattle.toml_edit_laws.proofs.slots.Places.{changed-none, has_slot-none, none_at, none_next}
 use Rattle.toml_edit_model.specs.Text.{Text, same_text}
 use Rattle.toml_edit_model.specs.Tree.{Key}
 use Rattle.toml_edit_model.specs.Rearranging.{is_free, renamed_key, renamed_slot}
@@ -18,7 +18,7 @@ use Rattle.toml_edit_slots.specs.declared.slots.rearrange.Renamed.TheVariants.{D
 use Rattle.toml_edit_slots.proofs.IndexLaws.{place_in-congr, place_in-is, some_after}
 use Rattle.toml_edit_slots.proofs.KeptLaws.{some_before}
 use Rattle.toml_edit_slots.proofs.SeenLaws.{one_seen, place-seen}
-use Rattle.toml_edit_slots.proofs.SlotLaws.{none_named, none_next, some_next}
+use Rattle.toml_edit_slots.proofs.SlotLaws.{none_named, some_next}
 
 -- ---- texts
 

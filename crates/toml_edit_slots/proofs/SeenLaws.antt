@@ -121,10 +121,3 @@ pub extended_last : {T : Type 0} (es : List (model.Slot T)) (ps : List (Key × T
     ≡ model.put (model.with_item p.1) (pair_seen p) (model.extended (map pair_seen ps) es)
 extended_last es [] p = refl
 extended_last es (q ∷ ps) p = extended_last (model.put (model.with_item q.1) (pair_seen q) es) ps p
-
--- another item in a slot
-pub with_item-seen : {T : Type 0} (i : ℕ) (x : T) (es : List (Slot T)) → seen (with_item i x es)
-    ≡ model.changed_at i (model.with_item x) (seen es)
-with_item-seen i x [] = refl
-with_item-seen zero x (s ∷ es) = refl
-with_item-seen (suc i) x (s ∷ es) = ap (λ l. one_seen s ∷ l) (with_item-seen i x es)

@@ -1,5 +1,5 @@
 -- What a place says of the slots: its slot, and the slots once that one is another or gone.
-use Rattle.std.proofs.Common.{◌≡◌, Result, Ok, Err, OnOk, ℕ, zero, suc, ◌+◌, ◌<◌, true, false, cond, nat_lt, List, [], ◌∷◌, ◌++◌, Option}
+use Rattle.std.proofs.Common.{◌≡◌, Result, Ok, Err, OnOk, ℕ, zero, suc, ◌+◌, ◌<◌, true, false, List, [], ◌∷◌, ◌++◌, Option}
 use Rattle.std.proofs.Common.{Some, None, IfSome, option_map, length, get_or, set, remove, refl, sym, ap, subst, ◌∙◌, inl, inr, arith}
 use Rattle.std.proofs.Common.{rules, position, slice_get, take, option_and_then}
 use Rattle.std.proofs.lemmas.Bool.{cases_Bool}
@@ -12,24 +12,12 @@ use Rattle.toml_edit_model.specs.Tree.{Key}
 use Rattle.toml_edit_model.specs.Keys.{new_key, reset_key}
 use Rattle.toml_edit_slots.specs.declared.slots.Slot.{Slot}
 use Rattle.toml_edit_slots.specs.Slots.{is_at, names, AreApart, place, lookup, lookup_slot, put, without, items_of, with_item, on_key}
-
--- the place after the first slot, in both ways of counting
-next_place : (n m : ℕ) → cond (nat_lt (1 + n) (suc m)) (Some (1 + n)) None ≡ option_map suc (cond (nat_lt n m) (Some n) None)
-next_place n m =
-    elim (cases_Bool (nat_lt n m)) [
-      | inl below ↦ grind (arith, rules, below)
-      | inr above ↦ grind (arith, rules, above)
-    ]
+use Rattle.toml_edit_laws.proofs.slots.Places.{next_place, none_next}
 
 -- a place after the first slot is one of the others
 pub some_next : (o : Option ℕ) (i : ℕ) → option_map suc o ≡ Some i → (j : ℕ) × (o ≡ Some j) × (i ≡ suc j)
 some_next None i h = absurd (none-some i h)
 some_next (Some j) i h = (j, refl, sym (same_Some (suc j) i h))
-
--- no place among the others, where there is none after the first
-pub none_next : (o : Option ℕ) → option_map suc o ≡ None → o ≡ None
-none_next None h = refl
-none_next (Some j) h = absurd (none-some (suc j) (sym h))
 
 module _ {T : Type 0} (t : Text) where
   -- the place is the position of the first slot that passes the test

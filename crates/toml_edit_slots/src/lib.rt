@@ -1,8 +1,9 @@
-//! The container that tables store their keys and items in.
+//! The container that tables store their keys and items in, and the lists of elements of arrays.
 #![tactic(auto)]
 
 mod hashed;
 mod index;
+pub mod list;
 mod order;
 mod places;
 mod short_name;

@@ -49,7 +49,7 @@ impl Places {
         requires indexed { IsIndexOf self.now (names entries.now) }
         ensures { result ≡ place name.now entries.now }
     {
-        let at = self.noted(name)?;
+        let at = self.noted_place(name)?;
         if is_named_at(entries, at, name.as_bytes()) {
             Some(at)
         } else {
@@ -58,7 +58,7 @@ impl Places {
     }
 
     /// Returns the place that is noted of the name. It may be that of another name, or of no slot.
-    fn noted(&self, name: &str) -> Option<usize>
+    fn noted_place(&self, name: &str) -> Option<usize>
         ensures { result ≡ noted_place self.now name.now }
     {
         if let Some(at) = self.names.get(name) {

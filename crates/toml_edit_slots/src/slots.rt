@@ -1,6 +1,7 @@
 //! The slots of a table: its keys with their items, in order.
 ghost use Rattle.std.specs.Prelude.{◌≡◌, ◌<◌, ◌↔◌, ℕ, IsTrue, [], ◌∷◌, ◌++◌, None, Some, IsSome, IsOk, length, IfOk, IfErr, IfSome, OnOk, OnErr, slice_get, vec_len, vec_capacity, option_and_then, option_map, take};
 ghost use Rattle.std.specs.Option.{ForSome, option_copied, option_copied_mut};
+ghost use Rattle.toml_edit_model.specs.Keys.{cleared_key};
 
 use crate::index::{Index, add_new_place, close_gap, find_place, index_those};
 use crate::order::{is_in_order, sort_entries};
@@ -8,13 +9,11 @@ use std::alloc::{AllocError, Global};
 use std::error::Error;
 use std::marker::Model;
 use std::{fmt, mem};
-use toml_edit_key::Key;
-use toml_edit_repr::Mem;
+use toml_edit_key::{Key, KeyMut};
+use toml_edit_repr::{Decor, Mem};
 
-mod at;
 mod insert;
 pub mod rearrange;
-mod unset;
 mod whole;
 
 /// The error of a call that ran out of memory, with the value that could not be stored.
@@ -65,7 +64,7 @@ impl<T> Refused<T> {
     /// Returns the place of the slot that has the name already, or `None` if memory ran out.
     ///
     /// Drops the slot that was not added.
-    pub fn place(self) -> Option<usize>
+    pub fn present_place(self) -> Option<usize>
     where
         T: Drop,
         ensures { (slot : T) (there : Option ℕ) → IsRefusal slot there self → result ≡ there }
@@ -155,9 +154,12 @@ impl<T> Model for Slots<T> {
 
 impl<T> Slots<T> {
     ghost use Rattle.std.specs.Borrow.{sem};
+    ghost use Rattle.std.specs.Prelude.{remove};
+    ghost use Rattle.toml_edit_key.specs.KeyMutView.{key_of};
+    ghost use Rattle.toml_edit_model.specs.Keys.{reset_key};
     ghost use Rattle.toml_edit_model.specs.Tree.{HasTrueSpelling};
     ghost use Rattle.toml_edit_model.specs.Spelling.{SpellsKey};
-    ghost use Rattle.toml_edit_slots.specs.Lending.{LendsItem, LendsFound};
+    ghost use Rattle.toml_edit_slots.specs.Lending.{LendsDottedAt, LendsFound, LendsItem, LendsKeyAt, LendsLeafAt};
     ghost use Rattle.toml_edit_slots.specs.Refusals.{IsRefusal};
     ghost use Rattle.toml_edit_slots.specs.Slots.{AreApart, place, lookup, lookup_slot, put, without, items_of, on_key, names};
     ghost use Rattle.toml_edit_slots.specs.InPlace.{by_place, replaced};
@@ -205,6 +207,15 @@ impl<T> Slots<T> {
             (λ slot. place slot.key.name (take at self.now) ≡ None) }
     {
         self.entries.as_slice()
+    }
+
+    /// Returns the slots in order as a vector.
+    pub fn into_vec(self) -> Vec<Slot<T>>
+        ensures { result.items ≡ self }
+    {
+        let Slots { entries, index } = self;
+        drop(index);
+        entries
     }
 
     /// Returns the number of slots.
@@ -304,7 +315,7 @@ impl<T> Slots<T> {
     {
         let alloc = *self.entries.allocator();
         if make_room(&mut self.entries).is_err() {
-            return Err(self.refused(slot));
+            return Err(self.refusal(slot));
         }
         let room = self.entries.capacity();
         match add_new_place(&mut self.index, alloc, &self.entries, room, slot.key.get()) {
@@ -375,7 +386,7 @@ impl<T> Slots<T> {
     /// Returns the error for a slot for which there is no memory. Its name may be there already.
     #[cold]
     #[inline(never)]
-    fn refused(&self, slot: Slot<T>) -> Refused<Slot<T>>
+    fn refusal(&self, slot: Slot<T>) -> Refused<Slot<T>>
         ensures { IsRefusal slot (place slot.key.name self.now) result }
     {
         match self.find(slot.key.get()) {
@@ -433,6 +444,33 @@ impl<T> Slots<T> {
         Some(self.entries.remove(at))
     }
 
+    /// Removes the slot at the place, and returns it. The others keep their order. Allocates
+    /// nothing.
+    pub fn remove_at(&mut self, at: usize) -> Slot<T>
+        requires { at < length self.old }
+        ensures slot { slice_get self.old at ≡ Some result }
+        ensures slots { self.new ≡ remove self.old at }
+        ensures seen { seen self.new ≡ without_seen result.key.name (seen self.old) }
+    {
+        close_gap(
+            &mut self.index,
+            &self.entries,
+            self.entries[at].key.get(),
+            at,
+        );
+        self.entries.remove(at)
+    }
+
+    /// Removes all slots.
+    pub fn clear(&mut self)
+    where
+        T: Drop,
+        ensures { self.new ≡ [] }
+    {
+        self.entries.clear();
+        self.index = None;
+    }
+
     /// Replaces the slot with the same name, and returns the old one.
     pub fn replace(&mut self, at: usize, slot: Slot<T>) -> Slot<T>
         requires { place slot.key.name self.old ≡ Some at }
@@ -479,6 +517,57 @@ impl<T> Slots<T> {
         let spanned = &mut self.entries[at];
         spanned.key.despan(alloc, source)
     }
+
+    /// Returns a mutable reference to the decor that the key at the place has as the last key of a
+    /// path.
+    pub fn leaf_decor_mut(&mut self, at: usize) -> &mut Decor
+        requires { at < length self.old }
+        ensures* writes_back { sem 𝓛 (LendsLeafAt T.row self.entry at result) }
+        ensures decor { option_map (λ slot. slot.key.leaf) (slice_get self.old at)
+            ≡ Some result.now }
+    {
+        let slot = &mut self.entries[at];
+        slot.key.leaf_decor_mut()
+    }
+
+    /// Returns a mutable reference to the decor that the key at the place has before a dot.
+    pub fn dotted_decor_mut(&mut self, at: usize) -> &mut Decor
+        requires { at < length self.old }
+        ensures* writes_back { sem 𝓛 (LendsDottedAt T.row self.entry at result) }
+        ensures decor { option_map (λ slot. slot.key.dotted) (slice_get self.old at)
+            ≡ Some result.now }
+    {
+        let slot = &mut self.entries[at];
+        slot.key.dotted_decor_mut()
+    }
+
+    /// Returns a mutable view of the key at the place. Its name cannot be changed.
+    pub fn key_mut(&mut self, at: usize) -> KeyMut<'_>
+        requires { at < length self.old }
+        ensures* writes_back { sem 𝓛 (LendsKeyAt T.row self.entry at result) }
+        ensures key { option_map (λ slot. slot.key) (slice_get self.old at) ≡ Some (key_of result) }
+    {
+        let slot = &mut self.entries[at];
+        slot.key.as_mut()
+    }
+
+    /// Removes the formatting of the key at the place: its spelling and its decors.
+    pub fn fmt_key(&mut self, at: usize)
+        requires { at < length self.old }
+        ensures { self.new ≡ on_key at reset_key self.old }
+    {
+        let slot = &mut self.entries[at];
+        slot.key.fmt();
+    }
+
+    /// Removes the decors of the key at the place, which keeps its spelling. Allocates nothing.
+    pub fn clear_decors(&mut self, at: usize)
+        requires { at < length self.old }
+        ensures { self.new ≡ on_key at cleared_key self.old }
+    {
+        let slot = &mut self.entries[at];
+        clear_key(&mut slot.key);
+    }
 }
 
 /// Makes room for one more slot. Fails only if memory runs out.
@@ -494,4 +583,12 @@ fn make_room<T>(entries: &mut Vec<Slot<T>>) -> Mem<()>
         return entries.reserve_exact(1);
     }
     entries.reserve(1)
+}
+
+/// Removes the decors of a key.
+fn clear_key(key: &mut Key)
+    ensures { key.new ≡ cleared_key key.old }
+{
+    key.leaf_decor_mut().clear();
+    key.dotted_decor_mut().clear();
 }

@@ -103,12 +103,12 @@ impl Tally {
     /// Returns whether no further key of the class may begin in its region.
     #[inline(always)]
     pub(crate) fn is_full(&self, class: usize) -> bool {
-        self.counted(class) >= MOST_ALIKE || self.counted(class / COUNTS * COUNTS) >= MOST
+        self.count_at(class) >= MOST_ALIKE || self.count_at(class / COUNTS * COUNTS) >= MOST
     }
 
     /// Returns the count at the place.
     #[inline(always)]
-    fn counted(&self, at: usize) -> u8 {
+    fn count_at(&self, at: usize) -> u8 {
         match self.counts.get(at) {
             Some(count) => *count,
             None => 0,

@@ -23,15 +23,17 @@ use Rattle.toml_edit_syntax.specs.StatementReading.{statement_read}
 use Rattle.toml_edit_syntax.specs.Batches.{EndsWith, IsBatch}
 use Rattle.toml_edit_syntax.proofs.Outcomes.{outcome, has_room, no_room}
 use Rattle.toml_edit_syntax.proofs.SpanLaws.{AreSpans, Cut, both_spans}
-use Rattle.toml_edit_syntax.proofs.StatementLaws.{leading_of, tail_text, statement_then, leading_is, tail_begins, statement_takes, depth_of}
+use Rattle.toml_edit_syntax.proofs.StatementLaws.{statement_then, tail_begins, statement_takes, depth_of}
 use Rattle.toml_edit_syntax.proofs.StatementLaws.{statement_reads}
-use Rattle.toml_edit_syntax.proofs.CutLaws.{statements_text, first_of, later_of, statements_then, statements_fit, statements_stay}
+use Rattle.toml_edit_syntax.proofs.CutLaws.{statements_fit, statements_stay}
 use Rattle.toml_edit_syntax.proofs.CutLaws.{scan_final, scan_leading, scanned_trivia, final_takes}
 use Rattle.toml_edit_syntax.proofs.StatementSpans.{statement_spans, final_spans}
 use Rattle.toml_edit_syntax.proofs.StatementDeep.{statement_stops_in}
 use Rattle.toml_edit_syntax.proofs.DeepEvents.{statement_exceeds}
 use Rattle.toml_edit_syntax.proofs.EventSteps.{between, event_is}
 use Rattle.toml_edit_laws.proofs.reading.Begins.{ascii_final}
+use Rattle.toml_edit_laws.proofs.one_cut.Documents.{first_of, later_of, statements_then, statements_text}
+use Rattle.toml_edit_laws.proofs.one_cut.Statements.{leading_of, statement_tail, leading_is}
 
 -- ---- what a turn reads is in the text
 
@@ -127,28 +129,29 @@ module _ (s : Statement) (more : List Statement) (final rest leading tail : Text
   abbrev pub behind_it : Text
   behind_it = statements_text more ++ final
 
-  same : rest ≡ leading_of s ++ tail_text s behind_it
+  same : rest ≡ leading_of s ++ statement_tail s behind_it
   same = is ∙ statements_then s more final ∙ statement_then s behind_it
 
   len-is : n ≡ length (leading_of s)
   len-is =
       let ends = first_of s more final are in
       ap (λ (r : ℕ × Bool). r.0) (scanned ∙ ap (scan false) same
-      ∙ (scan_leading (leading_of s) (tail_text s behind_it) (leading_is s behind_it ends) (tail_begins s behind_it ends)).0)
+      ∙ (scan_leading (leading_of s) (statement_tail s behind_it) (leading_is s behind_it ends) (tail_begins s behind_it ends)).0)
 
   pub some_left : 0 < length tail
   some_left =
       let ends = first_of s more final are in
-      let some = (scan_leading (leading_of s) (tail_text s behind_it) (leading_is s behind_it ends) (tail_begins s behind_it ends)).1 in
+      let some = (scan_leading (leading_of s) (statement_tail s behind_it) (leading_is s behind_it ends)
+      (tail_begins s behind_it ends)).1 in
       subst (λ (x : Text). 0 < length x) (sym (t-is ∙ ap (λ (x : Text). drop n x) same
-      ∙ drop_at (leading_of s) (tail_text s behind_it) n (sym len-is))) some
+      ∙ drop_at (leading_of s) (statement_tail s behind_it) n (sym len-is))) some
 
   pub reads_again : (at : ℕ) → statement_at 0 at leading tail
       ≡ outcome (has_room 0 (depth_of s)) s behind_it (shortened 0 (statement_events at s))
   reads_again at =
       ap₂ (λ (x y : Text). statement_at 0 at x y) (l-is ∙ ap (λ (x : Text). take n x) same
-      ∙ take_at (leading_of s) (tail_text s behind_it) n (sym len-is))
-      (t-is ∙ ap (λ (x : Text). drop n x) same ∙ drop_at (leading_of s) (tail_text s behind_it) n (sym len-is))
+      ∙ take_at (leading_of s) (statement_tail s behind_it) n (sym len-is))
+      (t-is ∙ ap (λ (x : Text). drop n x) same ∙ drop_at (leading_of s) (statement_tail s behind_it) n (sym len-is))
       ∙ statement_reads 0 at s behind_it (first_of s more final are)
 
 -- the final trivia is scanned to its end

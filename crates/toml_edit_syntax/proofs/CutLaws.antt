@@ -1,29 +1,30 @@
 -- What reads as statements are statements, and statements are read again, up to a bracket that is one too many.
-use Rattle.std.proofs.Common.{◌≡◌, ℕ, zero, suc, ◌+◌, ◌-◌, ◌<◌, Bool, true, false, ◌==◌, ◌&&◌, List, [], ◌∷◌, ◌++◌, length, map, drop, take}
-use Rattle.std.proofs.Common.{refl, sym, ap, subst, ◌∙◌, inl, inr, arith, append_assoc, append-nil, take_at, drop_at, eqb-true, le_refl}
+use Rattle.std.proofs.Common.{◌≡◌, ℕ, zero, suc, ◌+◌, ◌-◌, ◌<◌, Bool, true, false, ◌==◌, ◌&&◌, List, [], ◌∷◌, ◌++◌, length, drop, take}
+use Rattle.std.proofs.Common.{refl, sym, ap, subst, ◌∙◌, inl, inr, arith, append-nil, take_at, drop_at, eqb-true, le_refl}
 use Rattle.std.specs.List.{flat_map}
 use Rattle.std.proofs.lemmas.Bool.{ne_eqb, and_parts, false≢true}
 use Rattle.std.proofs.lemmas.Bool.Decides.{nat_tests}
 use Rattle.std.proofs.lemmas.List.{take-append-drop, length-append, nil_from_length, drop_all}
-use Rattle.toml_edit_model.specs.Text.{Text, joined}
+use Rattle.toml_edit_model.specs.Text.{Text}
 use Rattle.toml_edit_model.specs.Trivia.{comment, piece_text, IsWholeTrivia, IsNewline, IsFinalTrivia}
-use Rattle.toml_edit_model.specs.Syntax.{Statement, key_line, header, statement_text, IsStatement, AreStatements}
+use Rattle.toml_edit_model.specs.Syntax.{Statement, statement_text, AreStatements}
 use Rattle.toml_edit_syntax.specs.Scanning.{scan}
 use Rattle.toml_edit_syntax.specs.ValueEvents.{shortened}
 use Rattle.toml_edit_syntax.specs.ValueReading.{Reading, got, deep, wrong, follow, changed, behind}
 use Rattle.toml_edit_syntax.specs.Events.{statement_events, events_from}
 use Rattle.toml_edit_syntax.specs.Reading.{statement_at, statements_at}
 use Rattle.toml_edit_laws.proofs.reading.Steps.{chosen}
-use Rattle.toml_edit_syntax.proofs.ScanningLaws.{IsEnding}
 use Rattle.toml_edit_syntax.proofs.ReadingSteps.{same_got, follow_got, changed_got, behind_got, scan_again}
 use Rattle.toml_edit_syntax.proofs.ShortenedLaws.{Stays, Stops, stays_then, stops_first, stops_then, Fits, cases_fits}
 use Rattle.toml_edit_syntax.proofs.Outcomes.{ValueBegins, outcome, has_room, has_room_true, has_room_false, changed_outcome}
 use Rattle.toml_edit_syntax.proofs.Outcomes.{behind_outcome}
 use Rattle.toml_edit_syntax.proofs.TriviaLaws.{further, scan_nil, scan-pieces, scan-comment, scan_took, Outside}
 use Rattle.toml_edit_laws.proofs.reading.Begins.{StartsAscii, ascii_trivia, ascii_final}
+use Rattle.toml_edit_laws.proofs.one_cut.Documents.{ends_weaken, first_of, later_of, statements_then, statements_text}
+use Rattle.toml_edit_laws.proofs.one_cut.Statements.{leading_of, statement_tail, leading_is, IsEnding, EndsAt}
 use Rattle.toml_edit_syntax.proofs.SpanLaws.{ascii_value}
 use Rattle.toml_edit_syntax.proofs.HeaderLaws.{Entry}
-use Rattle.toml_edit_syntax.proofs.StatementLaws.{EndsAt, leading_of, tail_text, statement_then, leading_is, tail_begins, some_statement}
+use Rattle.toml_edit_syntax.proofs.StatementLaws.{statement_then, tail_begins, some_statement}
 use Rattle.toml_edit_syntax.proofs.StatementLaws.{statement_takes, depth_of, statement_stays, statement_stops, statement_reads}
 
 -- ---- final trivia
@@ -61,25 +62,6 @@ final_takes text ended =
 
 -- ---- statements
 
-abbrev pub statements_text : List Statement → Text
-statements_text ss = joined (map statement_text ss)
-
--- what ends a statement depends on what follows it
-pub ends_weaken : (Weak Strong : Text → Type 0) (s : Statement) → ((end : Text) → Weak end → Strong end) → IsStatement Weak s
-    → IsStatement Strong s
-ends_weaken Weak Strong (key_line f v end) more (frame, value, ends) = (frame, value, more end ends)
-ends_weaken Weak Strong (header h end) more (is, ends) = (is, more end ends)
-
--- the first of the statements, and the others
-pub first_of : (s : Statement) (ss : List Statement) (final : Text) → AreStatements final (s ∷ ss) → EndsAt (statements_text ss ++ final) s
-first_of s [] final is = is
-first_of s (r ∷ rest) final (is, more) =
-    ends_weaken IsNewline (λ end. IsEnding end (statements_text (r ∷ rest) ++ final)) s (λ end newline. inl newline) is
-
-pub later_of : (s : Statement) (ss : List Statement) (final : Text) → AreStatements final (s ∷ ss) → AreStatements final ss
-later_of s [] final is = tt
-later_of s (r ∷ rest) final (is, more) = more
-
 not_empty : (s : Statement) (ss : List Statement) (final : Text) → AreStatements final (s ∷ ss) → statements_text (s ∷ ss) ++ final ≡ [] → ⊥
 not_empty s ss final is empty =
     let some = some_statement (λ end. IsEnding end (statements_text ss ++ final)) s (first_of s ss final is) in
@@ -100,10 +82,6 @@ more_statements s (r ∷ rest) final is are =
     newline_of : (end : Text) → IsEnding end (statements_text (r ∷ rest) ++ final) → IsNewline end
     newline_of end (inl newline) = newline
     newline_of end (inr (nothing, ended)) = absurd (not_empty r rest final are ended)
-
-pub statements_then : (s : Statement) (ss : List Statement) (final : Text) → statements_text (s ∷ ss) ++ final ≡ statement_text s
-    ++ (statements_text ss ++ final)
-statements_then s ss final = append_assoc (statement_text s) (statements_text ss) final
 
 -- ---- what is read
 
@@ -216,7 +194,7 @@ statement_outcome : (n level at : ℕ) (s : Statement) (ss : List Statement) (fi
     → EndsAt rest s
     → statements_at n level (at + length (statement_text s)) rest
     ≡ outcome (statements_fit level ss) ss final (shortened level (events_from (at + length (statement_text s)) ss))
-    → follow (statement_at level at (leading_of s) (tail_text s rest)) (then_statements n level at t)
+    → follow (statement_at level at (leading_of s) (statement_tail s rest)) (then_statements n level at t)
     ≡ outcome (statements_fit level (s ∷ ss)) (s ∷ ss) final (shortened level (events_from at (s ∷ ss)))
 statement_outcome n level at s ss final rest t parts is read =
     let next = at + length (statement_text s) in
@@ -252,13 +230,14 @@ statements_read_again [] final (suc n) level at are last room = rw (scan_final f
 statements_read_again (s ∷ ss) final (suc n) level at are last room =
     let rest = statements_text ss ++ final in
     let is = first_of s ss final are in
-    let same : statements_text (s ∷ ss) ++ final ≡ leading_of s ++ tail_text s rest = statements_then s ss final ∙ statement_then s rest in
-    let (scanned, some) = scan_leading (leading_of s) (tail_text s rest) (leading_is s rest is) (tail_begins s rest is) in
+    let same : statements_text (s ∷ ss) ++ final ≡ leading_of s ++ statement_tail s rest = statements_then s ss final
+    ∙ statement_then s rest in
+    let (scanned, some) = scan_leading (leading_of s) (statement_tail s rest) (leading_is s rest is) (tail_begins s rest is) in
     let full = some_statement (λ end. IsEnding end rest) s is in
     let fits : length rest < n = omega (arith, ap length (statements_then s ss final), length-append (statement_text s) rest) in
     ap (statements_at (suc n) level at) same
-    ∙ statements_open n level at (leading_of s) (tail_text s rest) scanned some
-    ∙ statement_outcome n level at s ss final rest (leading_of s ++ tail_text s rest) (sym (statement_then s rest)) is
+    ∙ statements_open n level at (leading_of s) (statement_tail s rest) scanned some
+    ∙ statement_outcome n level at s ss final rest (leading_of s ++ statement_tail s rest) (sym (statement_then s rest)) is
     (statements_read_again ss final n level (at + length (statement_text s)) (later_of s ss final are) last fits)
 
 -- ---- statements begin with an ASCII byte
@@ -266,9 +245,9 @@ statements_read_again (s ∷ ss) final (suc n) level at are last room =
 pub ascii_statement : (s : Statement) (rest : Text) → EndsAt rest s → StartsAscii (statement_text s ++ rest)
 ascii_statement s rest is =
     let (c, cs, begins, opening) = tail_begins s rest is in
-    let low : StartsAscii (tail_text s rest) =
-    subst StartsAscii (append-nil (tail_text s rest)) (ascii_value (tail_text s rest) [] (c, cs, begins, opening)) in
-    rw (statement_then s rest) (ascii_trivia (leading_of s) (tail_text s rest) (leading_is s rest is) low)
+    let low : StartsAscii (statement_tail s rest) =
+    subst StartsAscii (append-nil (statement_tail s rest)) (ascii_value (statement_tail s rest) [] (c, cs, begins, opening)) in
+    rw (statement_then s rest) (ascii_trivia (leading_of s) (statement_tail s rest) (leading_is s rest is) low)
 
 pub ascii_statements : (ss : List Statement) (final : Text) → AreStatements final ss → IsFinalTrivia final
     → StartsAscii (statements_text ss ++ final)

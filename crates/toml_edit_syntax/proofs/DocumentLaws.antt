@@ -14,8 +14,9 @@ use Rattle.toml_edit_syntax.specs.Reading.{statements_at, is_marked, document, c
 use Rattle.toml_edit_syntax.proofs.ReadingSteps.{same_got, follow_got}
 use Rattle.toml_edit_syntax.proofs.Outcomes.{outcome, follow_outcome}
 use Rattle.toml_edit_syntax.proofs.ValueAgain.{outcome_same}
-use Rattle.toml_edit_syntax.proofs.CutLaws.{statements_text, statements_take, statements_fit, statements_stay, statements_stop}
+use Rattle.toml_edit_syntax.proofs.CutLaws.{statements_take, statements_fit, statements_stay, statements_stop}
 use Rattle.toml_edit_syntax.proofs.CutLaws.{statements_read_again, ascii_statements}
+use Rattle.toml_edit_laws.proofs.one_cut.Documents.{statements_text}
 
 -- ---- the byte order mark
 

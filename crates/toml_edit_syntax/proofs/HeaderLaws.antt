@@ -15,8 +15,9 @@ use Rattle.toml_edit_laws.proofs.common.OptionSteps.{bind_some, map_some}
 use Rattle.toml_edit_laws.proofs.reading.Steps.{guard_some, starts, split_parts}
 use Rattle.toml_edit_laws.proofs.reading.RunLaws.{Each-run, split_while-run}
 use Rattle.toml_edit_laws.proofs.reading.Begins.{begins_not}
-use Rattle.toml_edit_syntax.proofs.ScanningLaws.{front_is, front_of, blank_first, line_end_takes, line_end_again, IsEnding, newline_takes}
-use Rattle.toml_edit_syntax.proofs.ScanningLaws.{newline_again, ending_first}
+use Rattle.toml_edit_laws.proofs.one_cut.Statements.{ending_first, IsEnding}
+use Rattle.toml_edit_syntax.proofs.ScanningLaws.{front_is, front_of, blank_first, line_end_takes, line_end_again, newline_takes}
+use Rattle.toml_edit_syntax.proofs.ScanningLaws.{newline_again}
 use Rattle.toml_edit_syntax.proofs.ReadingSteps.{follow_got, changed_got, reading_got}
 use Rattle.toml_edit_syntax.proofs.PathLaws.{EndsPath, PathTook, path_takes, path_again, path_begins, ends_path}
 

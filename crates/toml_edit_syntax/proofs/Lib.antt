@@ -12,6 +12,7 @@ pub mod SpanLaws
 pub mod DeepLaws
 pub mod DeepEvents
 pub mod Whole
+pub mod LonePathLaws
 pub mod LoneValueLaws
 pub mod EventSteps
 pub mod PathTurns

@@ -19,7 +19,6 @@ use Rattle.toml_edit_syntax.specs.LoneEvents.{AreLoneEvents, ValueOpensTooMany}
 use Rattle.toml_edit_laws.proofs.reading.Steps.{chosen, split_parts}
 use Rattle.toml_edit_laws.proofs.reading.RunLaws.{Each-run, split_while-run}
 use Rattle.toml_edit_laws.proofs.reading.Begins.{StartsAscii, ascii_blank}
-use Rattle.toml_edit_syntax.proofs.ScanningLaws.{blank_ends}
 use Rattle.toml_edit_syntax.proofs.ReadingSteps.{same_got, follow_got}
 use Rattle.toml_edit_syntax.proofs.ShortenedLaws.{value_stays, cases_fits}
 use Rattle.toml_edit_syntax.proofs.ValueTakes.{value_takes}
@@ -27,6 +26,7 @@ use Rattle.toml_edit_syntax.proofs.Outcomes.{value_begins, value_begins_not, out
 use Rattle.toml_edit_syntax.proofs.Outcomes.{follow_outcome}
 use Rattle.toml_edit_syntax.proofs.ValueAgain.{value_reads}
 use Rattle.toml_edit_laws.proofs.one_cut.Values.{one_value}
+use Rattle.toml_edit_laws.proofs.one_cut.Statements.{blank_ends}
 use Rattle.toml_edit_syntax.proofs.SpanLaws.{Cut, AreSpans, value_spans}
 use Rattle.toml_edit_syntax.proofs.DeepEvents.{value_is_deep}
 use Rattle.toml_edit_syntax.specs.Events.{exceeds_depth}

@@ -19,6 +19,7 @@ use Rattle.toml_edit_laws.proofs.common.OptionSteps.{bind_some, map_some}
 use Rattle.toml_edit_laws.proofs.reading.RunLaws.{Each-run, prefix_len-run, split_while-run}
 use Rattle.toml_edit_laws.proofs.reading.Begins.{is_opening, Begins, key_begins, begins_not}
 use Rattle.toml_edit_laws.proofs.reading.TokenLaws.{key_takes, key_again}
+use Rattle.toml_edit_laws.proofs.one_cut.Parts.{empty_nil, tail_text, path_tail, regroup}
 use Rattle.toml_edit_syntax.proofs.ScanningLaws.{front_is, front_of, blank_first, AreBlanks, equals_takes, equals_again}
 use Rattle.toml_edit_syntax.proofs.ReadingSteps.{follow_got, changed_got, reading_got}
 
@@ -57,9 +58,6 @@ path_more s (r ∷ p) ends = refl
 ends_more : (s : Segment) (p : List Segment) → ends_unspaced p ≡ true → ends_unspaced (s ∷ p) ≡ true
 ends_more s [] ends = absurd (false≢true ends)
 ends_more s (r ∷ p) ends = ends
-
-regroup : (a b c d rest : Text) → a ++ (b ++ (c ++ (46 ∷ (d ++ rest)))) ≡ ((a ++ (b ++ c)) ++ (46 ∷ d)) ++ rest
-regroup a b c d rest = simp append_assoc
 
 took_more : (before text white after next rest : Text) (k : Text × Text) (p : List Segment) → IsWhiteSpace before → IsWhiteSpace white
     → key_at text ≡ Some k
@@ -164,26 +162,6 @@ frame_takes leading text rest f trivia e =
     (equals_takes middle rest white (reading_got (equals_at middle) white rest signs)))
 
 -- ---- a key is read again
-
-empty_nil : (t : Text) → is_empty t ≡ true → t ≡ []
-empty_nil [] e = refl
-empty_nil (c ∷ cs) e = absurd (false≢true e)
-
--- a key behind what stands before its first segment, and then this
-abbrev pub tail_text : Segment → List Segment → Text → Text
-tail_text s [] rest = s.spelled ++ rest
-tail_text s (r ∷ p) rest = s.spelled ++ (s.after ++ (46 ∷ (r.before ++ tail_text r p rest)))
-
-regroup_last : (a b rest : Text) → (a ++ (b ++ [])) ++ rest ≡ a ++ (b ++ rest)
-regroup_last a b rest = simp append_assoc
-
-pub path_tail : (s : Segment) (p : List Segment) (rest : Text) → ends_unspaced (s ∷ p) ≡ true → path_text (s ∷ p) ++ rest ≡ s.before
-    ++ tail_text s p rest
-path_tail s [] rest ends = ap (λ (x : Text). (s.before ++ (s.spelled ++ x)) ++ rest) (empty_nil s.after ends)
-    ∙ regroup_last s.before s.spelled rest
-path_tail s (r ∷ p) rest ends =
-    sym (regroup s.before s.spelled s.after (path_text (r ∷ p)) rest)
-    ∙ ap (λ (x : Text). s.before ++ (s.spelled ++ (s.after ++ (46 ∷ x)))) (path_tail r p rest ends)
 
 tail_begins : (p : ℕ → Bool) (s : Segment) (q : List Segment) (rest : Text) → ((c : ℕ) → is_opening c ≡ true → p c ≡ false)
     → SpellsKey s.key s.spelled → p (first (tail_text s q rest)) ≡ false

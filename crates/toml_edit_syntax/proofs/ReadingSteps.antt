@@ -1,16 +1,15 @@
 -- Steps of a reading that gave something, and the reading of trivia.
 use Rattle.std.proofs.Common.{◌≡◌, ℕ, ◌+◌, Bool, true, false, not, ◌==◌, ◌||◌, List, [], ◌∷◌, ◌++◌, length, take, drop, Some, None, refl}
 use Rattle.std.proofs.Common.{sym, ap, subst, ◌∙◌, arith, take_at, drop_at, inl, inr}
-use Rattle.std.specs.List.{flat_map, AllByRecursion}
+use Rattle.std.specs.List.{flat_map}
 use Rattle.std.proofs.lemmas.Bool.Decides.{nat_tests}
 use Rattle.std.proofs.lemmas.List.{take-append-drop}
 use Rattle.toml_edit_model.specs.Text.{Text}
-use Rattle.toml_edit_model.specs.Trivia.{is_blank, lf, crlf, Piece, blank, break, remark, piece_text, IsPiece, IsWholeTrivia}
+use Rattle.toml_edit_model.specs.Trivia.{is_blank, piece_text, IsWholeTrivia}
 use Rattle.toml_edit_model.specs.Syntax.{nesting_limit}
 use Rattle.toml_edit_syntax.specs.declared.event.EventKind.{EventKind}
 use Rattle.toml_edit_syntax.specs.declared.event.Event.{Event}
 use Rattle.toml_edit_laws.specs.reading.Runs.{first, Read}
-use Rattle.toml_edit_laws.specs.reading.ScalarReading.{ends_scalar}
 use Rattle.toml_edit_syntax.specs.Scanning.{turn, scan}
 use Rattle.toml_edit_syntax.specs.ValueEvents.{event}
 use Rattle.toml_edit_syntax.specs.ValueReading.{Reading, got, deep, wrong, follow, changed, behind, reading, inside, trivia_at}
@@ -95,15 +94,3 @@ pub trivia_again : (w rest : Text) (c : ℕ) (cs : Text) → IsWholeTrivia w →
 unfolding trivia_at
 trivia_again w rest c cs whole starts stops =
     rw (scan_again w rest c cs whole starts stops, take_at w rest _ refl, drop_at w rest _ refl) refl
-
--- what ends a scalar may have trivia before it
-ends_pieces : (ps : List Piece) (rest : Text) → AllByRecursion IsPiece ps → ends_scalar rest ≡ true
-    → ends_scalar (flat_map piece_text ps ++ rest) ≡ true
-ends_pieces [] rest each h = h
-ends_pieces (blank c ∷ ps) rest (white, each) h = rw white (ends_pieces ps rest each h)
-ends_pieces (break lf ∷ ps) rest each h = refl
-ends_pieces (break crlf ∷ ps) rest each h = refl
-ends_pieces (remark body n ∷ ps) rest each h = refl
-
-pub ends_trivia : (w rest : Text) → IsWholeTrivia w → ends_scalar rest ≡ true → ends_scalar (w ++ rest) ≡ true
-ends_trivia w rest (ps, each, is) h = ap (λ (x : Text). ends_scalar (x ++ rest)) is ∙ ends_pieces ps rest each h

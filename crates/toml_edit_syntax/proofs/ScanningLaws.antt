@@ -1,17 +1,17 @@
 -- White space, the sign of a pair, the end of a line and newlines: what is read is that, and that is read again.
-use Rattle.std.proofs.Common.{◌≡◌, ℕ, suc, ◌-◌, Bool, true, false, ◌==◌, ◌&&◌, [], ◌∷◌, ◌++◌, ◌⊎◌, length, drop, take, Some, refl, sym, ap}
+use Rattle.std.proofs.Common.{◌≡◌, ℕ, suc, ◌-◌, Bool, true, false, ◌==◌, ◌&&◌, [], ◌∷◌, ◌++◌, length, drop, take, Some, refl, sym, ap}
 use Rattle.std.proofs.Common.{subst, ◌∙◌, inl, inr, arith, append_assoc, append-nil, take_at, drop_at, eqb-true}
 use Rattle.std.specs.List.{prefix_len, list_all}
 use Rattle.std.proofs.lemmas.Bool.{cases_Bool, and_parts}
 use Rattle.std.proofs.lemmas.Bool.Decides.{nat_tests}
 use Rattle.std.proofs.lemmas.List.{length-append}
 use Rattle.toml_edit_model.specs.Text.{Text}
-use Rattle.toml_edit_model.specs.Trivia.{is_blank, is_visible, lf, crlf, comment, IsWhiteSpace, IsNewline, IsLineEnd}
+use Rattle.toml_edit_model.specs.Trivia.{is_blank, is_visible, lf, crlf, comment, IsWhiteSpace, IsLineEnd}
 use Rattle.toml_edit_laws.specs.reading.Runs.{first}
-use Rattle.toml_edit_laws.specs.reading.ScalarReading.{ends_scalar}
 use Rattle.toml_edit_syntax.specs.Scanning.{front, equals_at, line_end_rest, newline_rest}
 use Rattle.toml_edit_laws.proofs.reading.Steps.{chosen, guard_some, starts, split_parts}
 use Rattle.toml_edit_laws.proofs.reading.RunLaws.{Each-run, prefix_len-run}
+use Rattle.toml_edit_laws.proofs.one_cut.Statements.{IsEnding}
 
 -- what stands before the rest
 pub front_is : (t rest : Text) → front (t ++ rest) rest ≡ t
@@ -102,26 +102,6 @@ line_end_again t rest (white, last, each, inr (body, visible, is), whole) stop =
       drop_at body rest _ refl,
     ) refl
 
--- blanks and then what ends a scalar
-pub blank_ends : (b rest : Text) → IsWhiteSpace b → ends_scalar rest ≡ true → ends_scalar (b ++ rest) ≡ true
-blank_ends [] rest each h = h
-blank_ends (c ∷ cs) rest each h =
-    let (white, more) = and_parts (is_blank c) (list_all is_blank cs) each in
-    rw white (blank_ends cs rest more h)
-
-pub line_end_first : (t rest : Text) → IsLineEnd t → ends_scalar rest ≡ true → ends_scalar (t ++ rest) ≡ true
-line_end_first t rest (white, none, each, inl empty, whole) stop =
-    let same : t ++ rest ≡ white ++ rest = ap (λ (x : Text). x ++ rest) (whole ∙ ap (λ (x : Text). white ++ x) empty ∙ append-nil white) in
-    ap ends_scalar same ∙ blank_ends white rest each stop
-line_end_first t rest (white, last, each, inr (body, visible, is), whole) stop =
-    let same : t ++ rest ≡ white ++ (35 ∷ (body ++ rest)) = ap (λ (x : Text). x ++ rest) (whole ∙ ap (λ (x : Text). white ++ x) is)
-    ∙ append_assoc white (comment body) rest in
-    ap ends_scalar same ∙ blank_ends white (35 ∷ (body ++ rest)) each refl
-
--- a newline, or nothing at the end
-abbrev pub IsEnding : Text → Text → Type 0
-IsEnding t rest = IsNewline t ⊎ ((t ≡ []) × (rest ≡ []))
-
 pub newline_takes : (text rest : Text) → newline_rest text ≡ Some rest → (t : Text) × IsEnding t rest × (text ≡ t ++ rest)
 unfolding newline_rest
 newline_takes [] rest e = ([], inr (refl, cc), cc)
@@ -150,13 +130,3 @@ unfolding newline_rest
 newline_again t rest (inl (lf, same)) = rw same refl
 newline_again t rest (inl (crlf, same)) = rw same refl
 newline_again t rest (inr (nothing, ended)) = rw (nothing, ended) refl
-
-pub ending_first : (t rest : Text) → IsEnding t rest → is_visible (first (t ++ rest)) ≡ false
-ending_first t rest (inl (lf, same)) = rw same refl
-ending_first t rest (inl (crlf, same)) = rw same refl
-ending_first t rest (inr (nothing, ended)) = rw (nothing, ended) refl
-
-pub ending_ends : (t rest : Text) → IsEnding t rest → ends_scalar (t ++ rest) ≡ true
-ending_ends t rest (inl (lf, same)) = rw same refl
-ending_ends t rest (inl (crlf, same)) = rw same refl
-ending_ends t rest (inr (nothing, ended)) = rw (nothing, ended) refl

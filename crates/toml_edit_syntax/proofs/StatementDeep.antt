@@ -71,5 +71,3 @@ statement_stops_in whole leading text at es utf8 trivia c e =
       | inl (here, h) ↦ absurd (header_deep leading text es h)
       | inr (other, h) ↦ key_line_stops_in whole leading text at es utf8 trivia c h
     ]
-
--- ---- statements

@@ -17,7 +17,8 @@ use Rattle.toml_edit_syntax.specs.Events.{line_events, header_open, header_event
 use Rattle.toml_edit_syntax.specs.Reading.{end_at, key_line_at, header_at, statement_at}
 use Rattle.toml_edit_laws.proofs.reading.Steps.{chosen}
 use Rattle.toml_edit_laws.proofs.reading.Begins.{begins_not}
-use Rattle.toml_edit_syntax.proofs.ScanningLaws.{line_end_first, IsEnding, ending_ends}
+use Rattle.toml_edit_laws.proofs.one_cut.Statements.{ending_ends, line_end_ends, opening_opens, leading_of, statement_tail, IsEnding}
+use Rattle.toml_edit_laws.proofs.one_cut.Statements.{EndsAt}
 use Rattle.toml_edit_syntax.proofs.ReadingSteps.{follow_got, changed_got, behind_got, reading_got}
 use Rattle.toml_edit_syntax.proofs.PathLaws.{head_text, behind_trivia, FrameTook, frame_takes, frame_again, path_begins}
 use Rattle.toml_edit_syntax.proofs.ShortenedLaws.{Stays, Stops, stays_then, stops_first, stops_then, stays_path, stays_frame, value_stays}
@@ -26,7 +27,7 @@ use Rattle.toml_edit_syntax.proofs.ValueTakes.{ValueTook, value_takes, followed_
 use Rattle.toml_edit_syntax.proofs.Outcomes.{ValueBegins, value_begins, value_begins_not, outcome, has_room, has_room_true, no_room}
 use Rattle.toml_edit_syntax.proofs.Outcomes.{behind_outcome, follow_outcome}
 use Rattle.toml_edit_syntax.proofs.ValueAgain.{outcome_same, value_place, value_reads}
-use Rattle.toml_edit_syntax.proofs.HeaderLaws.{EndTook, end_takes, end_again, Entry, header_tail, header_then, header_takes, header_again}
+use Rattle.toml_edit_syntax.proofs.HeaderLaws.{EndTook, end_takes, end_again, Entry, header_then, header_takes, header_again}
 
 -- ---- what is read
 
@@ -83,43 +84,22 @@ statement_takes at leading text rest s whole h =
 
 -- ---- the parts of a statement
 
--- the statement in the grammar, where this follows it
-abbrev pub EndsAt : Text → Statement → Type 0
-EndsAt rest s = IsStatement (λ end. IsEnding end rest) s
-
-abbrev pub leading_of : Statement → Text
-leading_of (key_line f v end) = f.leading
-leading_of (header h end) = h.leading
-
--- the parts behind the trivia, and then this
-abbrev pub tail_text : Statement → Text → Text
-tail_text (key_line f v end) rest = behind_trivia f (value_text v ++ (f.trailing ++ (end ++ rest)))
-tail_text (header h end) rest = header_tail h end rest
-
 regroup_line : (a b c d v e f rest : Text) → (a ++ (b ++ (c ++ (61 ∷ (d ++ (v ++ e))))) ++ f) ++ rest ≡ a
     ++ (b ++ (c ++ (61 ∷ (d ++ (v ++ (e ++ (f ++ rest)))))))
 regroup_line a b c d v e f rest = simp append_assoc
 
-pub statement_then : (s : Statement) (rest : Text) → statement_text s ++ rest ≡ leading_of s ++ tail_text s rest
+pub statement_then : (s : Statement) (rest : Text) → statement_text s ++ rest ≡ leading_of s ++ statement_tail s rest
 statement_then (key_line f v end) rest =
     regroup_line f.leading (path_text f.path) f.before_equals f.after_equals (value_text v) f.trailing end rest
 statement_then (header h end) rest = sym (header_then h end rest)
 
-pub leading_is : (s : Statement) (rest : Text) → EndsAt rest s → IsWholeTrivia (leading_of s)
-leading_is (key_line f v end) rest (frame, value, ending) = frame.0.leading
-leading_is (header h end) rest (is, ending) = is.0.leading
-
-opening_begins : (is_array : Bool) (rest : Text) → ValueBegins (opening_brackets is_array ++ rest)
-opening_begins true rest = (91, 91 ∷ rest, refl, refl)
-opening_begins false rest = (91, rest, refl, refl)
-
-pub tail_begins : (s : Statement) (rest : Text) → EndsAt rest s → ValueBegins (tail_text s rest)
+pub tail_begins : (s : Statement) (rest : Text) → EndsAt rest s → ValueBegins (statement_tail s rest)
 tail_begins (key_line f v end) rest (frame, value, ending) =
     let after = f.before_equals ++ (61 ∷ (f.after_equals ++ (value_text v ++ (f.trailing ++ (end ++ rest))))) in
     let (c, cs, e, opening) = path_begins f.path frame.1 in
     (c, cs ++ after, ap (λ (x : Text). x ++ after) e, rw opening refl)
 tail_begins (header h end) rest (is, ending) =
-    opening_begins h.is_array (h.opening ++ (path_text h.path
+    opening_opens h.is_array (h.opening ++ (path_text h.path
     ++ (h.closing ++ (closing_brackets h.is_array ++ (h.trailing ++ (end ++ rest))))))
 
 -- a statement is not empty
@@ -227,7 +207,7 @@ key_line_reads level at f v end rest frame value ending =
     let start = value_at_byte at f in
     let fits = has_room level (depth v) in
     let vs = shortened level (value_events start v) in
-    let past_value = line_end_first f.trailing (end ++ rest) frame.0.trailing (ending_ends end rest ending) in
+    let past_value = line_end_ends f.trailing (end ++ rest) frame.0.trailing (ending_ends end rest ending) in
     let read = value_reads (2 * length t + 2) v level start more value past_value (omega arith) in
     let last : line_then f v more ≡ got (key_line f v end) rest =
     ap (λ (o : Option ((Text × Text) × Text)). changed (λ e. key_line (followed_by f e.0) v e.1) (reading o))
@@ -245,7 +225,7 @@ header_first true rest = refl
 header_first false rest = refl
 
 pub statement_reads : (level at : ℕ) (s : Statement) (rest : Text) → EndsAt rest s
-    → statement_at level at (leading_of s) (tail_text s rest)
+    → statement_at level at (leading_of s) (statement_tail s rest)
     ≡ outcome (has_room level (depth_of s)) s rest (shortened level (statement_events at s))
 unfolding statement_at
 statement_reads level at (key_line f v end) rest (frame, value, ending) =

@@ -11,10 +11,10 @@ use Rattle.toml_edit_syntax.specs.declared.event.EventKind.TheVariants.{Leading,
 use Rattle.toml_edit_syntax.specs.ValueEvents.{event, path_events, frame_events, value_at_byte, value_events}
 use Rattle.toml_edit_syntax.specs.Events.{line_events, header_open, header_events, statement_events}
 use Rattle.toml_edit_laws.proofs.reading.Begins.{StartsAscii, ascii_begins, ascii_blank, ascii_newline, ascii_trivia, ascii_line_end}
-use Rattle.toml_edit_syntax.proofs.ScanningLaws.{IsEnding}
+use Rattle.toml_edit_laws.proofs.one_cut.Statements.{leading_of, statement_tail, IsEnding, EndsAt}
 use Rattle.toml_edit_syntax.proofs.PathLaws.{behind_trivia, path_begins}
 use Rattle.toml_edit_syntax.proofs.Outcomes.{value_begins}
-use Rattle.toml_edit_syntax.proofs.StatementLaws.{EndsAt, leading_of, tail_text, statement_then}
+use Rattle.toml_edit_syntax.proofs.StatementLaws.{statement_then}
 use Rattle.toml_edit_syntax.proofs.SpanLaws.{Cut, further, cut_as, at_cut, AreSpans, both_spans, part_span, path_spans, value_cut}
 use Rattle.toml_edit_syntax.proofs.SpanLaws.{frame_spans, value_spans, ascii_value}
 
@@ -100,7 +100,7 @@ statement_spans t rest at (key_line f v end) (frame, value, ending) c =
     (statement_then (key_line f v end) rest) refl c)
 statement_spans t rest at (header h end) (is, ending) c =
     header_spans t (end ++ rest) at h is (ending_ascii end rest ending) (cut_as t (statement_text (header h end)
-    ++ rest) (leading_of (header h end) ++ tail_text (header h end) rest) at at (statement_then (header h end) rest) refl c)
+    ++ rest) (leading_of (header h end) ++ statement_tail (header h end) rest) at at (statement_then (header h end) rest) refl c)
 
 pub final_spans : (t final : Text) (n : ℕ) → StartsAscii final → Cut t n final → AreSpans t (event Final n final ∷ [])
 final_spans t final n ascii c =

@@ -18,13 +18,14 @@ use Rattle.toml_edit_syntax.specs.declared.event.Event.{Event}
 use Rattle.toml_edit_laws.specs.reading.Runs.{first}
 use Rattle.toml_edit_laws.specs.reading.ScalarReading.{scalar_at}
 use Rattle.toml_edit_laws.proofs.reading.Steps.{chosen, starts}
+use Rattle.toml_edit_laws.proofs.one_cut.Documents.{ends_weaken, statements_text}
+use Rattle.toml_edit_laws.proofs.one_cut.Statements.{IsEnding}
 use Rattle.toml_edit_syntax.specs.Scanning.{scan}
 use Rattle.toml_edit_syntax.specs.ValueEvents.{event, frame_events, value_events}
 use Rattle.toml_edit_syntax.specs.ValueReading.{Reading, got, deep, wrong, follow, changed, behind, inside, trivia_at, frame_at, around}
 use Rattle.toml_edit_syntax.specs.ValueReading.{value_from, elements_at, pairs_at}
 use Rattle.toml_edit_syntax.specs.Events.{exceeds_depth, has_deep_value, statement_events, is_closing_bracket, OpensTooMany}
 use Rattle.toml_edit_syntax.specs.Reading.{end_at, key_line_at, header_at, statement_at, statements_at, is_marked, document, cut_of}
-use Rattle.toml_edit_syntax.proofs.ScanningLaws.{IsEnding}
 use Rattle.toml_edit_syntax.proofs.ReadingSteps.{trivia_takes}
 use Rattle.toml_edit_syntax.proofs.PathLaws.{head_text, FrameTook, frame_takes}
 use Rattle.toml_edit_syntax.proofs.ValueTakes.{followed_by, pair_parts, element_then, pair_then, frame_then, value_takes}
@@ -33,7 +34,7 @@ use Rattle.toml_edit_syntax.proofs.DeepLaws.{scalar_deep, comma_deep}
 use Rattle.toml_edit_syntax.proofs.HeaderLaws.{Entry}
 use Rattle.toml_edit_syntax.proofs.StatementLaws.{statement_takes}
 use Rattle.toml_edit_syntax.proofs.StatementDeep.{value_then_deep, header_deep}
-use Rattle.toml_edit_syntax.proofs.CutLaws.{statements_text, ends_weaken, scanned_trivia, then_statements}
+use Rattle.toml_edit_syntax.proofs.CutLaws.{scanned_trivia, then_statements}
 use Rattle.toml_edit_syntax.proofs.DocumentLaws.{marks}
 
 -- ---- what is closed

@@ -24,8 +24,9 @@ use Rattle.toml_edit_syntax.specs.ValueReading.{Reading, got, deep, follow, chan
 use Rattle.toml_edit_syntax.specs.ValueReading.{pairs_at}
 use Rattle.toml_edit_laws.proofs.reading.Begins.{scalar_begins, begins_not}
 use Rattle.toml_edit_laws.proofs.reading.TokenLaws.{scalar_again}
+use Rattle.toml_edit_laws.proofs.one_cut.Parts.{ends_trivia}
 use Rattle.toml_edit_syntax.proofs.ScanningLaws.{front_is}
-use Rattle.toml_edit_syntax.proofs.ReadingSteps.{stops_trivia, trivia_again, ends_trivia}
+use Rattle.toml_edit_syntax.proofs.ReadingSteps.{stops_trivia, trivia_again}
 use Rattle.toml_edit_syntax.proofs.PathLaws.{behind_trivia, frame_again, path_begins}
 use Rattle.toml_edit_syntax.proofs.ShortenedLaws.{Stays, Stops, stays_frame, value_stays, value_stops, elements_stop, pairs_stop, list_full}
 use Rattle.toml_edit_syntax.proofs.ShortenedLaws.{Fits, Exceeds, cases_fits}

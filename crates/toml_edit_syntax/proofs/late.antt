@@ -7,5 +7,4 @@ pub mod TriviaLaws
 pub mod ScalarLaws
 pub mod EventLaws
 pub mod ShortenedLaws
-pub mod DepthLaws
 pub mod StatementLaws

@@ -3,6 +3,7 @@ pub mod ValueEvents
 pub mod Events
 pub mod Faults
 pub mod LoneEvents
+pub mod LonePath
 pub mod LateSpellings
 pub mod LateTrivia
 pub mod LateEvents

@@ -71,7 +71,7 @@ pub struct Event {
 }
 
 /// Returns the bytes of the source at the span.
-pub fn cut(source: &str, span: Span) -> &str
+pub fn text_at(source: &str, span: Span) -> &str
     requires { IsSpanOf source.now span }
     ensures { result.now ≡ cut_out source.now span.start span.end }
 {

@@ -11,10 +11,10 @@ ghost use Rattle.toml_edit_syntax.specs.Reading as spec;
 
 use crate::event::{Event, EventKind, Span};
 use crate::line::trivia;
-use crate::mistake::{Mistake, at};
+use crate::mistake::{Mistake, mistake_at};
 use crate::statement::statement;
 use std::alloc::{AllocError, AllocFailed, Global};
-use toml_edit_token::run::{byte_at, first};
+use toml_edit_token::run::{byte_at, first_byte};
 
 /// The error of the lexer.
 #[derive(Clone, Copy, Debug, PartialEq, Eq)]
@@ -79,11 +79,11 @@ impl<T: Drop> From<AllocFailed<T>> for Stop {
 }
 
 /// Returns the text after the byte order mark, if there is one.
-fn unmarked(s: &str) -> &str
+fn after_mark(s: &str) -> &str
     ensures rest { result.now ≡ (if spec.is_marked s.now then drop 3 s.now else s.now) }
     ensures within { length result.now ≤ length s.now }
 {
-    if first(s) == 0xEF && byte_at(s, 1) == 0xBB && byte_at(s, 2) == 0xBF {
+    if first_byte(s) == 0xEF && byte_at(s, 1) == 0xBB && byte_at(s, 2) == 0xBF {
         &s[3..]
     } else {
         s
@@ -91,7 +91,7 @@ fn unmarked(s: &str) -> &str
 }
 
 /// Makes the event of this kind from `start` up to `end`.
-pub(crate) fn part(kind: EventKind, start: usize, end: usize) -> Event
+pub(crate) fn new_event(kind: EventKind, start: usize, end: usize) -> Event
     ensures { result ≡ record { kind = kind; span = record { start = start; end = end } } }
 {
     Event {
@@ -125,7 +125,7 @@ fn parts<'a>(events: &mut Vec<Event>, source: &str, s: &'a str) -> Result<Batch<
         let (len, inside) = trivia(rest);
         let (leading, text) = rest.split_at(len);
         if text.is_empty() {
-            events.push(part(EventKind::Final, whole - rest.len(), whole))?;
+            events.push(new_event(EventKind::Final, whole - rest.len(), whole))?;
             return Ok(Batch {
                 end: BatchEnd::WholeText,
                 rest,
@@ -138,7 +138,7 @@ fn parts<'a>(events: &mut Vec<Event>, source: &str, s: &'a str) -> Result<Batch<
             });
         }
         if inside {
-            return Err(Stop::Before(at(text, Mistake::ExpectedNewline), text.len()));
+            return Err(Stop::Before(mistake_at(text, Mistake::ExpectedNewline), text.len()));
         }
         rest = statement(events, whole, leading, text)?;
     }
@@ -146,7 +146,7 @@ fn parts<'a>(events: &mut Vec<Event>, source: &str, s: &'a str) -> Result<Batch<
 
 /// Returns the span of the character that is `left` bytes before the end of the text, or the text's
 /// end.
-pub(crate) fn place(source: &str, left: usize) -> Span
+pub(crate) fn stop_span(source: &str, left: usize) -> Span
     ensures { IsSpanOf source.now result }
 {
     let byte = source.len().saturating_sub(left);
@@ -167,7 +167,7 @@ pub fn statements_of(source: &str) -> &str
     ensures statements { (d : Document) → IsCut d source.now
         → result.now ≡ joined (map statement_text d.statements) ++ d.final }
 {
-    unmarked(source)
+    after_mark(source)
 }
 
 /// Reads a batch of the statements that are left of a text, and adds their events.
@@ -201,7 +201,10 @@ pub fn read_batch<'s>(
             rest,
         }),
         Err(Stop::Memory) => Err(SyntaxFault::Memory),
-        Err(Stop::Before(mistake, left)) => Err(SyntaxFault::Text(mistake, place(source, left))),
+        Err(Stop::Before(mistake, left)) => Err(SyntaxFault::Text(
+            mistake,
+            stop_span(source, left),
+        )),
     }
 }
 

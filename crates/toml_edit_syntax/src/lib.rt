@@ -4,14 +4,16 @@
 pub mod event;
 pub mod lexer;
 mod line;
+pub mod lone_keys;
 pub mod lone_value;
 pub mod mistake;
 mod statement;
 mod value;
 mod version;
 
-pub use event::{Event, EventKind, Span, cut};
+pub use event::{Event, EventKind, Span, text_at};
 pub use lexer::{Batch, BatchEnd, SyntaxFault, check_rest, read_batch, statements_of};
+pub use lone_keys::{LonePath, key_mistake, lone_path};
 pub use lone_value::lone_events;
 pub use mistake::Mistake;
 pub use value::NESTING_LIMIT;

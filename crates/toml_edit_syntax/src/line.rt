@@ -9,13 +9,15 @@ ghost use Rattle.toml_edit_syntax.specs.Scanning.{turn};
 ghost use Rattle.toml_edit_syntax.specs.StatementReading as read;
 
 use crate::event::{Event, EventKind};
-use crate::lexer::{Stop, part};
+use crate::lexer::{Stop, new_event};
 use crate::mistake::{Mistake, behind_value};
-use toml_edit_token::run::{Class, byte_at, first, is_blank, is_visible, run_len, skip, split_run};
+use toml_edit_token::run::{
+    Class, byte_at, first_byte, is_blank, is_visible, run_len, skip, split_run,
+};
 
 /// Returns whether trivia is inside a comment after this byte, or `None` if the trivia ends before
 /// it.
-fn turn(inside: bool, byte: u8, next: u8) -> Option<bool>
+fn state_after(inside: bool, byte: u8, next: u8) -> Option<bool>
     ensures { result ≡ spec.turn inside byte next }
 {
     if inside && is_visible(byte) || !inside && is_blank(byte) {
@@ -56,7 +58,7 @@ pub(crate) fn trivia(s: &str) -> (usize, bool)
     ensures boundary { IsCharBoundary s.now result.0 }
 {
     // Mostly there is none.
-    if is_solid(first(s)) {
+    if is_solid(first_byte(s)) {
         return (0, false);
     }
     long_trivia(s)
@@ -72,7 +74,7 @@ fn long_trivia(s: &str) -> (usize, bool)
     let mut at: usize = 0;
     let mut inside = false;
     'bytes: while at < bytes.len() {
-        match turn(inside, bytes[at], byte_at(s, at + 1)) {
+        match state_after(inside, bytes[at], byte_at(s, at + 1)) {
             Some(state) => inside = state,
             None => return (at, inside),
         }
@@ -91,7 +93,7 @@ pub(crate) fn equals(s: &str) -> Option<((&str, &str), &str)>
         (λ p. length p.0.0.now + 1 + length p.0.1.now + length p.1.now ≡ length s.now) }
 {
     let (before, rest) = split_run(s, Class::Blank);
-    if first(rest) != b'=' {
+    if first_byte(rest) != b'=' {
         return None;
     }
     let (after, rest) = split_run(skip(rest, 1), Class::Blank);
@@ -106,7 +108,7 @@ fn after_line_end(s: &str) -> &str
     ensures within { length result.now ≤ length s.now }
 {
     let (_, rest) = split_run(s, Class::Blank);
-    if first(rest) == b'#' {
+    if first_byte(rest) == b'#' {
         split_run(skip(rest, 1), Class::Visible).1
     } else {
         rest
@@ -119,9 +121,9 @@ fn after_newline(s: &str) -> Option<&str>
     ensures value { option_map (λ r. r.now) result ≡ spec.newline_rest s.now }
     ensures within { IfSome result (λ r. length r.now ≤ length s.now) }
 {
-    if first(s) == b'\n' {
+    if first_byte(s) == b'\n' {
         Some(skip(s, 1))
-    } else if first(s) == b'\r' && byte_at(s, 1) == b'\n' {
+    } else if first_byte(s) == b'\r' && byte_at(s, 1) == b'\n' {
         Some(skip(s, 2))
     } else if s.is_empty() {
         Some(s)
@@ -133,7 +135,7 @@ fn after_newline(s: &str) -> Option<&str>
 /// Adds what follows the value of a line, or the brackets of a header, which are at the front of
 /// `value`.
 #[inline(always)]
-pub(crate) fn end<'a>(
+pub(crate) fn push_line_end<'a>(
     events: &mut Vec<Event>,
     whole: usize,
     value: &str,
@@ -148,6 +150,6 @@ pub(crate) fn end<'a>(
         let (mistake, left) = behind_value(value, behind, Mistake::ExpectedNewline);
         return Err(Stop::Before(mistake, left));
     };
-    events.push(part(EventKind::LineEnd, whole - s.len(), whole - behind.len()))?;
+    events.push(new_event(EventKind::LineEnd, whole - s.len(), whole - behind.len()))?;
     Ok(rest)
 }

@@ -10,8 +10,8 @@ ghost use Rattle.toml_edit_syntax.specs.LoneEvents.{AreLoneEvents};
 ghost use Rattle.toml_edit_syntax.specs.StatementReading as read;
 
 use crate::event::Event;
-use crate::lexer::{Stop, SyntaxFault, place};
-use crate::mistake::{Mistake, at};
+use crate::lexer::{Stop, SyntaxFault, stop_span};
+use crate::mistake::{Mistake, mistake_at};
 use crate::value::value;
 use std::alloc::Global;
 use toml_edit_token::run::{Class, split_run};
@@ -24,7 +24,7 @@ fn lone_value<'a>(events: &mut Vec<Event>, s: &'a str) -> Result<&'a str, Stop>
     let rest = value(events, s.len(), 0, start)?;
     let (_, end) = split_run(rest, Class::Blank);
     if !end.is_empty() {
-        return Err(Stop::Before(at(end, Mistake::UnexpectedCharacter), end.len()));
+        return Err(Stop::Before(mistake_at(end, Mistake::UnexpectedCharacter), end.len()));
     }
     Ok(rest)
 }
@@ -47,6 +47,6 @@ pub fn lone_events(alloc: Global, text: &str) -> Result<Vec<Event>, SyntaxFault>
         Ok(_) => Ok(events),
         Err(Stop::TooDeep) => Ok(events),
         Err(Stop::Memory) => Err(SyntaxFault::Memory),
-        Err(Stop::Before(mistake, left)) => Err(SyntaxFault::Text(mistake, place(text, left))),
+        Err(Stop::Before(mistake, left)) => Err(SyntaxFault::Text(mistake, stop_span(text, left))),
     }
 }

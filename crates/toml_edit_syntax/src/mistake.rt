@@ -3,7 +3,7 @@ ghost use Rattle.std.specs.Prelude.{◌≡◌, Contains};
 ghost use Rattle.toml_edit_model.specs.Messages.{syntax_messages};
 ghost use Rattle.toml_edit_syntax.specs.Faults.{syntax_message};
 
-use toml_edit_token::run::{byte_at, first};
+use toml_edit_token::run::{byte_at, first_byte};
 use toml_edit_token::string_stop;
 
 /// What is wrong where a text leaves the grammar.
@@ -67,10 +67,9 @@ impl Mistake {
 
 /// Returns what is wrong where `s` goes on: a character that is allowed nowhere, or else
 /// `otherwise`.
-#[doc(hidden)]
 #[inline(never)]
-pub fn at(s: &str, otherwise: Mistake) -> Mistake {
-    match first(s) {
+pub(crate) fn mistake_at(s: &str, otherwise: Mistake) -> Mistake {
+    match first_byte(s) {
         _ if s.is_empty() => otherwise,
         b'\r' if byte_at(s, 1) != b'\n' => Mistake::CarriageReturn,
         0x00..=0x08 | 0x0B..=0x0C | 0x0E..=0x1F | 0x7F => Mistake::ControlCharacter,
@@ -79,23 +78,22 @@ pub fn at(s: &str, otherwise: Mistake) -> Mistake {
 }
 
 /// Returns what is wrong where `s` should go on with a key, and how many bytes are left there.
-#[doc(hidden)]
 #[inline(never)]
-pub fn no_key(s: &str) -> (Mistake, usize) {
-    match first(s) {
+pub(crate) fn no_key(s: &str) -> (Mistake, usize) {
+    match first_byte(s) {
         b'"' | b'\'' => no_string(s),
-        _ => (at(s, Mistake::ExpectedKey), s.len()),
+        _ => (mistake_at(s, Mistake::ExpectedKey), s.len()),
     }
 }
 
 /// Returns what is wrong where `s` should go on with a scalar, and how many bytes are left there.
 #[inline(never)]
 pub(crate) fn no_scalar(s: &str) -> (Mistake, usize) {
-    match first(s) {
+    match first_byte(s) {
         b'"' | b'\'' => no_string(s),
         b'0'..=b'9' if is_dated(s) => (Mistake::InvalidDateTime, s.len()),
         b'0'..=b'9' | b'+' | b'-' => (Mistake::InvalidNumber, s.len()),
-        _ => (at(s, Mistake::ExpectedValue), s.len()),
+        _ => (mistake_at(s, Mistake::ExpectedValue), s.len()),
     }
 }
 
@@ -104,10 +102,10 @@ pub(crate) fn no_scalar(s: &str) -> (Mistake, usize) {
 /// number.
 #[inline(never)]
 pub(crate) fn behind_value(value: &str, rest: &str, otherwise: Mistake) -> (Mistake, usize) {
-    if first(rest) == b'/' && is_dated(value) {
+    if first_byte(rest) == b'/' && is_dated(value) {
         return (Mistake::InvalidDateTime, value.len());
     }
-    (at(rest, otherwise), rest.len())
+    (mistake_at(rest, otherwise), rest.len())
 }
 
 /// Returns `true` if `s` begins as a date does, by a year and `-` or `/`, or as a time does, by an
@@ -129,10 +127,10 @@ fn is_dated(s: &str) -> bool {
 /// there. One that does not end is marked where it opens.
 fn no_string(s: &str) -> (Mistake, usize) {
     let stop = string_stop(s);
-    if first(stop) == b'\\' {
+    if first_byte(stop) == b'\\' {
         return (Mistake::InvalidEscape, stop.len());
     }
-    match at(stop, Mistake::UnclosedString) {
+    match mistake_at(stop, Mistake::UnclosedString) {
         Mistake::UnclosedString => (Mistake::UnclosedString, s.len()),
         mistake => (mistake, stop.len()),
     }

@@ -8,11 +8,11 @@ ghost use Rattle.toml_edit_syntax.specs.Scanning as spec;
 ghost use Rattle.toml_edit_syntax.specs.StatementReading as read;
 
 use crate::event::{Event, EventKind};
-use crate::lexer::{Stop, part};
-use crate::line::end;
-use crate::mistake::{Mistake, at};
+use crate::lexer::{Stop, new_event};
+use crate::line::push_line_end;
+use crate::mistake::{Mistake, mistake_at};
 use crate::value::{frame, path, value};
-use toml_edit_token::run::{Class, byte_at, first, skip, split_run};
+use toml_edit_token::run::{Class, byte_at, first_byte, skip, split_run};
 
 /// Adds the parts of a key line, after its trivia.
 fn key_line<'a>(
@@ -28,13 +28,13 @@ fn key_line<'a>(
 {
     let text = frame(events, whole, leading, s)?;
     let rest = value(events, whole, 0, text)?;
-    end(events, whole, text, rest)
+    push_line_end(events, whole, text, rest)
 }
 
 /// Returns `true` if two brackets open the header at the front, and the text after the one or the
 /// two.
 #[tactic(auto, unfolding(crate::specs::Scanning::opening_at))]
-fn opened(s: &str) -> (bool, &str)
+fn split_opening(s: &str) -> (bool, &str)
     requires { first s.now ≡ 0x5B }
     ensures value { (result.0, result.1.now) ≡ spec.opening_at s.now }
     ensures lens { length (opening_brackets result.0) + length result.1.now ≡ length s.now }
@@ -52,7 +52,7 @@ fn after_closing(is_array: bool, s: &str) -> Option<&str>
     ensures value { option_map (λ r. r.now) result ≡ spec.closing_rest is_array s.now }
     ensures within { IfSome result (λ r. length r.now ≤ length s.now) }
 {
-    if first(s) != b']' {
+    if first_byte(s) != b']' {
         None
     } else if !is_array {
         Some(skip(s, 1))
@@ -64,7 +64,7 @@ fn after_closing(is_array: bool, s: &str) -> Option<&str>
 }
 
 /// Returns the kind of the opening brackets of a header.
-fn opening(is_array: bool) -> EventKind
+fn open_kind(is_array: bool) -> EventKind
     ensures { result ≡ header_open is_array }
 {
     if is_array {
@@ -88,15 +88,18 @@ fn header_end<'a>(
 {
     let (_, brackets) = split_run(s, Class::Blank);
     let Some(rest) = after_closing(is_array, brackets) else {
-        return Err(Stop::Before(at(brackets, Mistake::UnclosedHeader), brackets.len()));
+        return Err(Stop::Before(
+            mistake_at(brackets, Mistake::UnclosedHeader),
+            brackets.len(),
+        ));
     };
-    events.push(part(EventKind::AfterKey, whole - s.len(), whole - brackets.len()))?;
-    events.push(part(
+    events.push(new_event(EventKind::AfterKey, whole - s.len(), whole - brackets.len()))?;
+    events.push(new_event(
         EventKind::HeaderClose,
         whole - brackets.len(),
         whole - rest.len(),
     ))?;
-    end(events, whole, brackets, rest)
+    push_line_end(events, whole, brackets, rest)
 }
 
 /// Adds the parts of a header, after its trivia.
@@ -112,15 +115,15 @@ fn header<'a>(
         (read.header_read whole leading.now s.now) }
     ensures shorter { IfOk result (λ r. length r.now < length s.now) }
 {
-    let (is_array, inside) = opened(s);
+    let (is_array, inside) = split_opening(s);
     let (_, key) = split_run(inside, Class::Blank);
-    events.push(part(
+    events.push(new_event(
         EventKind::Leading,
         whole - s.len() - leading.len(),
         whole - s.len(),
     ))?;
-    events.push(part(opening(is_array), whole - s.len(), whole - inside.len()))?;
-    events.push(part(
+    events.push(new_event(open_kind(is_array), whole - s.len(), whole - inside.len()))?;
+    events.push(new_event(
         EventKind::BeforeKey,
         whole - inside.len(),
         whole - key.len(),
@@ -141,7 +144,7 @@ pub(crate) fn statement<'a>(
         (read.statement_read whole leading.now s.now) }
     ensures shorter { IfOk result (λ r. length r.now < length s.now) }
 {
-    if first(s) == b'[' {
+    if first_byte(s) == b'[' {
         header(events, whole, leading, s)
     } else {
         key_line(events, whole, leading, s)

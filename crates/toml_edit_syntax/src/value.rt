@@ -8,11 +8,11 @@ ghost use Rattle.toml_edit_syntax.specs.EventReading as read;
 ghost use Rattle.toml_edit_syntax.specs.declared.event.Event.{Event as EventView};
 
 use crate::event::{Event, EventKind};
-use crate::lexer::{Stop, part};
+use crate::lexer::{Stop, new_event};
 use crate::line::{equals, is_solid, trivia};
-use crate::mistake::{Mistake, at, behind_value, no_key, no_scalar};
+use crate::mistake::{Mistake, behind_value, mistake_at, no_key, no_scalar};
 use std::alloc::AllocError;
-use toml_edit_token::run::{Class, byte_at, first, skip, split_run};
+use toml_edit_token::run::{Class, byte_at, first_byte, skip, split_run};
 use toml_edit_token::{after_key, after_scalar};
 
 /// The most arrays and inline tables that may be open at once, and the most keys of a path.
@@ -38,7 +38,7 @@ impl Brackets {
     }
 
     /// Returns the kind of the opening bracket.
-    fn opening(self) -> EventKind
+    fn open_kind(self) -> EventKind
         ensures { result ≡ read.opening self }
     {
         match self {
@@ -48,7 +48,7 @@ impl Brackets {
     }
 
     /// Returns the kind of the closing bracket.
-    fn closing(self) -> EventKind
+    fn close_kind(self) -> EventKind
         ensures { result ≡ read.closing self }
     {
         match self {
@@ -58,7 +58,7 @@ impl Brackets {
     }
 
     /// Returns what is wrong where a text ends inside of them.
-    fn unclosed(self) -> Mistake {
+    fn unclosed_mistake(self) -> Mistake {
         match self {
             Brackets::Array => Mistake::UnclosedArray,
             Brackets::InlineTable => Mistake::UnclosedInlineTable,
@@ -85,16 +85,16 @@ fn whole_trivia(s: &str) -> Result<(&str, &str), Stop>
     ensures lens { IfOk result (λ p. length p.0.now + length p.1.now ≡ length s.now) }
 {
     // Mostly there is nothing, or one space.
-    if is_solid(first(s)) {
+    if is_solid(first_byte(s)) {
         return Ok(s.split_at(0));
     }
-    if first(s) == b' ' && is_solid(byte_at(s, 1)) {
+    if first_byte(s) == b' ' && is_solid(byte_at(s, 1)) {
         return Ok(s.split_at(1));
     }
     let (len, inside) = trivia(s);
     let (front, rest) = s.split_at(len);
     if inside {
-        return Err(Stop::Before(at(rest, Mistake::ExpectedNewline), rest.len()));
+        return Err(Stop::Before(mistake_at(rest, Mistake::ExpectedNewline), rest.len()));
     }
     Ok((front, rest))
 }
@@ -118,11 +118,11 @@ fn close<'a>(
 {
     let start = whole - s.len() - inner.len();
     if comma {
-        events.push(part(EventKind::Comma, start - 1, start))?;
+        events.push(new_event(EventKind::Comma, start - 1, start))?;
     }
     let rest = skip(s, 1);
-    events.push(part(EventKind::Inner, start, whole - s.len()))?;
-    events.push(part(brackets.closing(), whole - s.len(), whole - rest.len()))?;
+    events.push(new_event(EventKind::Inner, start, whole - s.len()))?;
+    events.push(new_event(brackets.close_kind(), whole - s.len(), whole - rest.len()))?;
     Ok(rest)
 }
 
@@ -140,14 +140,14 @@ pub(crate) fn path<'a>(events: &mut Vec<Event>, whole: usize, s: &'a str) -> Res
             let (mistake, left) = no_key(rest);
             return Err(Stop::Before(mistake, left));
         };
-        events.push(part(EventKind::Key, whole - rest.len(), whole - end.len()))?;
+        events.push(new_event(EventKind::Key, whole - rest.len(), whole - end.len()))?;
         let (before, dot) = split_run(end, Class::Blank);
-        if first(dot) != b'.' {
+        if first_byte(dot) != b'.' {
             return Ok(end);
         }
         let (after, next) = split_run(skip(dot, 1), Class::Blank);
-        events.push(part(EventKind::BeforeDot, whole - end.len(), whole - dot.len()))?;
-        events.push(part(
+        events.push(new_event(EventKind::BeforeDot, whole - end.len(), whole - dot.len()))?;
+        events.push(new_event(
             EventKind::AfterDot,
             whole - next.len() - after.len(),
             whole - next.len(),
@@ -158,7 +158,7 @@ pub(crate) fn path<'a>(events: &mut Vec<Event>, whole: usize, s: &'a str) -> Res
 
 /// Adds `=`, with whitespace around it.
 #[inline(always)]
-fn sides<'a>(events: &mut Vec<Event>, whole: usize, s: &'a str) -> Result<&'a str, Stop>
+fn push_equals<'a>(events: &mut Vec<Event>, whole: usize, s: &'a str) -> Result<&'a str, Stop>
     requires { length s.now ≤ whole }
     ensures adds { Adds events.old.items events.new.items result (read.equals_read whole s.now) }
     ensures within { IfOk result (λ r. length r.now ≤ length s.now) }
@@ -168,7 +168,7 @@ fn sides<'a>(events: &mut Vec<Event>, whole: usize, s: &'a str) -> Result<&'a st
         return Err(Stop::Before(Mistake::ExpectedEquals, other.len()));
     };
     let end = whole - rest.len() - after.len();
-    events.push(part(EventKind::Equals, end - 1, end))?;
+    events.push(new_event(EventKind::Equals, end - 1, end))?;
     Ok(rest)
 }
 
@@ -185,17 +185,17 @@ pub(crate) fn frame<'a>(
         (read.frame_read whole leading.now s.now) }
     ensures within { IfOk result (λ r. length r.now ≤ length s.now) }
 {
-    events.push(part(
+    events.push(new_event(
         EventKind::Leading,
         whole - s.len() - leading.len(),
         whole - s.len(),
     ))?;
     let rest = path(events, whole, s)?;
-    sides(events, whole, rest)
+    push_equals(events, whole, rest)
 }
 
 /// Adds what comes before the value of an element or a pair, after its trivia.
-fn head<'a>(
+fn push_before_value<'a>(
     events: &mut Vec<Event>,
     whole: usize,
     brackets: Brackets,
@@ -209,7 +209,7 @@ fn head<'a>(
 {
     match brackets {
         Brackets::Array => {
-            events.push(part(
+            events.push(new_event(
                 EventKind::Before,
                 whole - s.len() - leading.len(),
                 whole - s.len(),
@@ -231,13 +231,13 @@ fn scalar<'a>(events: &mut Vec<Event>, whole: usize, s: &'a str) -> Result<&'a s
         let (mistake, left) = no_scalar(s);
         return Err(Stop::Before(mistake, left));
     };
-    events.push(part(EventKind::Scalar, whole - s.len(), whole - rest.len()))?;
+    events.push(new_event(EventKind::Scalar, whole - s.len(), whole - rest.len()))?;
     Ok(rest)
 }
 
 /// Returns the result of reading inside brackets that open where so many bytes are left, with a
 /// text that ends inside marked there.
-fn closed<'a>(
+fn mark_unclosed<'a>(
     brackets: Brackets,
     left: usize,
     inner: Result<&'a str, Stop>,
@@ -248,7 +248,7 @@ fn closed<'a>(
         → IfOk result (λ r. length r.now < n) }
 {
     match inner {
-        Err(Stop::Before(_, 0)) => Err(Stop::Before(brackets.unclosed(), left)),
+        Err(Stop::Before(_, 0)) => Err(Stop::Before(brackets.unclosed_mistake(), left)),
         _ => inner,
     }
 }
@@ -268,17 +268,17 @@ pub(crate) fn value<'a>(
         → Adds events.old.items events.new.items result (read.value_read n level whole s.now) }
     ensures shorter { IfOk result (λ r. length r.now < length s.now) }
 {
-    let Some(brackets) = Brackets::opened_by(first(s)) else {
+    let Some(brackets) = Brackets::opened_by(first_byte(s)) else {
         return scalar(events, whole, s);
     };
     let rest = skip(s, 1);
     if level == NESTING_LIMIT {
-        events.push(part(EventKind::TooDeep, whole - s.len(), whole - rest.len()))?;
+        events.push(new_event(EventKind::TooDeep, whole - s.len(), whole - rest.len()))?;
         return Err(Stop::TooDeep);
     }
-    events.push(part(brackets.opening(), whole - s.len(), whole - rest.len()))?;
+    events.push(new_event(brackets.open_kind(), whole - s.len(), whole - rest.len()))?;
     let inner = items(events, whole, level + 1, brackets, rest);
-    closed(brackets, s.len(), inner)
+    mark_unclosed(brackets, s.len(), inner)
 }
 
 /// Adds the elements or the pairs after an opening bracket, and the closing bracket.
@@ -302,21 +302,21 @@ fn items<'a>(
     let mut comma = false;
     'items: loop {
         let (before, start) = whole_trivia(rest)?;
-        if first(start) == brackets.closing_byte() {
+        if first_byte(start) == brackets.closing_byte() {
             return close(events, whole, brackets, comma, before, start);
         }
-        let start = head(events, whole, brackets, before, start)?;
+        let start = push_before_value(events, whole, brackets, before, start)?;
         let end = value(events, whole, level, start)?;
         let (after, next) = whole_trivia(end)?;
-        events.push(part(
+        events.push(new_event(
             EventKind::After,
             whole - next.len() - after.len(),
             whole - next.len(),
         ))?;
-        if first(next) == brackets.closing_byte() {
+        if first_byte(next) == brackets.closing_byte() {
             return close(events, whole, brackets, false, "", next);
         }
-        if first(next) != b',' {
+        if first_byte(next) != b',' {
             let (mistake, left) = behind_value(start, next, Mistake::UnexpectedCharacter);
             return Err(Stop::Before(mistake, left));
         }

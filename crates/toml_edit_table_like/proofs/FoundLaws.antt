@@ -1,94 +1,25 @@
--- What is found in slots: those that are no placeholders, and the one of a key.
-use Rattle.std.proofs.Common.{◌≡◌, ℕ, Bool, true, false, not, List, [], ◌∷◌, Option, Some, None, cond, is_some, option_and_then, option_map}
-use Rattle.std.proofs.Common.{slice_get, refl, sym, ap, ◌∙◌, ◌↔◌, inl, inr}
-use Rattle.std.proofs.lemmas.Bool.{cases_Bool, false≢true}
-use Rattle.std.proofs.lemmas.Cmp.{nat_list_eq_equiv}
+-- What is found in slots: a value, and the item of a key that is no placeholder.
+use Rattle.std.proofs.Common.{◌≡◌, ℕ, Bool, false, List, [], Option, Some, None, is_some, option_and_then, option_map}
+use Rattle.std.proofs.Common.{slice_get, refl, sym, ap, ◌∙◌}
 use Rattle.std.proofs.lemmas.Option.{slice_get-map}
 use Rattle.std.specs.Borrow.{Bor}
-use Rattle.std.specs.List.{AllByRecursion, IsDistinct}
 use Rattle.std.specs.Option.{option_map_or}
-use Rattle.std.specs.Prelude.{IsTrue}
-use Rattle.toml_edit_laws.proofs.slots.Places.{changed-at, changed-none, lookup-those, none_at}
+use Rattle.toml_edit_laws.proofs.slots.Places.{changed-at, changed-none, none_at}
+use Rattle.toml_edit_laws.proofs.slots.Those.{passing, found-those, has_slot-found}
 use Rattle.toml_edit_model.specs.Keys.{new_key}
-use Rattle.toml_edit_model.specs.Lists.{is_item, only, slot_list}
+use Rattle.toml_edit_model.specs.Lists.{is_item}
 use Rattle.toml_edit_model.specs.Slots as model
-use Rattle.toml_edit_model.specs.InlineCalls.{contains_value_key}
-use Rattle.toml_edit_model.specs.TableCalls.{get, get_slot}
-use Rattle.toml_edit_model.specs.Text.{Text, same_text}
-use Rattle.toml_edit_model.specs.Tree.{Key, Node, nothing, leaf, list, inline, table, tables, Slots, no_slots, slot, is_value_node}
+use Rattle.toml_edit_model.specs.TableCalls.{get_slot, contains_value}
+use Rattle.toml_edit_model.specs.Text.{Text}
+use Rattle.toml_edit_model.specs.Tree.{Key, Node, nothing, leaf, list, inline, table, tables, is_value_node}
 use Rattle.toml_edit_slots.specs.Seen.{pair_read, seen}
 use Rattle.toml_edit_slots.specs.declared.slots.Slot.{Slot}
 use Rattle.toml_edit_slots.specs.Slots.{lookup_slot, place, with_item}
 use Rattle.toml_edit_table_like.specs.Shown.{shown}
-use Rattle.toml_edit_table_like.proofs.ShownLaws.{lookup_slot-of, lookup_slot-shown, place-shown, set-shown, shown-seen, slot_shown}
+use Rattle.toml_edit_table_like.proofs.ShownLaws.{lookup_slot-of, place-shown, set-shown, shown-seen}
 use Rattle.toml_edit_tree.specs.SlotsOf.{slot_read}
 use Rattle.toml_edit_tree.specs.View.{item_view}
 use Rattle.toml_edit_tree.specs.declared.item.Item.{Item}
-
-full : (n : Node) → (n ≡ nothing → false ≡ true) → true ≡ is_item n
-full nothing e = absurd (false≢true (e refl))
-full (leaf s spelling d) e = refl
-full (list f xs) e = refl
-full (inline f ss) e = refl
-full (table f ss) e = refl
-full (tables e xs) h = refl
-
-pub is_item-not : (b : Bool) (n : Node) → IsTrue b ↔ (n ≡ nothing) → not b ≡ is_item n
-is_item-not true n h = sym (ap is_item (h.0 refl))
-is_item-not false n h = full n h.1
-
--- ---- the slots that pass a test
-
-module _ (test : Node → Bool) (t : Text) where
-  abbrev NoneAt : List (model.Slot Node) → Type 0
-  NoneAt es = AllByRecursion (λ u. same_text t u ≡ false) (model.names es)
-
-  moved : (u : Text) (es : List (model.Slot Node)) → same_text t u ≡ true → AllByRecursion (λ v. same_text u v ≡ false) (model.names es)
-      → NoneAt es
-  moved u [] e all = tt
-  moved u (s ∷ es) e all = (nat_list_eq_equiv.congr t u s.key.name e ∙ all.0, moved u es e all.1)
-
-  none-those : (es : List (model.Slot Node)) → NoneAt es → model.lookup_slot t (model.those test es) ≡ None
-  none-those [] n = refl
-  none-those (s ∷ es) n =
-      elim (cases_Bool (test s.item)) [
-        | inl passes ↦ rw (passes, n.0) (none-those es n.1)
-        | inr fails ↦ rw fails (none-those es n.1)
-      ]
-
-  -- the slot, where its item passes
-  abbrev pub passing : model.Slot Node → Option (model.Slot Node)
-  passing s = cond (test s.item) (Some s) None
-
-  -- what is found among them is what stands under the name, if it passes
-  pub found-those : (es : List (model.Slot Node)) → model.AreApart es → model.lookup_slot t (model.those test es)
-      ≡ option_and_then passing (model.lookup_slot t es)
-  unfolding IsDistinct
-  found-those [] a = refl
-  found-those (s ∷ es) a =
-      elim (cases_Bool (test s.item)) [
-        | inl passes ↦ elim (cases_Bool (model.is_at t s)) [
-          | inl same ↦ rw (passes, same, passes) refl
-          | inr other ↦ rw (passes, other) (found-those es a.1)
-        ]
-        | inr fails ↦ elim (cases_Bool (model.is_at t s)) [
-          | inl same ↦ rw (fails, same, fails) (none-those es (moved s.key.name es same a.0))
-          | inr other ↦ rw (fails, other) (found-those es a.1)
-        ]
-      ]
-
--- a slot has the name where one is found
-pub has_slot-found : (t : Text) (es : List (model.Slot Node)) → model.has_slot t es ≡ is_some (model.lookup_slot t es)
-has_slot-found t [] = refl
-has_slot-found t (s ∷ es) =
-    elim (cases_Bool (model.is_at t s)) [
-      | inl same ↦ rw same refl
-      | inr other ↦ rw other (has_slot-found t es)
-    ]
-
-pub is_some-mapped : {X Y : Type 0} (f : X → Y) (o : Option X) → is_some (option_map f o) ≡ is_some o
-is_some-mapped f None = refl
-is_some-mapped f (Some x) = refl
 
 -- ---- a value is held where the slot that is no placeholder holds one
 
@@ -111,30 +42,12 @@ value-slot k None = refl
 value-slot k (Some s) = value-item k s s.item refl
 
 pub value-filled : (k : Text) (es : List (model.Slot Node)) (o : Option (model.Slot Node)) → model.AreApart es → o ≡ get_slot k es
-    → contains_value_key k es ≡ holds_value o
+    → contains_value k es ≡ holds_value o
 value-filled k es o apart is =
     has_slot-found k (model.those is_value_node es) ∙ ap is_some (found-those is_value_node k es apart)
     ∙ sym (ap holds_value (is ∙ found-those is_item k es apart) ∙ value-slot k (model.lookup_slot k es))
 
 -- ---- the item of a key that is no placeholder
-
--- of the slot that was looked up
-abbrev pub item_in : Option (Slot Item) → Option Node
-item_in None = None
-item_in (Some s) = only is_item (item_view s.item)
-
-in_slot : (o : Option (Slot Item)) → option_and_then (only is_item) (option_map (λ (s : model.Slot Node). s.item) (option_map slot_shown o))
-    ≡ item_in o
-in_slot None = refl
-in_slot (Some s) = refl
-
-pub get-found : (k : Text) (es : List (Slot Item)) (o : Option (Slot Item)) → model.AreApart (shown es) → o ≡ lookup_slot k es
-    → get k (shown es) ≡ item_in o
-get-found k es o apart is =
-    lookup-those is_item k (shown es) apart
-    ∙ ap (λ f. option_and_then (only is_item) (option_map (λ (s : model.Slot Node). s.item) f)) (lookup_slot-shown k es
-    ∙ ap (option_map slot_shown) (sym is))
-    ∙ in_slot o
 
 no_seen : model.Slot Node
 no_seen = record { key = new_key []; item = nothing }

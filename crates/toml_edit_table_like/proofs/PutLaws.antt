@@ -1,6 +1,6 @@
 -- An item that is put under a key, where none stands.
-use Rattle.std.proofs.Common.{◌≡◌, ℕ, suc, ◌<◌, false, List, [], ◌∷◌, ◌++◌, Option, Some, None, is_some, length, get_or, option_map}
-use Rattle.std.proofs.Common.{slice_get, refl, sym, ap, subst, ◌∙◌, arith}
+use Rattle.std.proofs.Common.{◌≡◌, ℕ, ◌<◌, false, List, [], ◌∷◌, ◌++◌, Option, Some, None, is_some, length, get_or, option_map}
+use Rattle.std.proofs.Common.{slice_get, refl, sym, ap, subst, ◌∙◌}
 use Rattle.std.proofs.lemmas.Option.{slice_get-get_or}
 use Rattle.std.specs.Option.{option_map_or, unwrap_or, UnwrapsOrElse}
 use Rattle.std.specs.Prelude.{IfSome}
@@ -29,13 +29,6 @@ with_item-last (r ∷ es) s x = ap (λ l. r ∷ l) (with_item-last es s x)
 pub item-last : (es : List (Slot Item)) (s : Slot Item) → slice_get (items_of (es ++ s ∷ [])) (length es) ≡ Some s.item
 item-last [] s = refl
 item-last (r ∷ es) s = item-last es s
-
-pub length-last : (es : List (Slot Item)) (s : Slot Item) → length (es ++ s ∷ []) ≡ suc (length es)
-length-last [] s = refl
-length-last (r ∷ es) s = ap suc (length-last es s)
-
-pub low-last : (es : List (Slot Item)) (s : Slot Item) → length es < length (es ++ s ∷ [])
-low-last es s = omega (arith, length-last es s)
 
 module _ (k : Key) (es : List (Slot Item)) where
   left : model.AreApart (shown es) → (w : Item) → (o : Option ℕ) → place k.name es ≡ o

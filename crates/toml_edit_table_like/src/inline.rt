@@ -42,7 +42,8 @@ pub(crate) fn insert_item(
 fn make_value_under(slots: &mut Slots<Item>, key: &str)
     ensures { shown slots.new ≡ changed key.now (on_item made_value) (shown slots.old) }
 {
-    let _entries = slots.as_slice();
+    // No two keys have one name, says its contract.
+    let _ = slots.as_slice();
     match slots.find(key) {
         Some(at) => slots.item_mut(at).make_value(),
         None => {}

@@ -25,7 +25,7 @@ ghost use Rattle.toml_edit_tree.specs.declared.item.Item.{Item};
 use crate::entry::EntryKey;
 use crate::find::{filled_len, filled_slot};
 use crate::inline::insert_item;
-use crate::put::{place_for, place_for_key};
+use crate::put::{find_or_add, find_or_add_key};
 use crate::{HasSlots, TableLikeEntry, TableLikeSlot};
 use std::alloc::Global;
 use toml_edit_key::{Key, KeyMut};
@@ -61,7 +61,8 @@ pub trait AnyTable: HasSlots {
         ensures apart { AreApart (Self.slots_of self.now) }
     {
         let slots = self.as_slots();
-        let _entries = slots.as_slice();
+        // No two keys have one name, says its contract.
+        let _ = slots.as_slice();
         slots.len()
     }
 
@@ -85,7 +86,7 @@ pub trait AnyTable: HasSlots {
     fn iter(&self) -> Iter<'_>
         ensures { held_left result ≡ filled_pairs (Self.slots_of self.now) }
     {
-        Iter::over(self.as_slots().as_slice())
+        Iter::from_slots(self.as_slots().as_slice())
     }
 
     /// Returns the item under `key`, or `None` if the key is missing or has a placeholder.
@@ -249,7 +250,7 @@ pub trait AnyTable: HasSlots {
         ensures present { IsTrue (has_slot key.now (Self.slots_of self.old)) → IsOk result }
         ensures back { IfErr result (λ refused. refused.0 ≡ item) }
     {
-        match place_for(self.as_slots_mut(), key, item) {
+        match find_or_add(self.as_slots_mut(), key, item) {
             Ok(at) => Ok(self.item_at_mut(at)),
             Err(refused) => Err(refused),
         }
@@ -277,7 +278,7 @@ pub trait AnyTable: HasSlots {
         ensures present { IsTrue (has_slot key.now.name (Self.slots_of self.old)) → IsOk result }
         ensures back { IfErr result (λ refused. refused.0 ≡ item) }
     {
-        match place_for_key(self.as_slots_mut(), key, item) {
+        match find_or_add_key(self.as_slots_mut(), key, item) {
             Ok(at) => Ok(self.item_at_mut(at)),
             Err(refused) => Err(refused),
         }

@@ -14,7 +14,7 @@ use toml_edit_slots::{NoMemory, Slot, Slots};
 use toml_edit_tree::Item;
 
 /// Finds the slot of the key, after adding one with `item` at the end if the key is missing.
-pub(crate) fn place_for(
+pub(crate) fn find_or_add(
     slots: &mut Slots<Item>,
     key: &str,
     item: Item,
@@ -32,7 +32,8 @@ pub(crate) fn place_for(
     ensures back { IfErr result (λ refused. refused.0 ≡ item) }
     ensures err { OnErr result (slots.new ≡ slots.old) }
 {
-    let _entries = slots.as_slice();
+    // No two keys have one name, says its contract.
+    let _ = slots.as_slice();
     match slots.find(key) {
         Some(at) => {
             drop(item);
@@ -52,7 +53,7 @@ pub(crate) fn place_for(
 }
 
 /// Finds the slot of the key, after adding one with a copy of the key if it is missing.
-pub(crate) fn place_for_key(
+pub(crate) fn find_or_add_key(
     slots: &mut Slots<Item>,
     key: &Key,
     item: Item,
@@ -70,7 +71,8 @@ pub(crate) fn place_for_key(
     ensures back { IfErr result (λ refused. refused.0 ≡ item) }
     ensures err { OnErr result (slots.new ≡ slots.old) }
 {
-    let _entries = slots.as_slice();
+    // No two keys have one name, says its contract.
+    let _ = slots.as_slice();
     match slots.find(key.get()) {
         Some(at) => {
             drop(item);

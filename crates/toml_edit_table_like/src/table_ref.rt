@@ -54,7 +54,8 @@ impl<'a> TableRef<'a> {
         ensures apart { AreApart (ref_slots self.now) }
     {
         let slots = self.as_slots();
-        let _entries = slots.as_slice();
+        // No two keys have one name, says its contract.
+        let _ = slots.as_slice();
         slots.len()
     }
 
@@ -78,7 +79,7 @@ impl<'a> TableRef<'a> {
     pub fn iter(&self) -> Iter<'a>
         ensures { held_left result ≡ filled_pairs (ref_slots self.now) }
     {
-        Iter::over(self.as_slots().as_slice())
+        Iter::from_slots(self.as_slots().as_slice())
     }
 
     /// Returns the item under `key`, or `None` if the key is missing or has a placeholder.

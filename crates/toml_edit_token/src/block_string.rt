@@ -4,7 +4,7 @@ ghost use Rattle.toml_edit_laws.specs.reading.Tokens.{whole};
 ghost use Rattle.toml_edit_laws.specs.reading.BlockReading as spec;
 ghost use Rattle.toml_edit_token.specs.BlockPieces as pieces;
 
-use crate::run::{Class, byte_at, first, has_line_feed, is_blank, skip, split_run};
+use crate::run::{Class, byte_at, first_byte, has_line_feed, is_blank, skip, split_run};
 use crate::string::escape;
 use std::alloc::{AllocError, Global};
 
@@ -52,7 +52,7 @@ fn class(form: Form) -> Class
 fn has_three(s: &str, delimiter: u8) -> bool
     ensures { result ≡ spec.has_three delimiter s.now }
 {
-    first(s) == delimiter && byte_at(s, 1) == delimiter && byte_at(s, 2) == delimiter
+    first_byte(s) == delimiter && byte_at(s, 1) == delimiter && byte_at(s, 2) == delimiter
 }
 
 /// Returns the number of bytes of the newline at the front, or 0.
@@ -60,7 +60,7 @@ fn has_three(s: &str, delimiter: u8) -> bool
 fn newline_len(s: &str) -> usize
     ensures { result ≡ spec.newline_len s.now }
 {
-    match first(s) {
+    match first_byte(s) {
         b'\n' => 1,
         b'\r' if byte_at(s, 1) == b'\n' => 2,
         _ => 0,
@@ -105,7 +105,7 @@ fn gap_len(s: &str) -> usize
 
 /// Splits off the opening of the string, with the newline after it, and returns the string's form.
 #[tactic(auto, unfolding(crate::specs::BlockPieces::opening_at))]
-fn opening(s: &str) -> Option<(Form, &str)>
+fn split_opening(s: &str) -> Option<(Form, &str)>
     ensures value { option_map (λ p. (p.0, p.1.now)) result ≡ pieces.opening_at s.now }
     ensures within { IfSome result (λ p. length p.1.now < length s.now) }
 {
@@ -122,7 +122,7 @@ fn opening(s: &str) -> Option<(Form, &str)>
 /// Splits off an escape, after its backslash. Returns its character, or nothing where it drops
 /// whitespace and newlines.
 #[tactic(auto, unfolding(toml_edit_laws::specs::reading::BlockReading::escaped_at))]
-fn escaped(s: &str) -> Option<(Option<char>, &str)>
+fn split_escape(s: &str) -> Option<(Option<char>, &str)>
     ensures value { option_map (λ p. (pieces.escaped_text p.0, p.1.now)) result
         ≡ spec.escaped_at s.now }
     ensures within { IfSome result (λ p. length p.1.now ≤ length s.now) }
@@ -165,13 +165,13 @@ fn next_piece(form: Form, s: &str) -> Option<(Piece<'_>, &str)>
     if !own.is_empty() {
         return Some((Piece::Own(own), rest));
     }
-    if first(s) != b'\\' {
+    if first_byte(s) != b'\\' {
         return None;
     }
     match form {
         Form::Literal => None,
         Form::Basic => {
-            let (c, rest) = escaped(skip(s, 1))?;
+            let (c, rest) = split_escape(skip(s, 1))?;
             Some((Piece::Escaped(c), rest))
         }
     }
@@ -182,7 +182,7 @@ pub(crate) fn after_block(s: &str) -> Option<&str>
     ensures rest { option_map (λ r. r.now) result ≡ option_map (λ p. p.1) (spec.block_at s.now) }
     ensures within { IfSome result (λ r. length r.now ≤ length s.now) }
 {
-    let (form, mut rest) = opening(s)?;
+    let (form, mut rest) = split_opening(s)?;
     'pieces: loop {
         let (piece, next) = next_piece(form, rest)?;
         if let Piece::Last(_) = piece {
@@ -198,7 +198,7 @@ pub(crate) fn after_block(s: &str) -> Option<&str>
 pub(crate) fn block_stop(s: &str) -> &str
     ensures within { length result.now ≤ length s.now }
 {
-    let Some((form, mut rest)) = opening(s) else {
+    let Some((form, mut rest)) = split_opening(s) else {
         return s;
     };
     'pieces: loop {
@@ -216,7 +216,7 @@ pub(crate) fn block_stop(s: &str) -> &str
 pub(crate) fn read_block(alloc: Global, text: &str) -> Result<Option<String>, AllocError>
     ensures { IfOk result (λ o. option_map string_bytes o ≡ whole (spec.block_at text.now)) }
 {
-    let Some((form, mut rest)) = opening(text) else {
+    let Some((form, mut rest)) = split_opening(text) else {
         return Ok(None);
     };
     // No piece means more bytes than it takes.

@@ -13,7 +13,7 @@ ghost use Rattle.toml_edit_laws.specs.reading.Tokens as spec;
 
 use crate::block_string::read_block;
 use crate::number;
-use crate::run::{Class, first, is_bare, is_word, split_run};
+use crate::run::{Class, first_byte, is_bare, is_word, split_run};
 use crate::string::decode_string;
 use crate::token::opens_block;
 use std::alloc::{AllocError, Global};
@@ -81,7 +81,7 @@ pub fn decode_integer(text: &str) -> Option<i64>
 fn read_key(alloc: Global, text: &str) -> Result<Option<String>, AllocError>
     ensures { IfOk result (λ o. option_map string_bytes o ≡ spec.whole (spec.key_at text.now)) }
 {
-    if !is_bare(first(text)) {
+    if !is_bare(first_byte(text)) {
         return decode_string(alloc, text);
     }
     let (name, rest) = split_run(text, Class::Bare);
@@ -98,7 +98,7 @@ fn read_name<'a>(alloc: Global, text: &'a str) -> Result<Option<CowStr<'a>>, All
     ensures { IfOk result
         (λ o. option_map cow_str_bytes o ≡ spec.whole (spec.key_at text.now)) }
 {
-    if !is_bare(first(text)) {
+    if !is_bare(first_byte(text)) {
         return match decode_string(alloc, text)? {
             Some(name) => Ok(Some(CowStr::Owned(name))),
             None => Ok(None),
@@ -119,7 +119,7 @@ fn read_scalar(alloc: Global, text: &str) -> Result<Option<Scalar>, AllocError>
         (λ o. option_map scalar_view o
         ≡ spec.ranged text.now (spec.whole (scalar.scalar_at text.now))) }
 {
-    if is_word(first(text)) {
+    if is_word(first_byte(text)) {
         return read_word(alloc, text);
     }
     read_string(alloc, text)

@@ -58,7 +58,7 @@ pub(crate) fn is_integer(word: &[u8]) -> bool
 
 /// Returns the number that digits of the base write, with single underscores between them, if it is
 /// below the limit.
-fn natural(digits: &[u8], base: u32, limit: u64) -> Option<u64>
+fn natural_number(digits: &[u8], base: u32, limit: u64) -> Option<u64>
     requires low { 2 ≤ base }
     requires high { base ≤ 16 }
     requires limit { limit ≤ 2 ^ 63 + 1 }
@@ -94,26 +94,26 @@ fn natural(digits: &[u8], base: u32, limit: u64) -> Option<u64>
 
 /// Returns the integer that decimal digits write without a minus sign.
 #[tactic(auto, unfolding(toml_edit_laws::specs::reading::Tokens::decimal_of))]
-fn positive(digits: &[u8]) -> Option<i64>
+fn positive_integer(digits: &[u8]) -> Option<i64>
     ensures unsigned { result ≡ spec.fitting (spec.decimal_of unsigned digits.now) }
     ensures plus { result ≡ spec.fitting (spec.decimal_of plus digits.now) }
 {
     if leads_with_zero(digits) {
         return None;
     }
-    let n = natural(digits, 10, 1 << 63)?;
+    let n = natural_number(digits, 10, 1 << 63)?;
     Some(n as i64)
 }
 
 /// Returns the integer that decimal digits write after a minus sign.
 #[tactic(auto, unfolding(toml_edit_laws::specs::reading::Tokens::decimal_of))]
-fn negative(digits: &[u8]) -> Option<i64>
+fn negative_integer(digits: &[u8]) -> Option<i64>
     ensures { result ≡ spec.fitting (spec.decimal_of minus digits.now) }
 {
     if leads_with_zero(digits) {
         return None;
     }
-    let n = natural(digits, 10, (1 << 63) + 1)?;
+    let n = natural_number(digits, 10, (1 << 63) + 1)?;
     if n == 1 << 63 {
         Some(i64::MIN)
     } else {
@@ -122,12 +122,12 @@ fn negative(digits: &[u8]) -> Option<i64>
 }
 
 /// Returns the integer that digits of the base write.
-fn prefixed(digits: &[u8], base: u32) -> Option<i64>
+fn based_integer(digits: &[u8], base: u32) -> Option<i64>
     requires low { 2 ≤ base }
     requires high { base ≤ 16 }
     ensures { result ≡ spec.fitting (option_map pos (spec.natural_of base digits.now)) }
 {
-    let n = natural(digits, base, 1 << 63)?;
+    let n = natural_number(digits, base, 1 << 63)?;
     Some(n as i64)
 }
 
@@ -138,11 +138,11 @@ pub(crate) fn decode_integer(word: &[u8]) -> Option<i64>
     ensures { result ≡ spec.fitting (spec.integer_of word.now) }
 {
     match (byte_of(word, 0), byte_of(word, 1)) {
-        (b'0', b'x') => prefixed(&word[2..], 16),
-        (b'0', b'o') => prefixed(&word[2..], 8),
-        (b'0', b'b') => prefixed(&word[2..], 2),
-        (b'+', _) => positive(&word[1..]),
-        (b'-', _) => negative(&word[1..]),
-        _ => positive(word),
+        (b'0', b'x') => based_integer(&word[2..], 16),
+        (b'0', b'o') => based_integer(&word[2..], 8),
+        (b'0', b'b') => based_integer(&word[2..], 2),
+        (b'+', _) => positive_integer(&word[1..]),
+        (b'-', _) => negative_integer(&word[1..]),
+        _ => positive_integer(word),
     }
 }

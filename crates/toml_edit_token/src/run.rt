@@ -24,7 +24,7 @@ pub fn byte_at(s: &str, index: usize) -> u8
 }
 
 /// Returns the first byte, or 0.
-pub fn first(s: &str) -> u8
+pub fn first_byte(s: &str) -> u8
     ensures { result ≡ slice_index s.now 0 }
 {
     byte_at(s, 0)
@@ -178,7 +178,7 @@ fn blank_len(bytes: &[u8]) -> usize
 
 /// Returns the same as [`run_len`], and sooner where a class has short runs.
 #[inline(always)]
-fn front_len(bytes: &[u8], class: Class) -> usize
+fn short_run_len(bytes: &[u8], class: Class) -> usize
     ensures len { result ≡ prefix_len (class_test class) bytes.now }
     ensures within { result ≤ length bytes.now }
 {
@@ -194,5 +194,5 @@ pub fn split_run(s: &str, class: Class) -> (&str, &str)
     ensures parts { (result.0.now, result.1.now) ≡ split_while (class_test class) s.now }
     ensures lens { length result.0.now + length result.1.now ≡ length s.now }
 {
-    s.split_at(front_len(s.as_bytes(), class))
+    s.split_at(short_run_len(s.as_bytes(), class))
 }

@@ -9,7 +9,7 @@ ghost use Rattle.toml_edit_model.specs.DefaultSpelling as spec;
 ghost use Rattle.toml_edit_model.specs.Spelling.{is_plain};
 ghost use Rattle.toml_edit_token.specs.Classes.{class_test};
 
-use crate::run::{Class, first, has_line_feed, split_run};
+use crate::run::{Class, first_byte, has_line_feed, split_run};
 use toml_edit_io::Sink;
 
 /// Puts the default spelling of a string.
@@ -86,7 +86,7 @@ fn put_escaped<S: Sink>(out: &mut S, text: &str, many_lines: bool)
         if after.is_empty() {
             return;
         }
-        put_escape(out, first(after), many_lines);
+        put_escape(out, first_byte(after), many_lines);
         rest = after_first(after);
     }
 }

@@ -2,7 +2,7 @@
 ghost use Rattle.std.specs.Prelude.{◌≡◌, ℕ, Some, ◌<◌, ◌≤◌, length, string_bytes, option_map, IfOk, IfSome};
 ghost use Rattle.toml_edit_laws.specs.reading.Tokens as spec;
 
-use crate::run::{Class, first, skip, split_run};
+use crate::run::{Class, first_byte, skip, split_run};
 use std::alloc::{AllocError, Global};
 
 /// Splits off a literal string, after its opening quote, and returns what it means.
@@ -12,7 +12,7 @@ pub(crate) fn literal(s: &str) -> Option<(&str, &str)>
     ensures within { IfSome result (λ p. length p.1.now ≤ length s.now) }
 {
     let (value, rest) = split_run(s, Class::Literal);
-    if first(rest) == b'\'' {
+    if first_byte(rest) == b'\'' {
         Some((value, skip(rest, 1)))
     } else {
         None
@@ -28,7 +28,7 @@ fn after_basic(s: &str) -> Option<&str>
     let mut rest = s;
     'parts: loop {
         let (_, after) = split_run(rest, Class::Plain);
-        let byte = first(after);
+        let byte = first_byte(after);
         if byte == b'"' {
             return Some(skip(after, 1));
         }
@@ -49,7 +49,7 @@ pub(crate) fn basic_stop(s: &str) -> &str
     let mut rest = s;
     'parts: loop {
         let (_, after) = split_run(rest, Class::Plain);
-        if first(after) != b'\\' {
+        if first_byte(after) != b'\\' {
             return after;
         }
         match escape(skip(after, 1)) {
@@ -65,7 +65,7 @@ pub(crate) fn escape(s: &str) -> Option<(char, &str)>
     ensures value { option_map (λ p. (p.0, p.1.now)) result ≡ spec.escape_at s.now }
     ensures within { IfSome result (λ p. length p.1.now ≤ length s.now) }
 {
-    let c = match first(s) {
+    let c = match first_byte(s) {
         b'x' => return hex(skip(s, 1), 2),
         b'u' => return hex(skip(s, 1), 4),
         b'U' => return hex(skip(s, 1), 8),
@@ -118,7 +118,7 @@ pub(crate) fn after_string(s: &str) -> Option<&str>
     ensures rest { option_map (λ r. r.now) result ≡ option_map (λ p. p.1) (spec.string_at s.now) }
     ensures within { IfSome result (λ r. length r.now ≤ length s.now) }
 {
-    match first(s) {
+    match first_byte(s) {
         b'\'' => Some(literal(skip(s, 1))?.1),
         b'"' => after_basic(skip(s, 1)),
         _ => None,
@@ -139,7 +139,7 @@ fn decode_basic(alloc: Global, s: &str) -> Result<Option<String>, AllocError>
     'parts: loop {
         let (plain, after) = split_run(rest, Class::Plain);
         value.push_str(plain)?;
-        let byte = first(after);
+        let byte = first_byte(after);
         if byte == b'"' {
             return Ok(if skip(after, 1).is_empty() {
                 Some(value)
@@ -166,7 +166,7 @@ fn plain_body(s: &str) -> Option<&str>
         (λ v. (n : ℕ) → length s.now < n → Some v.now ≡ spec.whole (spec.basic_at n s.now)) }
 {
     let (value, rest) = split_run(s, Class::Plain);
-    if rest.len() == 1 && first(rest) == b'"' {
+    if rest.len() == 1 && first_byte(rest) == b'"' {
         Some(value)
     } else {
         None
@@ -178,7 +178,7 @@ fn plain_body(s: &str) -> Option<&str>
 pub(crate) fn decode_string(alloc: Global, s: &str) -> Result<Option<String>, AllocError>
     ensures { IfOk result (λ o. option_map string_bytes o ≡ spec.whole (spec.string_at s.now)) }
 {
-    match first(s) {
+    match first_byte(s) {
         b'\'' => match literal(skip(s, 1)) {
             Some((value, rest)) if rest.is_empty() => Ok(Some(String::from_str(alloc, value)?)),
             _ => Ok(None),

@@ -9,7 +9,7 @@ ghost use Rattle.toml_edit_laws.specs.reading.Tokens as spec;
 
 use crate::block_string::{after_block, block_stop};
 use crate::number::is_integer;
-use crate::run::{Class, byte_at, first, is_bare, is_word, run_len, skip, split_run};
+use crate::run::{Class, byte_at, first_byte, is_bare, is_word, run_len, skip, split_run};
 use crate::string::{after_string, basic_stop};
 use toml_edit_datetime::{is_datetime, is_float};
 
@@ -25,16 +25,16 @@ pub fn after_key(s: &str) -> Option<&str>
     ensures rest { option_map (λ r. r.now) result ≡ option_map (λ p. p.1) (spec.key_at s.now) }
     ensures within { IfSome result (λ r. length r.now ≤ length s.now) }
 {
-    behind_key(s)
+    after_run_or_string(s)
 }
 
-/// Returns the text after the simple key at the front.
+/// Returns the text after the run of a bare key, or after the string, at the front.
 #[tactic(auto, unfolding(toml_edit_laws::specs::reading::Tokens::key_at))]
-fn behind_key(s: &str) -> Option<&str>
+fn after_run_or_string(s: &str) -> Option<&str>
     ensures rest { option_map (λ r. r.now) result ≡ option_map (λ p. p.1) (spec.key_at s.now) }
     ensures within { IfSome result (λ r. length r.now ≤ length s.now) }
 {
-    if is_bare(first(s)) {
+    if is_bare(first_byte(s)) {
         let (_, rest) = split_run(s, Class::Bare);
         Some(rest)
     } else {
@@ -83,7 +83,7 @@ fn is_scalar_word(word: &str) -> bool
 pub(crate) fn opens_block(s: &str) -> bool
     ensures { result ≡ block.opens_block s.now }
 {
-    let quote = first(s);
+    let quote = first_byte(s);
     (quote == b'"' || quote == b'\'') && byte_at(s, 1) == quote && byte_at(s, 2) == quote
 }
 
@@ -109,7 +109,7 @@ fn behind_scalar(s: &str) -> Option<&str>
     ensures rest { option_map (λ r. r.now) result ≡ option_map (λ p. p.1) (scalar.scalar_at s.now) }
     ensures within { IfSome result (λ r. length r.now ≤ length s.now) }
 {
-    if !is_word(first(s)) {
+    if !is_word(first_byte(s)) {
         return if opens_block(s) {
             after_block(s)
         } else {
@@ -133,7 +133,7 @@ pub fn string_stop(s: &str) -> &str
     if opens_block(s) {
         return block_stop(s);
     }
-    match first(s) {
+    match first_byte(s) {
         b'"' => basic_stop(skip(s, 1)),
         b'\'' => split_run(skip(s, 1), Class::Literal).1,
         _ => s,

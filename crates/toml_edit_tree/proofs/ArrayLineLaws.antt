@@ -1,11 +1,11 @@
 -- The values of an array that a line is added to or removed from.
-use Rattle.std.proofs.Common.{append-nil, append_assoc, ◌≡◌, ℕ, zero, suc, ◌+◌, ◌-◌, ◌<◌, ◌≤◌, ◌==◌, Bor, Bool, true, false, drop, get_or}
+use Rattle.std.proofs.Common.{◌≡◌, ℕ, zero, suc, ◌+◌, ◌-◌, ◌<◌, ◌≤◌, ◌==◌, Bor, Bool, true, false, drop, get_or}
 use Rattle.std.proofs.Common.{subst, MatchOption, List, [], ◌∷◌, Option, Some, None, ap, sym, refl, ◌∙◌, inl, inr, arith, length, leb}
-use Rattle.std.proofs.Common.{IsSome, if◌then◌else◌}
-use Rattle.std.specs.Prelude.{filter, flat_map, nat_lt, not, option_and_then, option_map, ◌++◌, ◌||◌}
+use Rattle.std.proofs.Common.{if◌then◌else◌}
+use Rattle.std.specs.Prelude.{nat_lt, not, option_and_then, option_map, ◌++◌, ◌||◌}
 use Rattle.std.proofs.lemmas.Bool.{cases_Bool, eqb-true}
 use Rattle.std.proofs.lemmas.Bool.Decides.{nat_tests}
-use Rattle.std.proofs.lemmas.List.Edits.{length-insert, length-remove}
+use Rattle.std.proofs.lemmas.List.Edits.{length-insert}
 use Rattle.std.proofs.lemmas.Option.{none-some, same_Some}
 use Rattle.std.proofs.lemmas.Str.{len_utf8_ascii}
 use Rattle.std.proofs.lemmas.Str.Pattern.{NoCharPasses-char}
@@ -13,7 +13,7 @@ use Rattle.std.specs.Option.{option_or}
 use Rattle.toml_edit_model.specs.Comments.{after_first_line, first_line, side_text}
 use Rattle.std.specs.Str.{NoCharPasses}
 use Rattle.std.specs.Str.Pattern.{RFindsChar, SplitsAroundMatch}
-use Rattle.toml_edit_model.specs.ArrayCalls.{inserted_at, removed_at, value_at, written_at}
+use Rattle.toml_edit_model.specs.ArrayCalls.{inserted_at, value_at, written_at}
 use Rattle.toml_edit_model.specs.Conversions.{with_decor}
 use Rattle.toml_edit_model.specs.Slots.{changed_at}
 use Rattle.toml_edit_model.specs.Text.{Text, one}
@@ -66,12 +66,6 @@ module _ (h : Decor → Decor) where
 suc-below : (i n : ℕ) → nat_lt (suc i) (n + 1) ≡ nat_lt i n
 suc-below i n = grind (arith, nat_tests)
 
--- past the end nothing changes
-pub changed-past : (h : Node → Node) (xs : List Node) (i : ℕ) → length xs ≤ i → changed_at i h xs ≡ xs
-changed-past h [] i l = refl
-changed-past h (x ∷ xs) zero l = absurd (omega arith)
-changed-past h (x ∷ xs) (suc i) l = ap (λ l. x ∷ l) (changed-past h xs i (omega arith))
-
 -- a change of what was inserted
 pub changed-inserted : (h : Node → Node) (xs : List Node) (i : ℕ) (v : Node) → i ≤ length xs → changed_at i h (inserted_at i v xs)
     ≡ inserted_at i (h v) xs
@@ -116,43 +110,10 @@ length-changed h [] i = refl
 length-changed h (x ∷ xs) zero = refl
 length-changed h (x ∷ xs) (suc i) = ap suc (length-changed h xs i)
 
--- behind the last place there is nothing to change
-pub behind-last : (h g : Node → Node) (xs : List Node) (i : ℕ) → is_last i xs ≡ true → changed_at (suc i) h (changed_at i g xs)
-    ≡ changed_at i g xs
-behind-last h g xs i e =
-    changed-past h (changed_at i g xs) (suc i) (subst (λ n. n ≤ suc i) (sym (length-changed g xs i)) (grind (arith, nat_tests, e)))
-
-last-by-length : (xs ys : List Node) (i : ℕ) → length xs ≡ length ys → is_last i xs ≡ is_last i ys
-last-by-length xs ys i e = ap (λ n. not (nat_lt (suc i) n)) e
-
-pub put-behind : (h g : Node → Node) (xs ys : List Node) (i next : ℕ) (last : Bool) → length xs ≡ length ys → last ≡ is_last i ys → next
-    ≡ suc i
-    → (if last then changed_at i g xs else changed_at next h (changed_at i g xs)) ≡ changed_at (suc i) h (changed_at i g xs)
-put-behind h g xs ys i next true same is n = sym (behind-last h g xs i (last-by-length xs ys i same ∙ sym is))
-put-behind h g xs ys i next false same is n = ap (λ k. changed_at k h (changed_at i g xs)) n
-
 pub length-followed : (h : Node → Node) (comma : Bool) (xs : List Node) (i : ℕ) → length (if comma then xs else changed_at i h xs)
     ≡ length xs
 length-followed h true xs i = refl
 length-followed h false xs i = length-changed h xs i
-
--- nor in the place of the last value, once that is removed
-last-removed : (h : Node → Node) (xs : List Node) (i : ℕ) → i < length xs → is_last i xs ≡ true → changed_at i h (removed_at i xs)
-    ≡ removed_at i xs
-last-removed h xs i l e =
-    let past : length xs ≤ suc i = grind (arith, nat_tests, e) in
-    changed-past h (removed_at i xs) i (omega (arith, length-remove xs i l))
-
-pub removed-behind : (h : Node → Node) (xs : List Node) (i : ℕ) (last : Bool) → i < length xs → last ≡ is_last i xs
-    → (if last then removed_at i xs else changed_at i h (removed_at i xs)) ≡ changed_at i h (removed_at i xs)
-removed-behind h xs i true l is = sym (last-removed h xs i l (sym is))
-removed-behind h xs i false l is = refl
-
--- a value is inside the list
-pub value-inside : (xs : List Node) (i : ℕ) → IsSome (value_at i xs) → i < length xs
-value-inside [] i s = absurd cc
-value-inside (x ∷ xs) zero s = omega arith
-value-inside (x ∷ xs) (suc i) s = omega (arith, value-inside xs i s)
 
 -- the test of the last place
 pub last-tested : (i n : ℕ) → leb n (i + 1) ≡ not (nat_lt (suc i) n)
@@ -239,41 +200,6 @@ after-is t (Some x) (i, j, found, front, back, le, at, long) =
     e) in
     rw after (ap Some (back ∙ ap (λ n. drop n t) next))
 
--- ---- the value before the last one, once that is removed
-
-value-before : (xs : List Node) (i j : ℕ) → j < i → value_at j (removed_at i xs) ≡ value_at j xs
-value-before [] zero j l = absurd (omega (arith, l))
-value-before [] (suc i) j l = refl
-value-before (x ∷ xs) zero j l = absurd (omega (arith, l))
-value-before (x ∷ xs) (suc i) zero l = refl
-value-before (x ∷ xs) (suc i) (suc j) l = value-before xs i j (omega (arith, l))
-
-length-last : (xs : List Node) (i : ℕ) → i < length xs → is_last i xs ≡ true → length (removed_at i xs) ≡ i
-length-last xs i l e =
-    let past : length xs ≤ suc i = grind (arith, nat_tests, e) in
-    omega (arith, length-remove xs i l, past, l)
-
-pub suffix-removed : (xs : List Node) (i : ℕ) → i < length xs → is_last i xs ≡ true
-    → side_text (suffix_at (length (removed_at i xs) - 1) (removed_at i xs)) ≡ (if i == 0 then [] else side_text (suffix_at (i - 1) xs))
-suffix-removed xs zero l e =
-    let none : length (removed_at 0 xs) ≡ 0 = length-last xs 0 l e in
-    nothing-left (removed_at 0 xs) none
-  where
-    nothing-left : (ys : List Node) → length ys ≡ 0 → side_text (suffix_at (length ys - 1) ys) ≡ []
-    nothing-left [] h = refl
-    nothing-left (y ∷ ys) h = absurd (omega (arith, h))
-suffix-removed xs (suc i) l e =
-    let long : length (removed_at (suc i) xs) ≡ suc i = length-last xs (suc i) l e in
-    let at : length (removed_at (suc i) xs) - 1 ≡ i = omega (arith, long) in
-    let back : i ≡ suc i - 1 = omega arith in
-    ap (λ k. side_text (suffix_at k (removed_at (suc i) xs))) at
-    ∙ ap (λ o. side_text (option_and_then (λ n. (node_decor n).suffix) o)) (value-before xs (suc i) i (omega arith))
-    ∙ ap (λ k. side_text (suffix_at k xs)) back
-    ∙ ap (λ (b : Bool). if b then [] else side_text (suffix_at (suc i - 1) xs)) (sym (not-zero i))
-  where
-    not-zero : (n : ℕ) → (suc n == 0) ≡ false
-    not-zero n = grind (arith, nat_tests)
-
 -- ---- the first newline
 
 prefix-is : (n : Node) → side_text (option_and_then (λ n. (node_decor n).prefix) (if is_value_node n then Some n else None))
@@ -297,22 +223,6 @@ newline-next (x ∷ xs) ts (suc i) l =
     newline-next xs ts i (omega (arith, l))
     ∙ ap (λ k. if is_broken (side_text (prefix_at i xs)) then first_newline (side_text (prefix_at i xs))
     else newline_in (drop k (prefixes (x ∷ xs)) ++ ts)) next
-
-pub newline-end : (xs : List Node) (ts : List Text) (i : ℕ) → length xs ≤ i → newline_in (drop i (prefixes xs) ++ ts) ≡ newline_in ts
-newline-end [] ts zero l = refl
-newline-end [] ts (suc i) l = refl
-newline-end (x ∷ xs) ts zero l = absurd (omega (arith, l))
-newline-end (x ∷ xs) ts (suc i) l = newline-end xs ts i (omega (arith, l))
-
--- ---- one more line
-
-pub added-line : (t : Text) (p : Text → Bool) (h : Text → Text) (l : Text) (ls : List Text)
-    → (t ++ (if p l then h l else [])) ++ flat_map h (filter p ls) ≡ t ++ flat_map h (filter p (l ∷ ls))
-added-line t p h l ls =
-    elim (cases_Bool (p l)) [
-      | inl is ↦ rw is (append_assoc t (h l) (flat_map h (filter p ls)))
-      | inr other ↦ rw other (ap (λ u. u ++ flat_map h (filter p ls)) (append-nil t))
-    ]
 
 -- ---- the line of a value
 

@@ -1,10 +1,8 @@
 -- The elements of arrays and arrays of tables, by the code's lists of items.
-use Rattle.std.proofs.Common.{◌≡◌, ℕ, zero, suc, ◌<◌, ◌≤◌, Bool, true, false, cond, List, [], ◌∷◌, ◌++◌, length, map, insert, remove, set}
-use Rattle.std.proofs.Common.{get_or, slice_get, Option, Some, None, IsSome, option_map, option_and_then, unwrap_or, refl, sym, ap, subst}
+use Rattle.std.proofs.Common.{◌≡◌, ℕ, zero, suc, ◌<◌, Bool, true, false, cond, List, [], ◌∷◌, ◌++◌, length, map, insert, remove, set}
+use Rattle.std.proofs.Common.{slice_get, Some, None, IsSome, option_map, option_and_then, unwrap_or, refl, sym, ap, subst}
 use Rattle.std.proofs.Common.{◌∙◌, arith}
 use Rattle.std.proofs.lemmas.List.{map-set, map-append}
-use Rattle.std.proofs.lemmas.Option.{slice_get-get_or, slice_get_past}
-use Rattle.std.specs.Borrow.{Bor}
 use Rattle.toml_edit_model.specs.Text.{one}
 use Rattle.toml_edit_model.specs.Tree.{Decor, Node, nothing, node_decor, is_value_node}
 use Rattle.toml_edit_model.specs.Lists.{item_list, items_from, only}
@@ -33,11 +31,6 @@ module _ {X Y : Type 0} (h : X → Y) where
   pub length-map : (xs : List X) → length (map h xs) ≡ length xs
   length-map [] = refl
   length-map (x ∷ xs) = ap suc (length-map xs)
-
-  get-map : (xs : List X) (i : ℕ) → slice_get (map h xs) i ≡ option_map h (slice_get xs i)
-  get-map [] i = refl
-  get-map (x ∷ xs) zero = refl
-  get-map (x ∷ xs) (suc i) = get-map xs i
 
   remove-map : (xs : List X) (i : ℕ) → map h (remove xs i) ≡ remove (map h xs) i
   remove-map [] zero = refl
@@ -85,45 +78,7 @@ inside-map test (x ∷ xs) (suc i) s = omega (arith, inside-map test xs i s)
 pub inside : (test : Node → Bool) (xs : List Item) (i : ℕ) → IsSome (option_and_then (only test) (slice_get (listed xs) i)) → i < length xs
 inside test xs i s = inside-map test xs i (subst (λ l. IsSome (option_and_then (only test) (slice_get l i))) (listed-map xs) s)
 
--- what is found there is the item's view, where that passes the test
-pub found : (test : Node → Bool) (xs : List Item) (i : ℕ) (x : Item) → i < length xs → x ≡ get_or xs i x
-    → option_and_then (only test) (slice_get (listed xs) i) ≡ only test (item_view x)
-found test xs i x h e =
-    ap (λ l. option_and_then (only test) (slice_get l i)) (listed-map xs)
-    ∙ ap (option_and_then (only test)) (get-map item_view xs i ∙ ap (option_map item_view) (slice_get-get_or xs i x h ∙ ap Some (sym e)))
-
-only-at : (b : Bool) (n : Node) → IsSome (cond b (Some n) None) → (b ≡ true) × (cond b (Some n) None ≡ Some n)
-only-at true n s = (refl, refl)
-only-at false n s = absurd cc
-
-only-some : (test : Node → Bool) (n : Node) → IsSome (only test n) → (test n ≡ true) × (only test n ≡ Some n)
-only-some test n s = only-at (test n) n s
-
-pub held : (test : Node → Bool) (xs : List Item) (i : ℕ) (x : Item) → IsSome (option_and_then (only test) (slice_get (listed xs) i)) → x
-    ≡ get_or xs i x
-    → (test (item_view x) ≡ true) × (Some (item_view x) ≡ option_and_then (only test) (slice_get (listed xs) i))
-held test xs i x s e =
-    let there = found test xs i x (inside test xs i s) e in
-    let is = only-some test (item_view x) (subst IsSome there s) in
-    (is.0, sym (there ∙ is.1))
-
--- nothing stands past the end
-pub past : (test : Node → Bool) (xs : List Item) (i : ℕ) → length xs ≤ i → option_and_then (only test) (slice_get (listed xs) i) ≡ None
-past test xs i h =
-    ap (option_and_then (only test)) (slice_get_past (listed xs) i (subst (λ n. n ≤ i) (sym (listed-length xs)) h))
-
-pub there : (test : Node → Bool) (xs : List Item) (i : ℕ) (d : Item) → i < length xs
-    → option_and_then (only test) (slice_get (listed xs) i) ≡ only test (item_view (get_or xs i d))
-there test xs i d h =
-    ap (λ l. option_and_then (only test) (slice_get l i)) (listed-map xs)
-    ∙ ap (option_and_then (only test)) (get-map item_view xs i ∙ ap (option_map item_view) (slice_get-get_or xs i d h))
-
 -- ---- tables in items
-
-pub table_seen : (o : Option (Bor Table)) → option_map (λ t. table_node (table_view t.now)) o
-    ≡ option_map table_node (option_map (λ t. table_view t.now) o)
-table_seen None = refl
-table_seen (Some t) = refl
 
 pub none-there : (xs : List Node) → length xs ≡ 0 → xs ≡ []
 none-there [] e = refl

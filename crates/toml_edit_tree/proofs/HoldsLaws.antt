@@ -3,7 +3,7 @@ use Rattle.std.proofs.Common.{◌≡◌, ℕ, zero, suc, Bool, true, false, cond
 use Rattle.std.proofs.Common.{option_map, option_and_then, slice_get, unwrap_or, refl, sym, ap, subst, ◌∙◌, rules}
 use Rattle.std.specs.Borrow.{Bor}
 use Rattle.std.specs.Option.{option_copied}
-use Rattle.toml_edit_lists.specs.Elements.{SaysOfHeld, element_at}
+use Rattle.toml_edit_slots.specs.Elements.{SaysOfHeld, element_at}
 use Rattle.toml_edit_model.specs.Lists.{only}
 use Rattle.toml_edit_model.specs.Retaining.{RetainsBy}
 use Rattle.toml_edit_model.specs.Shown.{is_table_node}

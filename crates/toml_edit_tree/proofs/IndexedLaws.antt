@@ -20,7 +20,7 @@ use Rattle.toml_edit_model.specs.Tree.{Key, Node, nothing, leaf, list, inline, t
 use Rattle.toml_edit_slots.specs.Seen.{pair_read, seen}
 use Rattle.toml_edit_slots.specs.Slots.{items_of, lookup_slot, place, with_item}
 use Rattle.toml_edit_slots.specs.declared.slots.Slot.{Slot}
-use Rattle.toml_edit_tree.specs.Indexed.{item_put, lent_under, slots_put, written_under}
+use Rattle.toml_edit_tree.specs.Indexed.{item_put, lent_under, slots_put, written_under, shown_slots}
 use Rattle.toml_edit_tree.specs.Containers.{table_node}
 use Rattle.toml_edit_tree.specs.SlotsOf.{inline_slots_of, slots_of}
 use Rattle.toml_edit_tree.specs.View.{fields_view, inline_view, item_view, table_slots, table_view}
@@ -32,7 +32,7 @@ use Rattle.toml_edit_tree.specs.declared.value.Value.TheVariants as values
 use Rattle.toml_edit_tree.proofs.HeldLaws.{item-at}
 use Rattle.toml_edit_tree.proofs.InlineLaws.{made_inline_fields}
 use Rattle.toml_edit_tree.proofs.SlotsLaws.{apart-shown, has-lookup, inline-shown, length-shown, made_inline-shown, has_slot-shown}
-use Rattle.toml_edit_tree.proofs.SlotsLaws.{lookup_slot-of, lookup_slot-shown, made-shown, made_fields, shown, slot_shown, table-shown}
+use Rattle.toml_edit_tree.proofs.SlotsLaws.{lookup_slot-of, lookup_slot-shown, made-shown, made_fields, slot_shown, table-shown}
 use Rattle.toml_edit_tree.proofs.TableEntryLaws.{get-shown, item-last, last-shown, place-shown, set-shown, with_item-last}
 use Rattle.toml_edit_tree.proofs.ViewLaws.{view-InlineTable, view-None, view-Value}
 
@@ -97,55 +97,56 @@ module _ (k : Text) where
 -- ---- the slot of a key, which may be new
 
 module _ (k : Text) (es : List (Slot Item)) where
-  has : model.has_slot k (shown es) ≡ is_some (place k es)
+  has : model.has_slot k (shown_slots es) ≡ is_some (place k es)
   has = has_slot-shown k es
 
-  pub has-none : place k es ≡ None → model.has_slot k (shown es) ≡ false
+  pub has-none : place k es ≡ None → model.has_slot k (shown_slots es) ≡ false
   has-none none = has ∙ ap is_some none
 
   abbrev pub added : List (Slot Item)
   added = es ++ record { key = new_key k; item = items.None } ∷ []
 
-  pub made-there : (i : ℕ) → place k es ≡ Some i → shown es ≡ with_place k (shown es)
-  made-there i at = sym (place-there k (shown es) (has ∙ ap is_some at))
+  pub made-there : (i : ℕ) → place k es ≡ Some i → shown_slots es ≡ with_place k (shown_slots es)
+  made-there i at = sym (place-there k (shown_slots es) (has ∙ ap is_some at))
 
-  pub made-new : place k es ≡ None → shown added ≡ with_place k (shown es)
+  pub made-new : place k es ≡ None → shown_slots added ≡ with_place k (shown_slots es)
   made-new none =
-      last-shown es (new_key k) items.None ∙ ap (λ n. shown es ++ record { key = new_key k; item = n } ∷ []) view-None
-      ∙ sym (place-new k (shown es) (has-none none))
+      last-shown es (new_key k) items.None ∙ ap (λ n. shown_slots es ++ record { key = new_key k; item = n } ∷ []) view-None
+      ∙ sym (place-new k (shown_slots es) (has-none none))
 
   pub item-there : (i : ℕ) → place k es ≡ Some i → i < length es → option_map item_view (slice_get (items_of es) i)
-      ≡ model.lookup k (with_place k (shown es))
+      ≡ model.lookup k (with_place k (shown_slots es))
   item-there i at low =
       let fill : Slot Item = record { key = new_key k; item = items.None } in
       let s = get_or es i fill in
       let got : slice_get es i ≡ Some s = slice_get-get_or es i fill low in
-      let found : model.lookup_slot k (shown es) ≡ Some (slot_shown s) =
-      lookup_slot-at k (shown es) i (slot_shown s) (place-shown k es ∙ at) ∙ ap Some (get-shown es i s got) in
+      let found : model.lookup_slot k (shown_slots es) ≡ Some (slot_shown s) =
+      lookup_slot-at k (shown_slots es) i (slot_shown s) (place-shown k es ∙ at) ∙ ap Some (get-shown es i s got) in
       ap (option_map item_view) (item-at es i s got)
       ∙ sym (ap (option_map (λ (r : model.Slot Node). r.item)) found) ∙ ap (model.lookup k) (made-there i at)
 
   pub item-new : place k es ≡ None → option_map item_view (slice_get (items_of added) (length es))
-      ≡ model.lookup k (with_place k (shown es))
+      ≡ model.lookup k (with_place k (shown_slots es))
   item-new none =
       ap (option_map item_view) (item-last es (record { key = new_key k; item = items.None })) ∙ ap Some view-None
       ∙ sym (ap (option_map (λ (r : model.Slot Node). r.item))
-      (ap (model.lookup_slot k) (place-new k (shown es) (has-none none))
-      ∙ found-last k (record { key = new_key k; item = nothing }) (shown es) (has-none none) (nat_list_eq_equiv.refl k)))
+      (ap (model.lookup_slot k) (place-new k (shown_slots es) (has-none none))
+      ∙ found-last k (record { key = new_key k; item = nothing }) (shown_slots es) (has-none none) (nat_list_eq_equiv.refl k)))
 
-  left : model.AreApart (shown es) → (w : Item) (o : Option ℕ) → place k es ≡ o
-      → shown (option_map_or (λ at. with_item at w es) o (es ++ record { key = new_key k; item = w } ∷ []))
-      ≡ model.put (model.with_item (item_view w)) (record { key = new_key k; item = item_view w }) (shown es)
+  left : model.AreApart (shown_slots es) → (w : Item) (o : Option ℕ) → place k es ≡ o
+      → shown_slots (option_map_or (λ at. with_item at w es) o (es ++ record { key = new_key k; item = w } ∷ []))
+      ≡ model.put (model.with_item (item_view w)) (record { key = new_key k; item = item_view w }) (shown_slots es)
   left apart w None e =
-      last-shown es (new_key k) w ∙ sym (put-new (model.with_item (item_view w)) (record { key = new_key k; item = item_view w }) (shown es)
+      last-shown es (new_key k) w
+      ∙ sym (put-new (model.with_item (item_view w)) (record { key = new_key k; item = item_view w }) (shown_slots es)
       (place-shown k es ∙ e))
   left apart w (Some i) e =
       let new : model.Slot Node = record { key = new_key k; item = item_view w } in
-      set-shown es i new w ∙ sym (put-at (model.with_item (item_view w)) new (shown es) i new apart (place-shown k es ∙ e))
+      set-shown es i new w ∙ sym (put-at (model.with_item (item_view w)) new (shown_slots es) i new apart (place-shown k es ∙ e))
 
-  pub leaves : model.AreApart (shown es) → (w : Item) → shown (slots_put k w es)
-      ≡ model.changed k (model.with_item (item_view w)) (with_place k (shown es))
-  leaves apart w = left apart w (place k es) refl ∙ sym (place-put k (item_view w) (shown es))
+  pub leaves : model.AreApart (shown_slots es) → (w : Item) → shown_slots (slots_put k w es)
+      ≡ model.changed k (model.with_item (item_view w)) (with_place k (shown_slots es))
+  leaves apart w = left apart w (place k es) refl ∙ sym (place-put k (item_view w) (shown_slots es))
 
   pub put-here : (i : ℕ) → place k es ≡ Some i → (w : Item) → with_item i w es ≡ slots_put k w es
   put-here i at w = ap (λ o. option_map_or (λ j. with_item j w es) o (es ++ record { key = new_key k; item = w } ∷ [])) (sym at)
@@ -168,26 +169,24 @@ place-last k s (r ∷ es) is e =
       | inr other ↦ rw other (ap (option_map suc) (place-last k s es is (next_none (place k es) (rw other at e))))
     ]
 
-pub low-last : (es : List (Slot Item)) (s : Slot Item) → length es < length (es ++ s ∷ [])
-low-last [] s = omega arith
-low-last (r ∷ es) s = let b = low-last es s in omega (arith, b)
-
 -- ---- what stands at the place of a key
 
 no_node : model.Slot Node
 no_node = record { key = new_key []; item = nothing }
 
-pub low-at : (k : Text) (es : List (Slot Item)) (i : ℕ) → model.place k (shown es) ≡ Some i → i < length es
-low-at k es i at = let b = (position-Some (model.is_at k) (shown es) i no_node at).0 in let same = length-shown es in omega (arith, b, same)
+pub low-at : (k : Text) (es : List (Slot Item)) (i : ℕ) → model.place k (shown_slots es) ≡ Some i → i < length es
+low-at k es i at = let b = (position-Some (model.is_at k) (shown_slots es) i no_node at).0 in let same = length-shown es in
+    omega (arith, b, same)
 
-pub found-at : (k : Text) (es : List (Slot Item)) (i : ℕ) (x : Item) → model.place k (shown es) ≡ Some i → Some x
+pub found-at : (k : Text) (es : List (Slot Item)) (i : ℕ) (x : Item) → model.place k (shown_slots es) ≡ Some i → Some x
     ≡ slice_get (items_of es) i
-    → model.lookup k (shown es) ≡ Some (item_view x)
+    → model.lookup k (shown_slots es) ≡ Some (item_view x)
 found-at k es i x at is =
     let fill : Slot Item = record { key = new_key k; item = items.None } in
     let s = get_or es i fill in
     let got : slice_get es i ≡ Some s = slice_get-get_or es i fill (low-at k es i at) in
-    ap (option_map (λ (r : model.Slot Node). r.item)) (lookup_slot-at k (shown es) i (slot_shown s) at ∙ ap Some (get-shown es i s got))
+    ap (option_map (λ (r : model.Slot Node). r.item))
+    (lookup_slot-at k (shown_slots es) i (slot_shown s) at ∙ ap Some (get-shown es i s got))
     ∙ ap (λ y. Some (item_view y)) (same_Some _ _ (sym (item-at es i s got) ∙ sym is))
 
 pub has-found : (k : Text) (es : List (model.Slot Node)) → IsSome (model.lookup k es) → model.has_slot k es ≡ true
@@ -199,13 +198,13 @@ module _ (k : Text) (t : Table) where
   abbrev slots : List (Slot Item)
   slots = (out-Table t).slots
 
-  pub table-lent : lent_under k (table_node (table_view t)) ≡ model.lookup k (with_place k (shown slots))
+  pub table-lent : lent_under k (table_node (table_view t)) ≡ model.lookup k (with_place k (shown_slots slots))
   table-lent =
       ap (model.lookup k) (slot_list-from (with_place k (slots_of t)))
       ∙ ap (λ l. model.lookup k (with_place k l)) (table-shown t)
 
-  pub table-written : (w : Item) → shown (slots_put k w slots)
-      ≡ model.changed k (model.with_item (item_view w)) (with_place k (shown slots))
+  pub table-written : (w : Item) → shown_slots (slots_put k w slots)
+      ≡ model.changed k (model.with_item (item_view w)) (with_place k (shown_slots slots))
       → written_under k (item_view w) (table_node (table_view t)) ≡ Some (table_node (table_view (item_put k w t)))
   table-written w leaves =
       let f = fields_view t in
@@ -229,33 +228,23 @@ module _ (k : Text) (t : InlineTable) (es : List (Slot Item)) where
   abbrev held_inline : Item
   held_inline = items.Value (values.InlineTable (record t { items = es }))
 
-  pub made-inline : inline_view t ≡ record { fields = new_inline; slots = no_slots } → shown es
-      ≡ with_place k (shown (out-InlineTable t).items)
+  pub made-inline : inline_view t ≡ record { fields = new_inline; slots = no_slots } → shown_slots es
+      ≡ with_place k (shown_slots (out-InlineTable t).items)
       → index_or_inserted k nothing ≡ Some (item_view held_inline)
   made-inline new made =
       let u : InlineTable = record t { items = es } in
-      let none : shown (out-InlineTable t).items ≡ [] = sym (inline-shown t) ∙ ap (λ v. slot_list v.slots) new in
+      let none : shown_slots (out-InlineTable t).items ≡ [] = sym (inline-shown t) ∙ ap (λ v. slot_list v.slots) new in
       let left : inline_slots_of u ≡ with_place k [] = made_inline-shown _ ∙ made ∙ ap (with_place k) none in
       ap (λ l. Some (inline new_inline (slots_from l))) (sym left)
       ∙ ap (λ ss. Some (inline new_inline ss)) (slots_from-list (inline_view u).slots)
       ∙ ap (λ f. Some (inline f (inline_view u).slots)) (sym (made_inline_fields t es ∙ ap (λ v. v.fields) new))
       ∙ ap Some (sym (view-Value (values.InlineTable u) ∙ view-InlineTable u))
 
-  pub placed-inline : option_and_then (model.place k) (slots_in (item_view held_inline)) ≡ model.place k (shown es)
+  pub placed-inline : option_and_then (model.place k) (slots_in (item_view held_inline)) ≡ model.place k (shown_slots es)
   placed-inline =
       ap (λ n. option_and_then (model.place k) (slots_in n)) (view-Value _ ∙ view-InlineTable _) ∙ ap (model.place k) (made_inline-shown _)
 
 module _ (k : Text) (l m : List (model.Slot Node)) where
-  pub inserted-in : (n : Node) → Some l ≡ slots_in n → m ≡ with_place k l → index_or_inserted k n ≡ Some (on_slots (λ _. m) n)
-  inserted-in (table f ss) is made = ap (λ q. Some (table f (slots_from (with_place k q)))) (sym (same_Some _ _ is))
-      ∙ ap (λ q. Some (table f (slots_from q))) (sym made)
-  inserted-in (inline f ss) is made = ap (λ q. Some (inline f (slots_from (with_place k q)))) (sym (same_Some _ _ is))
-      ∙ ap (λ q. Some (inline f (slots_from q))) (sym made)
-  inserted-in nothing is made = absurd cc
-  inserted-in (leaf s spelling d) is made = absurd cc
-  inserted-in (list f xs) is made = absurd cc
-  inserted-in (tables e xs) is made = absurd cc
-
   pub slots-on : (n : Node) → Some l ≡ slots_in n → slots_in (on_slots (λ _. m) n) ≡ Some m
   slots-on (table f ss) is = ap Some (slot_list-from m)
   slots-on (inline f ss) is = ap Some (slot_list-from m)
@@ -282,9 +271,9 @@ read (Some p) = refl
 
 pub get-read : (k : Text) (es : List (Slot Item)) (o : Option (Bor Key × Bor Item)) → model.AreApart (seen es) → option_map pair_read o
     ≡ model.lookup_slot k (seen es)
-    → get k (shown es) ≡ held_read o
+    → get k (shown_slots es) ≡ held_read o
 get-read k es o apart is =
-    lookup-those is_item k (shown es) (apart-shown es apart)
+    lookup-those is_item k (shown_slots es) (apart-shown es apart)
     ∙ ap (λ f. option_and_then (only is_item) (option_map (λ (s : model.Slot Node). s.item) f)) (lookup_slot-of k es
     ∙ ap (option_map (model.on_item item_view)) (sym is))
     ∙ read o
@@ -294,10 +283,10 @@ in_slot : (o : Option (Slot Item)) → option_and_then (only is_item) (option_ma
 in_slot None = refl
 in_slot (Some s) = refl
 
-pub get-found : (k : Text) (es : List (Slot Item)) (o : Option (Slot Item)) → model.AreApart (shown es) → o ≡ lookup_slot k es
-    → get k (shown es) ≡ held_in o
+pub get-found : (k : Text) (es : List (Slot Item)) (o : Option (Slot Item)) → model.AreApart (shown_slots es) → o ≡ lookup_slot k es
+    → get k (shown_slots es) ≡ held_in o
 get-found k es o apart is =
-    lookup-those is_item k (shown es) apart
+    lookup-those is_item k (shown_slots es) apart
     ∙ ap (λ f. option_and_then (only is_item) (option_map (λ (s : model.Slot Node). s.item) f)) (lookup_slot-shown k es
     ∙ ap (option_map slot_shown) (sym is))
     ∙ in_slot o

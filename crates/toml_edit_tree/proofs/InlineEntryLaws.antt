@@ -17,8 +17,9 @@ use Rattle.toml_edit_tree.specs.SlotsOf.{inline_slots_of}
 use Rattle.toml_edit_tree.specs.View.{item_view, value_view}
 use Rattle.toml_edit_tree.specs.declared.inline_table.InlineTable.{InlineTable, out-InlineTable}
 use Rattle.toml_edit_tree.specs.declared.item.Item.{Item}
+use Rattle.toml_edit_tree.specs.Indexed.{shown_slots}
 use Rattle.toml_edit_tree.proofs.HoldsLaws.{value-seen}
-use Rattle.toml_edit_tree.proofs.SlotsLaws.{apart-shown, inline-shown, lookup-shown, lookup_slot-of, shown}
+use Rattle.toml_edit_tree.proofs.SlotsLaws.{apart-shown, inline-shown, lookup-shown, lookup_slot-of}
 
 -- ---- of an item
 
@@ -72,7 +73,7 @@ pub value-read : (k : Text) (t : InlineTable) (o : Option (Bor Key × Bor Item))
     → get_value k (inline_slots_of t) ≡ value_behind o
 value-read k t o apart is =
     ap (get_value k) (inline-shown t)
-    ∙ lookup-those is_value_node k (shown (out-InlineTable t).items) (apart-shown (out-InlineTable t).items apart)
+    ∙ lookup-those is_value_node k (shown_slots (out-InlineTable t).items) (apart-shown (out-InlineTable t).items apart)
     ∙ ap (λ f. option_and_then (only is_value_node) (option_map (λ (s : model.Slot Node). s.item) f))
     (lookup_slot-of k (out-InlineTable t).items ∙ ap (option_map (model.on_item item_view)) (sym is))
     ∙ behind o
@@ -82,12 +83,12 @@ value-in : (o : Option (Slot Item)) → option_and_then (only is_value_node) (op
 value-in None = refl
 value-in (Some s) = sym (value-seen s.item)
 
-pub value-found : (k : Text) (t : InlineTable) (o : Option (Slot Item)) → model.AreApart (shown (out-InlineTable t).items) → o
+pub value-found : (k : Text) (t : InlineTable) (o : Option (Slot Item)) → model.AreApart (shown_slots (out-InlineTable t).items) → o
     ≡ lookup_slot k (out-InlineTable t).items
     → get_value k (inline_slots_of t) ≡ option_and_then (λ s. option_map value_view (value_held s.item)) o
 value-found k t o apart is =
     ap (get_value k) (inline-shown t)
-    ∙ lookup-those is_value_node k (shown (out-InlineTable t).items) apart
+    ∙ lookup-those is_value_node k (shown_slots (out-InlineTable t).items) apart
     ∙ ap (option_and_then (only is_value_node)) (lookup-shown k (out-InlineTable t).items
     ∙ ap (λ p. option_map item_view (option_map (λ (s : Slot Item). s.item) p)) (sym is))
     ∙ value-in o

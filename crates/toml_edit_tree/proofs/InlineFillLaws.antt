@@ -21,9 +21,10 @@ use Rattle.toml_edit_tree.specs.declared.inline_table.InlineTable.{InlineTable, 
 use Rattle.toml_edit_tree.specs.declared.item.Item.{Item}
 use Rattle.toml_edit_tree.specs.declared.item.Item.TheVariants as items
 use Rattle.toml_edit_tree.specs.declared.value.Value.{Value}
+use Rattle.toml_edit_tree.specs.Indexed.{shown_slots}
 use Rattle.toml_edit_tree.proofs.InlineLaws.{made_inline_fields}
 use Rattle.toml_edit_tree.proofs.InlinePlaceLaws.{leaves-at, leaves-new}
-use Rattle.toml_edit_tree.proofs.SlotsLaws.{has_slot-shown, inline-shown, made_inline-shown, shown}
+use Rattle.toml_edit_tree.proofs.SlotsLaws.{has_slot-shown, inline-shown, made_inline-shown}
 use Rattle.toml_edit_tree.proofs.TableEntryLaws.{item-last, with_item-last}
 use Rattle.toml_edit_tree.proofs.ViewLaws.{view-Value}
 
@@ -43,7 +44,7 @@ module _ (k : Text) (t : InlineTable) where
   left-by apart w None e = leaves-new (new_key k) t e w
   left-by apart w (Some i) e =
       made_inline-shown _ ∙ leaves-at (new_key k) held i e (subst model.AreApart (inline-shown t) apart) (items.Value w)
-      ∙ ap (λ n. model.put (model.with_item n) (record { key = new_key k; item = n }) (shown held)) (view-Value w)
+      ∙ ap (λ n. model.put (model.with_item n) (record { key = new_key k; item = n }) (shown_slots held)) (view-Value w)
       ∙ ap (model.put (model.with_item (value_view w)) (record { key = new_key k; item = value_view w })) (sym (inline-shown t))
 
   is-by : (w : Value) (o : Option ℕ) → place k held ≡ o → value_put k w t ≡ put_by w o

@@ -15,15 +15,16 @@ use Rattle.toml_edit_tree.specs.declared.item.Item.{Item, the_lemmas}
 use Rattle.toml_edit_tree.specs.declared.item.Item.TheViews.{roll-InlineTable}
 use Rattle.toml_edit_tree.specs.declared.value.Value.{Value}
 use Rattle.toml_edit_tree.specs.View.{slots_view, value_view}
-use Rattle.toml_edit_tree.proofs.SlotsLaws.{shown}
+use Rattle.toml_edit_tree.specs.Indexed.{shown_slots}
 
 -- other slots, and the fields that it had
 pub made_inline_fields : (t : InlineTable) (es : List (Slot Item))
     → inline_fields (roll-InlineTable (record (out-InlineTable t) { items = es })) ≡ inline_fields t
 made_inline_fields t es = search (rules, the_lemmas)
 
-pub formatted-shown : (es fs : List (Slot Item)) → slots_view fs ≡ formatted_slots (slots_view es) → shown fs ≡ formatted (shown es)
-formatted-shown es fs e = ap slot_list e ∙ slot_list-from (formatted (shown es))
+pub formatted-shown : (es fs : List (Slot Item)) → slots_view fs ≡ formatted_slots (slots_view es) → shown_slots fs
+    ≡ formatted (shown_slots es)
+formatted-shown es fs e = ap slot_list e ∙ slot_list-from (formatted (shown_slots es))
 
 -- ---- extend
 

@@ -18,9 +18,10 @@ use Rattle.toml_edit_tree.specs.declared.inline_table.InlineTable.{InlineTable, 
 use Rattle.toml_edit_tree.specs.declared.item.Item.{Item}
 use Rattle.toml_edit_tree.specs.declared.item.Item.TheVariants as items
 use Rattle.toml_edit_tree.specs.declared.value.Value.{Value}
+use Rattle.toml_edit_tree.specs.Indexed.{shown_slots}
 use Rattle.toml_edit_tree.proofs.DespanLaws.{no_slot}
 use Rattle.toml_edit_tree.proofs.InlineEntryLaws.{held-view, low}
-use Rattle.toml_edit_tree.proofs.SlotsLaws.{inline-shown, made_inline-shown, shown, slot_shown}
+use Rattle.toml_edit_tree.proofs.SlotsLaws.{inline-shown, made_inline-shown, slot_shown}
 use Rattle.toml_edit_tree.proofs.TableEntryLaws.{get-shown, item-with_item, items-get, last-shown, place-shown, set-shown}
 use Rattle.toml_edit_tree.proofs.ViewLaws.{view-Value}
 
@@ -48,32 +49,32 @@ key-with_item (s ∷ es) (suc i) w = key-with_item es i w
 -- ---- a name that is there
 
 module _ (k : Key) (es : List (Slot Item)) (i : ℕ) (at : place k.name es ≡ Some i) where
-  here : model.place k.name (shown es) ≡ Some i
+  here : model.place k.name (shown_slots es) ≡ Some i
   here = place-shown k.name es ∙ at
 
-  found : (s : Slot Item) → slice_get es i ≡ Some s → model.lookup_slot k.name (shown es) ≡ Some (slot_shown s)
-  found s got = lookup_slot-at k.name (shown es) i (slot_shown s) here ∙ ap Some (get-shown es i s got)
+  found : (s : Slot Item) → slice_get es i ≡ Some s → model.lookup_slot k.name (shown_slots es) ≡ Some (slot_shown s)
+  found s got = lookup_slot-at k.name (shown_slots es) i (slot_shown s) here ∙ ap Some (get-shown es i s got)
 
-  pub leaves-at : model.AreApart (shown es) → (y : Item) → shown (with_item i y es)
-      ≡ model.put (model.with_item (item_view y)) (record { key = k; item = item_view y }) (shown es)
+  pub leaves-at : model.AreApart (shown_slots es) → (y : Item) → shown_slots (with_item i y es)
+      ≡ model.put (model.with_item (item_view y)) (record { key = k; item = item_view y }) (shown_slots es)
   leaves-at apart y =
       let new : model.Slot Node = record { key = k; item = item_view y } in
-      set-shown es i new y ∙ sym (put-at (model.with_item (item_view y)) new (shown es) i new apart here)
+      set-shown es i new y ∙ sym (put-at (model.with_item (item_view y)) new (shown_slots es) i new apart here)
 
-  pub changed-here : model.AreApart (shown es) → i < length es → (f : Node → Node) (w : Item)
+  pub changed-here : model.AreApart (shown_slots es) → i < length es → (f : Node → Node) (w : Item)
       → IfSome (slice_get (items_of es) i) (λ x. item_view w ≡ f (item_view x))
-      → shown (with_item i w es) ≡ model.changed k.name (model.on_item f) (shown es)
+      → shown_slots (with_item i w es) ≡ model.changed k.name (model.on_item f) (shown_slots es)
   changed-here apart inside f w made =
       let s = get_or es i no_slot in
       let got : slice_get es i ≡ Some s = slice_get-get_or es i no_slot inside in
       let is : item_view w ≡ f (item_view s.item) =
       subst (λ o. IfSome o (λ x. item_view w ≡ f (item_view x))) (items-get es i ∙ ap (option_map (λ (r : Slot Item). r.item)) got) made in
-      let g : model.Slot Node = get_or (shown es) i (slot_shown s) in
+      let g : model.Slot Node = get_or (shown_slots es) i (slot_shown s) in
       set-shown es i (slot_shown s) w
-      ∙ ap (λ n. set (shown es) i (model.with_item n g)) (is ∙ ap (λ (r : model.Slot Node). f r.item) (sym (get-shown es i s got)))
-      ∙ sym (changed-at k.name (model.on_item f) (shown es) i (slot_shown s) apart here)
+      ∙ ap (λ n. set (shown_slots es) i (model.with_item n g)) (is ∙ ap (λ (r : model.Slot Node). f r.item) (sym (get-shown es i s got)))
+      ∙ sym (changed-at k.name (model.on_item f) (shown_slots es) i (slot_shown s) apart here)
 
-  pub value-here : i < length es → has_value_at i es ≡ true → option_map value_view (value_at i es) ≡ model.lookup k.name (shown es)
+  pub value-here : i < length es → has_value_at i es ≡ true → option_map value_view (value_at i es) ≡ model.lookup k.name (shown_slots es)
   value-here inside has =
       let s = get_or es i no_slot in
       let got : slice_get es i ≡ Some s = slice_get-get_or es i no_slot inside in
@@ -83,7 +84,7 @@ module _ (k : Key) (es : List (Slot Item)) (i : ℕ) (at : place k.name es ≡ S
       ∙ sym (ap (option_map (λ (r : model.Slot Node). r.item)) (found s got))
 
   pub key-here : i < length es → option_map (λ (s : Slot Item). s.key) (slice_get es i)
-      ≡ Some (unwrap_or (model.lookup_key k.name (shown es)) k)
+      ≡ Some (unwrap_or (model.lookup_key k.name (shown_slots es)) k)
   key-here inside =
       let s = get_or es i no_slot in
       let got : slice_get es i ≡ Some s = slice_get-get_or es i no_slot inside in
@@ -101,7 +102,7 @@ module _ (k : Key) (t u : InlineTable) (i : ℕ) (d : Node) (at : place k.name (
   abbrev after : List (Slot Item)
   after = (out-InlineTable u).items
 
-  apart-before : model.AreApart (shown before)
+  apart-before : model.AreApart (shown_slots before)
   apart-before = subst model.AreApart (inline-shown t) apart
 
   pub has-made : has_value_at i after ≡ true
@@ -112,7 +113,7 @@ module _ (k : Key) (t u : InlineTable) (i : ℕ) (d : Node) (at : place k.name (
 
   pub slots-made : inline_slots_of u ≡ model.changed k.name (model.on_item (made_value_or d)) (inline_slots_of t)
   slots-made =
-      inline-shown u ∙ ap shown made.1 ∙ changed-here k before i at apart-before inside (made_value_or d) made.0 made.3
+      inline-shown u ∙ ap shown_slots made.1 ∙ changed-here k before i at apart-before inside (made_value_or d) made.0 made.3
       ∙ ap (model.changed k.name (model.on_item (made_value_or d))) (sym (inline-shown t))
 
   pub value-made : option_map value_view (value_at i after) ≡ model.lookup k.name (inline_slots_of u)
@@ -130,8 +131,8 @@ module _ (k : Key) (t u : InlineTable) (i : ℕ) (d : Node) (at : place k.name (
   pub leaves-made : (x : Value) → inline_slots_of (record u { items = with_item i (items.Value x) after })
       ≡ model.put (model.with_item (value_view x)) (record { key = k; item = value_view x }) (inline_slots_of t)
   leaves-made x =
-      made_inline-shown _ ∙ ap shown (with-made (items.Value x)) ∙ leaves-at k before i at apart-before (items.Value x)
-      ∙ ap (λ n. model.put (model.with_item n) (record { key = k; item = n }) (shown before)) (view-Value x)
+      made_inline-shown _ ∙ ap shown_slots (with-made (items.Value x)) ∙ leaves-at k before i at apart-before (items.Value x)
+      ∙ ap (λ n. model.put (model.with_item n) (record { key = k; item = n }) (shown_slots before)) (view-Value x)
       ∙ ap (model.put (model.with_item (value_view x)) (record { key = k; item = value_view x })) (sym (inline-shown t))
 
 -- ---- a new key
@@ -140,24 +141,26 @@ module _ (k : Key) (t : InlineTable) (none : place k.name (out-InlineTable t).it
   abbrev held : List (Slot Item)
   held = (out-InlineTable t).items
 
-  gone : model.place k.name (shown held) ≡ None
+  gone : model.place k.name (shown_slots held) ≡ None
   gone = place-shown k.name held ∙ none
 
   pub slots-new : (f : model.Slot Node → model.Slot Node) → inline_slots_of t ≡ model.changed k.name f (inline_slots_of t)
   slots-new f =
-      inline-shown t ∙ sym (changed-none k.name f (shown held) (none_at k.name (shown held) gone))
+      inline-shown t ∙ sym (changed-none k.name f (shown_slots held) (none_at k.name (shown_slots held) gone))
       ∙ ap (model.changed k.name f) (sym (inline-shown t))
 
   pub leaves-new : (x : Value) → inline_slots_of (record t { items = held ++ record { key = k; item = items.Value x } ∷ [] })
       ≡ model.put (model.with_item (value_view x)) (record { key = k; item = value_view x }) (inline_slots_of t)
   leaves-new x =
       let new : model.Slot Node = record { key = k; item = value_view x } in
-      made_inline-shown _ ∙ last-shown held k (items.Value x) ∙ ap (λ n. shown held ++ record { key = k; item = n } ∷ []) (view-Value x)
-      ∙ sym (put-new (model.with_item (value_view x)) new (shown held) gone)
+      made_inline-shown _ ∙ last-shown held k (items.Value x)
+      ∙ ap (λ n. shown_slots held ++ record { key = k; item = n } ∷ []) (view-Value x)
+      ∙ sym (put-new (model.with_item (value_view x)) new (shown_slots held) gone)
       ∙ ap (model.put (model.with_item (value_view x)) new) (sym (inline-shown t))
 
   nothing-found : model.lookup_slot k.name (inline_slots_of t) ≡ None
-  nothing-found = ap (model.lookup_slot k.name) (inline-shown t) ∙ lookup_slot-none k.name (shown held) (none_at k.name (shown held) gone)
+  nothing-found = ap (model.lookup_slot k.name) (inline-shown t)
+      ∙ lookup_slot-none k.name (shown_slots held) (none_at k.name (shown_slots held) gone)
 
   pub value-new : None ≡ model.lookup k.name (inline_slots_of t)
   value-new = sym (ap (option_map (λ (r : model.Slot Node). r.item)) nothing-found)

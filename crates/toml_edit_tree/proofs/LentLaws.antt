@@ -6,7 +6,7 @@ use Rattle.toml_edit_model.specs.ArrayCalls.{written_at}
 use Rattle.toml_edit_model.specs.Lists.{item_list}
 use Rattle.toml_edit_model.specs.Slots as model
 use Rattle.toml_edit_model.specs.Text.{Text}
-use Rattle.toml_edit_model.specs.Tree.{Key, Node}
+use Rattle.toml_edit_model.specs.Tree.{Key}
 use Rattle.toml_edit_slots.specs.Slots.{on_key, place, with_item}
 use Rattle.toml_edit_slots.specs.declared.slots.Slot.{Slot}
 use Rattle.toml_edit_tree.specs.Containers.{table_node}
@@ -16,7 +16,7 @@ use Rattle.toml_edit_tree.specs.InlineLending.{with_inline_key, with_value_under
 use Rattle.toml_edit_tree.specs.InlineLending as inlines
 use Rattle.toml_edit_tree.specs.InlineSlotParts.{with_inline_item}
 use Rattle.toml_edit_tree.specs.InlineSlots.{inline_fields}
-use Rattle.toml_edit_tree.specs.ItemPlaces.{with_element_at, with_slot_at, with_table_at, with_value_at}
+use Rattle.toml_edit_tree.specs.ItemPlaces.{with_table_at, with_value_at}
 use Rattle.toml_edit_tree.specs.SlotsOf.{inline_slots_of, slots_of}
 use Rattle.toml_edit_tree.specs.TableEntries.{entry_ref, slots_left, table_with}
 use Rattle.toml_edit_tree.specs.TableLending.{with_item_at, with_item_under, with_key_at}
@@ -34,9 +34,10 @@ use Rattle.toml_edit_tree.specs.declared.table.Table.{Table, out-Table}
 use Rattle.toml_edit_tree.specs.declared.table.entry.Entry.{Entry}
 use Rattle.toml_edit_tree.specs.declared.table.entry.Entry.TheVariants.{Occupied, Vacant}
 use Rattle.toml_edit_tree.specs.declared.value.Value.{Value}
+use Rattle.toml_edit_tree.specs.Indexed.{shown_slots}
 use Rattle.toml_edit_tree.proofs.DespanLaws.{no_slot}
 use Rattle.toml_edit_tree.proofs.InlineLaws.{made_inline_fields}
-use Rattle.toml_edit_tree.proofs.SlotsLaws.{inline-shown, made-shown, made_fields, made_inline-shown, shown, slot_shown, table-shown}
+use Rattle.toml_edit_tree.proofs.SlotsLaws.{inline-shown, made-shown, made_fields, made_inline-shown, slot_shown, table-shown}
 use Rattle.toml_edit_tree.proofs.TableEntryLaws.{last-shown, place-shown, set-shown}
 use Rattle.toml_edit_tree.proofs.ViewLaws.{array_items, tables_items, view-Table, view-Value}
 
@@ -75,15 +76,17 @@ tables-keep i w a = search (rules, the_lemmas)
 
 -- ---- the slot of a key
 
-module _ (k : Text) (w : Item) (es : List (Slot Item)) (apart : model.AreApart (shown es)) where
-  written : (o : Option ℕ) → place k es ≡ o → shown (option_map_or (λ at. with_item at w es) o es)
-      ≡ model.changed k (model.with_item (item_view w)) (shown es)
-  written None e = sym (changed-none k (model.with_item (item_view w)) (shown es) (none_at k (shown es) (place-shown k es ∙ e)))
+module _ (k : Text) (w : Item) (es : List (Slot Item)) (apart : model.AreApart (shown_slots es)) where
+  written : (o : Option ℕ) → place k es ≡ o → shown_slots (option_map_or (λ at. with_item at w es) o es)
+      ≡ model.changed k (model.with_item (item_view w)) (shown_slots es)
+  written None e = sym (changed-none k (model.with_item (item_view w)) (shown_slots es) (none_at k (shown_slots es) (place-shown k es ∙ e)))
   written (Some i) e =
-      set-shown es i (slot_shown no_slot) w ∙ sym (changed-at k (model.with_item (item_view w)) (shown es) i (slot_shown no_slot) apart
+      set-shown es i (slot_shown no_slot) w
+      ∙ sym (changed-at k (model.with_item (item_view w)) (shown_slots es) i (slot_shown no_slot) apart
       (place-shown k es ∙ e))
 
-  under-shown : shown (option_map_or (λ at. with_item at w es) (place k es) es) ≡ model.changed k (model.with_item (item_view w)) (shown es)
+  under-shown : shown_slots (option_map_or (λ at. with_item at w es) (place k es) es)
+      ≡ model.changed k (model.with_item (item_view w)) (shown_slots es)
   under-shown = written (place k es) refl
 
 pub table-leaves : (k : Text) (t : Table) → model.AreApart (slots_of t) → (w : Item)
@@ -100,7 +103,7 @@ pub inline-leaves : (k : Text) (t : InlineTable) → model.AreApart (inline_slot
 inline-leaves k t apart w =
     let es = (out-InlineTable t).items in
     made_inline-shown _ ∙ under-shown k (items.Value w) es (subst model.AreApart (inline-shown t) apart)
-    ∙ ap (λ n. model.changed k (model.with_item n) (shown es)) (view-Value w)
+    ∙ ap (λ n. model.changed k (model.with_item n) (shown_slots es)) (view-Value w)
     ∙ ap (model.changed k (model.with_item (value_view w))) (sym (inline-shown t))
 
 pub inline-keeps : (k : Text) (t : InlineTable) (w : Value) → inline_fields (with_value_under k w t) ≡ inline_fields t
@@ -108,13 +111,14 @@ inline-keeps k t w = made_inline_fields t _
 
 -- ---- the slot at a place
 
-item-shown : (es : List (Slot Item)) (i : ℕ) (w : Item) → shown (with_item i w es)
-    ≡ model.changed_at i (model.with_item (item_view w)) (shown es)
+item-shown : (es : List (Slot Item)) (i : ℕ) (w : Item) → shown_slots (with_item i w es)
+    ≡ model.changed_at i (model.with_item (item_view w)) (shown_slots es)
 item-shown [] i w = refl
 item-shown (s ∷ es) zero w = refl
 item-shown (s ∷ es) (suc i) w = ap (λ l. slot_shown s ∷ l) (item-shown es i w)
 
-key-shown : (h : Key → Key) (es : List (Slot Item)) (i : ℕ) → shown (on_key i h es) ≡ model.changed_at i (model.on_key h) (shown es)
+key-shown : (h : Key → Key) (es : List (Slot Item)) (i : ℕ) → shown_slots (on_key i h es)
+    ≡ model.changed_at i (model.on_key h) (shown_slots es)
 key-shown h [] i = refl
 key-shown h (s ∷ es) zero = refl
 key-shown h (s ∷ es) (suc i) = ap (λ l. slot_shown s ∷ l) (key-shown h es i)
@@ -171,7 +175,7 @@ inline_entry-leaves (inlined.Occupied o) w = inline_value-leaves o.at o.table.no
 inline_entry-leaves (inlined.Vacant v) w =
     let es = (out-InlineTable v.table.now).items in
     made_inline-shown _ ∙ last-shown es v.key (items.Value w)
-    ∙ ap (λ n. shown es ++ record { key = v.key; item = n } ∷ []) (view-Value w)
+    ∙ ap (λ n. shown_slots es ++ record { key = v.key; item = n } ∷ []) (view-Value w)
     ∙ ap (λ l. l ++ record { key = v.key; item = value_view w } ∷ []) (sym (inline-shown v.table.now))
 
 pub inline_entry-keeps : (e : InlineEntry) (w : Value) → inline_fields (inline_with e w) ≡ inline_fields (inline_ref e).now

@@ -3,8 +3,6 @@ pub mod DespanLaws
 pub mod OrderLaws
 pub mod PlaceLaws
 pub mod ConvertLaws
-pub mod KeyTextLaws
-pub mod ElementTextLaws
 pub mod PairTextLaws
 pub mod TurnLaws
 pub mod ViewLaws

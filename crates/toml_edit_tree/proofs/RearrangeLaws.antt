@@ -13,7 +13,8 @@ use Rattle.toml_edit_slots.specs.declared.slots.Slot.{Slot}
 use Rattle.toml_edit_slots.specs.declared.slots.rearrange.Renamed.TheVariants.{Done, Absent, Taken}
 use Rattle.toml_edit_tree.specs.View.{item_view}
 use Rattle.toml_edit_tree.specs.declared.item.Item.{Item}
-use Rattle.toml_edit_tree.proofs.SlotsLaws.{carried, shown, shown-seen}
+use Rattle.toml_edit_tree.specs.Indexed.{shown_slots}
+use Rattle.toml_edit_tree.proofs.SlotsLaws.{carried, shown-seen}
 
 -- ---- a view of the items, and the calls on the slots
 
@@ -57,22 +58,24 @@ module _ {X Y : Type 0} (h : X → Y) where
       found None = refl
       found (Some s) = inserted-joins i s (model.without t es)
 
--- ---- as they are shown
+-- ---- as they are shown_slots
 
-pub renaming-shown : (t u : Text) (es : List (Slot Item)) → renaming t u (shown es) ≡ renaming t u (seen es)
+pub renaming-shown : (t u : Text) (es : List (Slot Item)) → renaming t u (shown_slots es) ≡ renaming t u (seen es)
 renaming-shown t u es = ap (renaming t u) (shown-seen es) ∙ renaming-joins item_view t u (seen es)
 
-pub has-shown : (t : Text) (es : List (Slot Item)) → model.has_slot t (shown es) ≡ model.has_slot t (seen es)
+pub has-shown : (t : Text) (es : List (Slot Item)) → model.has_slot t (shown_slots es) ≡ model.has_slot t (seen es)
 has-shown t es = ap (model.has_slot t) (shown-seen es) ∙ views.has_slot-seen item_view t (seen es)
 
-pub renamed-shown : (t u : Text) (es fs : List (Slot Item)) → seen fs ≡ renamed_slot t u (seen es) → shown fs ≡ renamed_slot t u (shown es)
+pub renamed-shown : (t u : Text) (es fs : List (Slot Item)) → seen fs ≡ renamed_slot t u (seen es) → shown_slots fs
+    ≡ renamed_slot t u (shown_slots es)
 renamed-shown t u = carried (renamed_slot t u) (renamed_slot t u) (renamed-joins item_view t u)
 
-pub moved-shown : (t : Text) (i : ℕ) (es fs : List (Slot Item)) → seen fs ≡ moved_slot t i (seen es) → shown fs ≡ moved_slot t i (shown es)
+pub moved-shown : (t : Text) (i : ℕ) (es fs : List (Slot Item)) → seen fs ≡ moved_slot t i (seen es) → shown_slots fs
+    ≡ moved_slot t i (shown_slots es)
 moved-shown t i = carried (moved_slot t i) (moved_slot t i) (moved-joins item_view t i)
 
 pub inserted_slot-shown : (i : ℕ) (k : Key) (x : Item) (es fs : List (Slot Item)) → seen fs ≡ inserted_slot i (model.keyed k x) (seen es)
-    → shown fs ≡ inserted_slot i (model.keyed k (item_view x)) (shown es)
+    → shown_slots fs ≡ inserted_slot i (model.keyed k (item_view x)) (shown_slots es)
 inserted_slot-shown i k x =
     carried (inserted_slot i (model.keyed k x)) (inserted_slot i (model.keyed k (item_view x)))
     (inserted-joins item_view i (model.keyed k x))

@@ -2,10 +2,9 @@
 use Rattle.std.proofs.Common.{◌≡◌, Bool, true, false, cond, List, [], ◌∷◌, filter, map, Some, None, MatchBool, unwrap_or, refl, sym, ap}
 use Rattle.std.proofs.Common.{subst, ◌∙◌}
 use Rattle.toml_edit_model.specs.Retaining.{RetainsBy}
-use Rattle.toml_edit_model.specs.Shown.{is_table_node}
 use Rattle.toml_edit_model.specs.Tree.{Node, nothing, leaf, list, inline, table, tables, is_value_node}
 use Rattle.toml_edit_laws.proofs.slots.Retains.{retains-seen}
-use Rattle.toml_edit_tree.specs.Containers.{TableView, table_in, table_node, value_in}
+use Rattle.toml_edit_tree.specs.Containers.{value_in}
 use Rattle.toml_edit_tree.specs.declared.item.Item.{Item}
 use Rattle.toml_edit_tree.specs.ElementClosures.{KeepsOnly}
 use Rattle.toml_edit_tree.specs.Elements.{listed}
@@ -49,19 +48,3 @@ no_value (list f xs) e = absurd cc
 no_value (inline f ss) e = absurd cc
 no_value (table f ss) e = refl
 no_value (tables t xs) e = refl
-
-pub table-shown : (n : Node) (m : TableView) → Some m ≡ table_in n → (is_table_node n ≡ true) × (table_node m ≡ n)
-table-shown nothing m e = absurd cc
-table-shown (leaf s spelling d) m e = absurd cc
-table-shown (list f xs) m e = absurd cc
-table-shown (inline f ss) m e = absurd cc
-table-shown (table f ss) m e = (refl, ap (λ o. table_node (unwrap_or o m)) e)
-table-shown (tables t xs) m e = absurd cc
-
-pub no_table : (n : Node) → None ≡ table_in n → is_table_node n ≡ false
-no_table nothing e = refl
-no_table (leaf s spelling d) e = refl
-no_table (list f xs) e = refl
-no_table (inline f ss) e = refl
-no_table (table f ss) e = absurd cc
-no_table (tables t xs) e = refl

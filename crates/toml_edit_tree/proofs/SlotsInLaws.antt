@@ -6,7 +6,7 @@ use Rattle.toml_edit_model.specs.Lists.{on_slots, slots_from, slots_in}
 use Rattle.toml_edit_model.specs.Tree.{inline, table}
 use Rattle.toml_edit_slots.specs.declared.slots.Slot.{Slot}
 use Rattle.toml_edit_tree.specs.ContainerParts.{holding, table_holding}
-use Rattle.toml_edit_tree.specs.Indexed.{item_holding, slots_held, slots_open, value_holding, value_slots, value_slots_open}
+use Rattle.toml_edit_tree.specs.Indexed.{item_holding, slots_held, slots_open, value_holding, value_slots, value_slots_open, shown_slots}
 use Rattle.toml_edit_tree.specs.Indexed.{value_with_slots, with_slots}
 use Rattle.toml_edit_tree.specs.InlineSlots.{inline_fields}
 use Rattle.toml_edit_tree.specs.View.{fields_view, inline_view, item_view, table_slots, value_view}
@@ -21,7 +21,7 @@ use Rattle.toml_edit_tree.specs.declared.table.Table.{Table, out-Table}
 use Rattle.toml_edit_tree.specs.declared.value.Value.{Value, out-Value}
 use Rattle.toml_edit_tree.specs.declared.value.Value.TheVariants as values
 use Rattle.toml_edit_tree.proofs.InlineLaws.{made_inline_fields}
-use Rattle.toml_edit_tree.proofs.SlotsLaws.{inline-shown, made_fields, made_inline-shown, made-shown, shown, table-shown}
+use Rattle.toml_edit_tree.proofs.SlotsLaws.{inline-shown, made_fields, made_inline-shown, made-shown, table-shown}
 use Rattle.toml_edit_tree.proofs.ViewLaws.{view-Array, view-ArrayOfTables, view-Boolean, view-Datetime, view-Float, view-InlineTable}
 use Rattle.toml_edit_tree.proofs.ViewLaws.{view-Integer, view-None, view-String, view-Table, view-Value}
 
@@ -34,64 +34,64 @@ rolled_item x = search (rules, the_lemmas)
 -- ---- with other slots
 
 module _ (es : List (Slot Item)) where
-  table-holds : (t : Table) → item_view (items.Table (table_holding es t)) ≡ on_slots (λ _. shown es) (item_view (items.Table t))
+  table-holds : (t : Table) → item_view (items.Table (table_holding es t)) ≡ on_slots (λ _. shown_slots es) (item_view (items.Table t))
   table-holds t =
       let u : Table = table_holding es t in
       view-Table u ∙ ap (λ g. table g (table_slots u)) (made_fields t es)
       ∙ ap (table (fields_view t)) (sym (slots_from-list (table_slots u)) ∙ ap slots_from (made-shown _))
-      ∙ sym (ap (on_slots (λ _. shown es)) (view-Table t))
+      ∙ sym (ap (on_slots (λ _. shown_slots es)) (view-Table t))
 
   inline-holds : (t : InlineTable) → value_view (values.InlineTable (holding es t))
-      ≡ on_slots (λ _. shown es) (value_view (values.InlineTable t))
+      ≡ on_slots (λ _. shown_slots es) (value_view (values.InlineTable t))
   inline-holds t =
       let u : InlineTable = holding es t in
       view-InlineTable u ∙ ap (λ g. inline g (inline_view u).slots) (made_inline_fields t es)
       ∙ ap (inline (inline_fields t)) (sym (slots_from-list (inline_view u).slots) ∙ ap slots_from (made_inline-shown _))
-      ∙ sym (ap (on_slots (λ _. shown es)) (view-InlineTable t))
+      ∙ sym (ap (on_slots (λ _. shown_slots es)) (view-InlineTable t))
 
   value-open : (o : Value-F Item Value Array ArrayOfTables InlineTable Table) (v : Value) → v ≡ roll-Value o
-      → value_view (value_holding o es v) ≡ on_slots (λ _. shown es) (value_view v)
+      → value_view (value_holding o es v) ≡ on_slots (λ _. shown_slots es) (value_view v)
   value-open (Value-F.InlineTable t) v e =
       let is : v ≡ values.InlineTable t = search (rules, the_lemmas, e) in
-      inline-holds t ∙ ap (λ w. on_slots (λ _. shown es) (value_view w)) (sym is)
+      inline-holds t ∙ ap (λ w. on_slots (λ _. shown_slots es) (value_view w)) (sym is)
   value-open (Value-F.String f) v e =
       let is : v ≡ values.String f = search (rules, the_lemmas, e) in
-      let n = ap value_view is ∙ view-String f in n ∙ sym (ap (on_slots (λ _. shown es)) n)
+      let n = ap value_view is ∙ view-String f in n ∙ sym (ap (on_slots (λ _. shown_slots es)) n)
   value-open (Value-F.Integer f) v e =
       let is : v ≡ values.Integer f = search (rules, the_lemmas, e) in
-      let n = ap value_view is ∙ view-Integer f in n ∙ sym (ap (on_slots (λ _. shown es)) n)
+      let n = ap value_view is ∙ view-Integer f in n ∙ sym (ap (on_slots (λ _. shown_slots es)) n)
   value-open (Value-F.Float f) v e =
       let is : v ≡ values.Float f = search (rules, the_lemmas, e) in
-      let n = ap value_view is ∙ view-Float f in n ∙ sym (ap (on_slots (λ _. shown es)) n)
+      let n = ap value_view is ∙ view-Float f in n ∙ sym (ap (on_slots (λ _. shown_slots es)) n)
   value-open (Value-F.Boolean f) v e =
       let is : v ≡ values.Boolean f = search (rules, the_lemmas, e) in
-      let n = ap value_view is ∙ view-Boolean f in n ∙ sym (ap (on_slots (λ _. shown es)) n)
+      let n = ap value_view is ∙ view-Boolean f in n ∙ sym (ap (on_slots (λ _. shown_slots es)) n)
   value-open (Value-F.Datetime f) v e =
       let is : v ≡ values.Datetime f = search (rules, the_lemmas, e) in
-      let n = ap value_view is ∙ view-Datetime f in n ∙ sym (ap (on_slots (λ _. shown es)) n)
+      let n = ap value_view is ∙ view-Datetime f in n ∙ sym (ap (on_slots (λ _. shown_slots es)) n)
   value-open (Value-F.Array a) v e =
       let is : v ≡ values.Array a = search (rules, the_lemmas, e) in
-      let n = ap value_view is ∙ view-Array a in n ∙ sym (ap (on_slots (λ _. shown es)) n)
+      let n = ap value_view is ∙ view-Array a in n ∙ sym (ap (on_slots (λ _. shown_slots es)) n)
 
-  value-holds : (v : Value) → value_view (value_with_slots es v) ≡ on_slots (λ _. shown es) (value_view v)
+  value-holds : (v : Value) → value_view (value_with_slots es v) ≡ on_slots (λ _. shown_slots es) (value_view v)
   value-holds v = value-open (out-Value v) v (rolled_value v)
 
   item-open : (o : Item-F Item Value Array ArrayOfTables InlineTable Table) (x : Item) → x ≡ roll-Item o
-      → item_view (item_holding o es x) ≡ on_slots (λ _. shown es) (item_view x)
+      → item_view (item_holding o es x) ≡ on_slots (λ _. shown_slots es) (item_view x)
   item-open (Item-F.Table t) x e =
       let is : x ≡ items.Table t = search (rules, the_lemmas, e) in
-      table-holds t ∙ ap (λ y. on_slots (λ _. shown es) (item_view y)) (sym is)
+      table-holds t ∙ ap (λ y. on_slots (λ _. shown_slots es) (item_view y)) (sym is)
   item-open (Item-F.Value v) x e =
       let is : x ≡ items.Value v = search (rules, the_lemmas, e) in
-      view-Value (value_with_slots es v) ∙ value-holds v ∙ sym (ap (on_slots (λ _. shown es)) (ap item_view is ∙ view-Value v))
+      view-Value (value_with_slots es v) ∙ value-holds v ∙ sym (ap (on_slots (λ _. shown_slots es)) (ap item_view is ∙ view-Value v))
   item-open Item-F.None x e =
       let is : x ≡ items.None = search (rules, the_lemmas, e) in
-      let n = ap item_view is ∙ view-None in n ∙ sym (ap (on_slots (λ _. shown es)) n)
+      let n = ap item_view is ∙ view-None in n ∙ sym (ap (on_slots (λ _. shown_slots es)) n)
   item-open (Item-F.ArrayOfTables a) x e =
       let is : x ≡ items.ArrayOfTables a = search (rules, the_lemmas, e) in
-      let n = ap item_view is ∙ view-ArrayOfTables a in n ∙ sym (ap (on_slots (λ _. shown es)) n)
+      let n = ap item_view is ∙ view-ArrayOfTables a in n ∙ sym (ap (on_slots (λ _. shown_slots es)) n)
 
-  pub item-holds : (x : Item) → item_view (with_slots es x) ≡ on_slots (λ _. shown es) (item_view x)
+  pub item-holds : (x : Item) → item_view (with_slots es x) ≡ on_slots (λ _. shown_slots es) (item_view x)
   item-holds x = item-open (out-Item x) x (rolled_item x)
 
 -- ---- its own slots
@@ -135,7 +135,7 @@ module _ (es : List (Slot Item)) where
 -- ---- as they are seen
 
 seen_value-open : (o : Value-F Item Value Array ArrayOfTables InlineTable Table) (v : Value) → v ≡ roll-Value o
-    → option_map shown (value_slots_open o) ≡ slots_in (value_view v)
+    → option_map shown_slots (value_slots_open o) ≡ slots_in (value_view v)
 seen_value-open (Value-F.InlineTable t) v e =
     let is : v ≡ values.InlineTable t = search (rules, the_lemmas, e) in
     ap Some (sym (inline-shown t)) ∙ sym (ap slots_in (ap value_view is ∙ view-InlineTable t))
@@ -153,7 +153,7 @@ seen_value-open (Value-F.Array a) v e =
     let is : v ≡ values.Array a = search (rules, the_lemmas, e) in sym (ap slots_in (ap value_view is ∙ view-Array a))
 
 seen_item-open : (o : Item-F Item Value Array ArrayOfTables InlineTable Table) (x : Item) → x ≡ roll-Item o
-    → option_map shown (slots_open o) ≡ slots_in (item_view x)
+    → option_map shown_slots (slots_open o) ≡ slots_in (item_view x)
 seen_item-open (Item-F.Table t) x e =
     let is : x ≡ items.Table t = search (rules, the_lemmas, e) in
     ap Some (sym (table-shown t)) ∙ sym (ap slots_in (ap item_view is ∙ view-Table t))
@@ -165,5 +165,5 @@ seen_item-open Item-F.None x e =
 seen_item-open (Item-F.ArrayOfTables a) x e =
     let is : x ≡ items.ArrayOfTables a = search (rules, the_lemmas, e) in sym (ap slots_in (ap item_view is ∙ view-ArrayOfTables a))
 
-pub held-seen : (x : Item) → option_map shown (slots_held x) ≡ slots_in (item_view x)
+pub held-seen : (x : Item) → option_map shown_slots (slots_held x) ≡ slots_in (item_view x)
 held-seen x = seen_item-open (out-Item x) x (rolled_item x)

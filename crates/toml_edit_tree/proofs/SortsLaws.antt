@@ -1,8 +1,8 @@
 -- A sort of items by what they hold, as it is seen in their trees.
 use Rattle.std.proofs.Common.{◌≡◌, Bool, true, false, cond, ◌&&◌, if◌then◌else◌, List, Option, Some, None, option_map, IsPermutation}
-use Rattle.std.proofs.Common.{unwrap_or, refl, sym, ap, subst}
+use Rattle.std.proofs.Common.{unwrap_or, refl, sym, subst}
 use Rattle.std.proofs.lemmas.List.Sorted.{IsPermutation-map}
-use Rattle.toml_edit_lists.specs.Sorts.{held_lt}
+use Rattle.toml_edit_slots.specs.Sorts.{held_lt}
 use Rattle.toml_edit_laws.proofs.slots.Sorts.{sorts-seen}
 use Rattle.toml_edit_model.specs.Lists.{only}
 use Rattle.toml_edit_model.specs.Sorting.{IsSortOf, others_first}

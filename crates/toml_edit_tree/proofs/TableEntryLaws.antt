@@ -19,9 +19,10 @@ use Rattle.toml_edit_tree.specs.View.{item_view}
 use Rattle.toml_edit_tree.specs.declared.item.Item.{Item}
 use Rattle.toml_edit_tree.specs.declared.table.Table.{Table, out-Table}
 use Rattle.toml_edit_tree.specs.declared.table.entry.OccupiedEntry.{OccupiedEntry}
-use Rattle.toml_edit_tree.proofs.SlotsLaws.{made-shown, shown, slot_shown, table-shown}
+use Rattle.toml_edit_tree.proofs.SlotsLaws.{made-shown, slot_shown, table-shown}
 use Rattle.toml_edit_tree.proofs.DespanLaws.{no_slot}
 use Rattle.toml_edit_tree.specs.SlotsOf.{slots_of}
+use Rattle.toml_edit_tree.specs.Indexed.{shown_slots}
 
 -- ---- slots whose keys are apart
 
@@ -35,11 +36,11 @@ neither false None e = (refl, refl)
 neither false (Some j) e = absurd (none-some (suc j) (sym e))
 
 others : (u : Text) (es : List (Slot Item)) → ((at : ℕ) (s : Slot Item) → slice_get es at ≡ Some s → same_text s.key.name u ≡ false)
-    → AllByRecursion (λ v. same_text u v ≡ false) (model.names (shown es))
+    → AllByRecursion (λ v. same_text u v ≡ false) (model.names (shown_slots es))
 others u [] h = tt
 others u (s ∷ es) h = (nat_list_eq_equiv.symm u s.key.name ∙ h 0 s refl, others u es (λ at r e. h (suc at) r e))
 
-pub apart-first : (es : List (Slot Item)) → IsFirstOfName es → model.AreApart (shown es)
+pub apart-first : (es : List (Slot Item)) → IsFirstOfName es → model.AreApart (shown_slots es)
 unfolding IsDistinct
 apart-first [] h = tt
 apart-first (s ∷ es) h = (
@@ -56,23 +57,23 @@ next_place n m =
       | inr outside ↦ grind (arith, outside)
     ]
 
-pub place-shown : (t : Text) (es : List (Slot Item)) → model.place t (shown es) ≡ place t es
+pub place-shown : (t : Text) (es : List (Slot Item)) → model.place t (shown_slots es) ≡ place t es
 place-shown t [] = refl
 place-shown t (s ∷ es) =
     elim (cases_Bool (is_at t s)) [
       | inl same ↦ rw same (grind arith)
-      | inr other ↦ rw (other, ← place-shown t es) (next_place (position_or_len (model.is_at t) (shown es)) (length (shown es)))
+      | inr other ↦ rw (other, ← place-shown t es) (next_place (position_or_len (model.is_at t) (shown_slots es)) (length (shown_slots es)))
     ]
 
 -- ---- another item in a slot, and in the last one
 
 pub set-shown : (es : List (Slot Item)) (i : ℕ) (d : model.Slot Node) (x : Item)
-    → shown (with_item i x es) ≡ set (shown es) i (model.with_item (item_view x) (get_or (shown es) i d))
+    → shown_slots (with_item i x es) ≡ set (shown_slots es) i (model.with_item (item_view x) (get_or (shown_slots es) i d))
 set-shown [] i d x = refl
 set-shown (s ∷ es) zero d x = refl
 set-shown (s ∷ es) (suc i) d x = ap (λ l. slot_shown s ∷ l) (set-shown es i d x)
 
-pub last-shown : (es : List (Slot Item)) (k : Key) (x : Item) → shown (es ++ record { key = k; item = x } ∷ []) ≡ shown es
+pub last-shown : (es : List (Slot Item)) (k : Key) (x : Item) → shown_slots (es ++ record { key = k; item = x } ∷ []) ≡ shown_slots es
     ++ record { key = k; item = item_view x } ∷ []
 last-shown [] k x = refl
 last-shown (s ∷ es) k x = ap (λ l. slot_shown s ∷ l) (last-shown es k x)
@@ -103,7 +104,7 @@ pub part-of-key : {X : Type 0} (f : Key → X) (o : Option (Slot Item)) → opti
 part-of-key f None = refl
 part-of-key f (Some s) = refl
 
-pub get-shown : (es : List (Slot Item)) (i : ℕ) (s : Slot Item) → slice_get es i ≡ Some s → get_or (shown es) i (slot_shown s)
+pub get-shown : (es : List (Slot Item)) (i : ℕ) (s : Slot Item) → slice_get es i ≡ Some s → get_or (shown_slots es) i (slot_shown s)
     ≡ slot_shown s
 get-shown [] i s got = refl
 get-shown (r ∷ es) zero s got = ap slot_shown (same_Some r s got)
@@ -112,17 +113,18 @@ get-shown (r ∷ es) (suc i) s got = get-shown es i s got
 -- ---- the key of a text, as it stands
 
 pub key-at : (t : Text) (es : List (Slot Item)) (i : ℕ) → place t es ≡ Some i → i < length es
-    → option_map (λ (s : Slot Item). s.key) (slice_get es i) ≡ model.lookup_key t (shown es)
+    → option_map (λ (s : Slot Item). s.key) (slice_get es i) ≡ model.lookup_key t (shown_slots es)
 key-at t es i at low =
     let s = get_or es i no_slot in
     let got : slice_get es i ≡ Some s = slice_get-get_or es i no_slot low in
     ap (option_map (λ (r : Slot Item). r.key)) got
-    ∙ sym (ap (option_map (λ (r : model.Slot Node). r.key)) (lookup_slot-at t (shown es) i (slot_shown s) (place-shown t es ∙ at)
+    ∙ sym (ap (option_map (λ (r : model.Slot Node). r.key)) (lookup_slot-at t (shown_slots es) i (slot_shown s) (place-shown t es ∙ at)
     ∙ ap Some (get-shown es i s got)))
 
-pub key-none : (t : Text) (es : List (Slot Item)) → place t es ≡ None → None ≡ model.lookup_key t (shown es)
+pub key-none : (t : Text) (es : List (Slot Item)) → place t es ≡ None → None ≡ model.lookup_key t (shown_slots es)
 key-none t es none =
-    sym (ap (option_map (λ (r : model.Slot Node). r.key)) (lookup_slot-none t (shown es) (none_at t (shown es) (place-shown t es ∙ none))))
+    sym (ap (option_map (λ (r : model.Slot Node). r.key))
+    (lookup_slot-none t (shown_slots es) (none_at t (shown_slots es) (place-shown t es ∙ none))))
 
 -- ---- a key that is there
 
@@ -130,7 +132,7 @@ module _ (k : Key) (t : Table) (i : ℕ) (at : place k.name (out-Table t).slots 
   abbrev old : List (Slot Item)
   old = (out-Table t).slots
 
-  here : model.place k.name (shown old) ≡ Some i
+  here : model.place k.name (shown_slots old) ≡ Some i
   here = place-shown k.name old ∙ at
 
   pub leaves-present : model.AreApart (slots_of t) → (x : Item)
@@ -139,11 +141,11 @@ module _ (k : Key) (t : Table) (i : ℕ) (at : place k.name (out-Table t).slots 
   leaves-present apart x =
       let new : model.Slot Node = record { key = k; item = item_view x } in
       made-shown _ ∙ set-shown old i new x
-      ∙ sym (put-at (model.with_item (item_view x)) new (shown old) i new (subst model.AreApart (table-shown t) apart) here)
+      ∙ sym (put-at (model.with_item (item_view x)) new (shown_slots old) i new (subst model.AreApart (table-shown t) apart) here)
       ∙ ap (model.put (model.with_item (item_view x)) new) (sym (table-shown t))
 
   found : (s : Slot Item) → slice_get old i ≡ Some s → model.lookup_slot k.name (slots_of t) ≡ Some (slot_shown s)
-  found s got = ap (model.lookup_slot k.name) (table-shown t) ∙ lookup_slot-at k.name (shown old) i (slot_shown s) here
+  found s got = ap (model.lookup_slot k.name) (table-shown t) ∙ lookup_slot-at k.name (shown_slots old) i (slot_shown s) here
       ∙ ap Some (get-shown old i s got)
 
   pub item-present : i < length old → option_map item_view (slice_get (items_of old) i) ≡ model.lookup k.name (slots_of t)
@@ -167,7 +169,7 @@ module _ (k : Key) (t : Table) (none : place k.name (out-Table t).slots ≡ None
   abbrev before : List (Slot Item)
   before = (out-Table t).slots
 
-  gone : model.place k.name (shown before) ≡ None
+  gone : model.place k.name (shown_slots before) ≡ None
   gone = place-shown k.name before ∙ none
 
   pub leaves-new : (x : Item)
@@ -175,12 +177,12 @@ module _ (k : Key) (t : Table) (none : place k.name (out-Table t).slots ≡ None
       ≡ model.put (model.with_item (item_view x)) (record { key = k; item = item_view x }) (slots_of t)
   leaves-new x =
       let new : model.Slot Node = record { key = k; item = item_view x } in
-      made-shown _ ∙ last-shown before k x ∙ sym (put-new (model.with_item (item_view x)) new (shown before) gone)
+      made-shown _ ∙ last-shown before k x ∙ sym (put-new (model.with_item (item_view x)) new (shown_slots before) gone)
       ∙ ap (model.put (model.with_item (item_view x)) new) (sym (table-shown t))
 
   nothing-found : model.lookup_slot k.name (slots_of t) ≡ None
   nothing-found = ap (model.lookup_slot k.name) (table-shown t)
-      ∙ lookup_slot-none k.name (shown before) (none_at k.name (shown before) gone)
+      ∙ lookup_slot-none k.name (shown_slots before) (none_at k.name (shown_slots before) gone)
 
   pub item-new : None ≡ model.lookup k.name (slots_of t)
   item-new = sym (ap (option_map (λ (r : model.Slot Node). r.item)) nothing-found)

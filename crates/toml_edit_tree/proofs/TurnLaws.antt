@@ -1,15 +1,13 @@
 -- The turns of the loops that print: what is done and the text of what is left stay the whole text.
 use Rattle.std.proofs.Common.{◌≡◌, ℕ, ◌+◌, ◌<◌, ◌≤◌, Bool, true, false, List, [], ◌∷◌, ◌++◌, Option, length, get_or, drop, sym, ap, ◌∙◌}
 use Rattle.std.proofs.Common.{rules, append_assoc}
-use Rattle.std.specs.Prelude.{if◌then◌else◌}
 use Rattle.std.proofs.lemmas.List.{at_drop_all, drop_more}
 use Rattle.toml_edit_model.specs.Text.{Text}
 use Rattle.toml_edit_model.specs.Mode.{Mode}
 use Rattle.toml_edit_model.specs.Tree.{Decor, Items, Key, Node, is_value_node, item}
 use Rattle.toml_edit_model.specs.Print.{Line, inside_lines, table_lines}
 use Rattle.toml_edit_slots.specs.declared.slots.Slot.{Slot}
-use Rattle.toml_edit_tree.specs.Printing.{element_text, items_text, last_comma, last_shown, lines_in_table, lines_of_item, lines_text}
-use Rattle.toml_edit_tree.specs.Printing.{pairs_shown}
+use Rattle.toml_edit_tree.specs.Printing.{lines_in_table, lines_of_item}
 use Rattle.toml_edit_tree.specs.declared.array.Array.{Array}
 use Rattle.toml_edit_tree.specs.declared.array_of_tables.ArrayOfTables.{ArrayOfTables}
 use Rattle.toml_edit_tree.specs.declared.inline_table.InlineTable.{InlineTable}
@@ -20,8 +18,10 @@ use Rattle.toml_edit_tree.specs.declared.item.Item.TheViews.{roll-Item, roll-Val
 use Rattle.toml_edit_tree.specs.declared.table.Table.{Table}
 use Rattle.toml_edit_tree.specs.declared.value.Value.{Value, out-Value}
 use Rattle.toml_edit_tree.specs.View.{item_view, items_view, slots_view, value_view}
-use Rattle.toml_edit_tree.proofs.PairTextLaws.{last_shown-append, lines_text-append, pairs_shown-append}
+use Rattle.toml_edit_laws.proofs.print_by_visits.PairTexts.{last_shown-append, lines_text-append, pairs_shown-append}
+use Rattle.toml_edit_laws.proofs.print_by_visits.ValueTexts.{value-is}
 use Rattle.toml_edit_tree.proofs.ViewLaws.{view-Value}
+use Rattle.toml_edit_laws.specs.PrintByVisits.{last_comma, last_shown, element_text, pairs_shown, lines_text, written_items}
 
 -- ---- items
 
@@ -66,42 +66,50 @@ from-item xs i x h is =
 
 module _ (mode : Mode) where
   abbrev by_test : Bool → Bool → Node → Items → Bool → Text
-  by_test comma is_first n xs b = if b then element_text mode is_first n ++ items_text mode comma false xs
-      else items_text mode comma is_first xs
+  by_test comma is_first n xs b =
+      elim b [
+        | true ↦ element_text mode is_first n (written_value mode n) ++ written_items mode comma false xs
+        | false ↦ written_items mode comma is_first xs
+      ]
 
   module _ (comma is_first : Bool) (xs : List Item) (i : ℕ) (x : Item) (h : i < length xs) (is : x ≡ get_or xs i x) where
     value-text : (v : Value) → x ≡ items.Value v
-        → items_text mode comma is_first (items_view (drop i xs)) ≡ element_text mode is_first (value_view v)
-        ++ items_text mode comma false (items_view (drop (i + 1) xs))
+        → written_items mode comma is_first (items_view (drop i xs))
+        ≡ element_text mode is_first (value_view v) (node_text mode (value_view v))
+        ++ written_items mode comma false (items_view (drop (i + 1) xs))
     value-text v e =
-        ap (items_text mode comma is_first) (from-item xs i x h is)
+        ap (written_items mode comma is_first) (from-item xs i x h is)
         ∙ ap (by_test comma is_first (item_view x) (items_view (drop (i + 1) xs))) (value-node x v e)
-        ∙ ap (λ (n : Node). element_text mode is_first n ++ items_text mode comma false (items_view (drop (i + 1) xs))) (ap item_view e
-        ∙ view-Value v)
+        ∙ ap (λ (n : Node). by_test comma is_first n (items_view (drop (i + 1) xs)) true) (ap item_view e ∙ view-Value v)
+        ∙ ap (λ (t : Text). element_text mode is_first (value_view v) t ++ written_items mode comma false (items_view (drop (i + 1) xs)))
+        (sym (value-is mode (value_view v)))
 
     other-text : ((v : Value) → x ≡ items.Value v → ⊥)
-        → items_text mode comma is_first (items_view (drop i xs)) ≡ items_text mode comma is_first (items_view (drop (i + 1) xs))
+        → written_items mode comma is_first (items_view (drop i xs)) ≡ written_items mode comma is_first (items_view (drop (i + 1) xs))
     other-text none =
-        ap (items_text mode comma is_first) (from-item xs i x h is)
+        ap (written_items mode comma is_first) (from-item xs i x h is)
         ∙ ap (by_test comma is_first (item_view x) (items_view (drop (i + 1) xs))) (other-node x none)
 
-    module _ (done all : Text) (more : done ++ items_text mode comma is_first (items_view (drop i xs)) ≡ all) where
+    module _ (done all : Text) (more : done ++ written_items mode comma is_first (items_view (drop i xs)) ≡ all) where
       -- an item that holds a value is written
       pub value-turn : (v : Value) → x ≡ items.Value v
-          → (done ++ element_text mode is_first (value_view v)) ++ items_text mode comma false (items_view (drop (i + 1) xs)) ≡ all
+          → (done ++ element_text mode is_first (value_view v) (node_text mode (value_view v)))
+          ++ written_items mode comma false (items_view (drop (i + 1) xs)) ≡ all
       value-turn v e =
-          append_assoc done (element_text mode is_first (value_view v)) (items_text mode comma false (items_view (drop (i + 1) xs)))
+          append_assoc done (element_text mode is_first (value_view v) (node_text mode (value_view v)))
+          (written_items mode comma false (items_view (drop (i + 1) xs)))
           ∙ ap (λ (t : Text). done ++ t) (sym (value-text v e)) ∙ more
 
       -- another is left out
-      pub other-turn : ((v : Value) → x ≡ items.Value v → ⊥) → done ++ items_text mode comma is_first (items_view (drop (i + 1) xs)) ≡ all
+      pub other-turn : ((v : Value) → x ≡ items.Value v → ⊥) → done ++ written_items mode comma is_first (items_view (drop (i + 1) xs))
+          ≡ all
       other-turn none = ap (λ (t : Text). done ++ t) (sym (other-text none)) ∙ more
 
   -- none are left
   pub items-end : (comma is_first : Bool) (xs : List Item) (i : ℕ) → length xs ≤ i → (done all : Text)
-      → done ++ items_text mode comma is_first (items_view (drop i xs)) ≡ all → done ++ last_comma comma is_first ≡ all
+      → done ++ written_items mode comma is_first (items_view (drop i xs)) ≡ all → done ++ last_comma comma is_first ≡ all
   items-end comma is_first xs i h done all more =
-      ap (λ (t : Text). done ++ t) (sym (at_drop_all (λ ys. items_text mode comma is_first (items_view ys)) xs i h)) ∙ more
+      ap (λ (t : Text). done ++ t) (sym (at_drop_all (λ ys. written_items mode comma is_first (items_view ys)) xs i h)) ∙ more
 
   -- ---- slots
 
@@ -149,7 +157,7 @@ module _ (mode : Mode) where
           ≡ all
       last-turn all more =
           ap (λ (d : Option Decor). last_shown d rest) last
-          ∙ sym (ap (last_shown before) from-slot ∙ last_shown-append mode before own rest) ∙ more
+          ∙ sym (ap (last_shown before) from-slot ∙ last_shown-append before own rest) ∙ more
 
       -- the pairs of a slot
       pub pairs-turn : (done all : Text) → done ++ pairs_shown mode before (inside_lines mode (slots_view (drop i es)) ks) ≡ all

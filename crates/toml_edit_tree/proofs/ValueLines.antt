@@ -3,10 +3,10 @@ use Rattle.std.proofs.Common.{◌≡◌, Bool, true, false, List, [], ◌++◌, 
 use Rattle.std.specs.Prelude.{codes, not}
 use Rattle.toml_edit_model.specs.Text.{Text}
 use Rattle.toml_edit_model.specs.Mode.{Mode}
-use Rattle.toml_edit_model.specs.Tree.{Decor, Key, Raw, shown_raw}
+use Rattle.toml_edit_model.specs.Tree.{Decor, Raw, shown_raw}
 use Rattle.toml_edit_model.specs.Print.{Line, inside_lines, is_line_node}
 use Rattle.toml_edit_tree.specs.Containers.{array_node, inline_node}
-use Rattle.toml_edit_tree.specs.Printing.{after_pairs, items_text, last_shown, lines_of_item, node_text, pairs_shown}
+use Rattle.toml_edit_tree.specs.Printing.{node_text}
 use Rattle.toml_edit_tree.specs.declared.array.Array.{Array, out-Array}
 use Rattle.toml_edit_tree.specs.declared.array_of_tables.ArrayOfTables.{ArrayOfTables}
 use Rattle.toml_edit_tree.specs.declared.inline_table.InlineTable.{InlineTable, out-InlineTable}
@@ -17,9 +17,10 @@ use Rattle.toml_edit_tree.specs.declared.table.Table.{Table}
 use Rattle.toml_edit_tree.specs.declared.value.Value.{Value, out-Value}
 use Rattle.toml_edit_tree.specs.declared.value.Value.TheVariants as values
 use Rattle.toml_edit_tree.specs.View.{array_view, inline_view, items_view, slots_view, value_view}
-use Rattle.toml_edit_tree.proofs.ElementTextLaws.{list-text}
-use Rattle.toml_edit_tree.proofs.PairTextLaws.{dotted-lines, inline-text}
+use Rattle.toml_edit_laws.proofs.print_by_visits.PairTexts.{pairs-closed}
+use Rattle.toml_edit_laws.proofs.print_by_visits.ValueTexts.{value-is}
 use Rattle.toml_edit_tree.proofs.ViewLaws.{array_items, inline_slots, view-InlineTable}
+use Rattle.toml_edit_laws.specs.PrintByVisits.{last_shown, after_pairs, pairs_shown, written_items}
 
 pub array-comma : (a : Array) → (array_view a).fields.comma ≡ (out-Array a).trailing_comma
 array-comma a = search (rules, the_lemmas)
@@ -61,29 +62,20 @@ braced-line v t is braced =
     ap (λ x. is_line_node (value_view x)) is ∙ ap is_line_node (view-InlineTable t) ∙ ap not (inline-dotted t ∙ braced)
 
 module _ (mode : Mode) where
-  -- a dotted one has its lines
-  pub dotted-value : (v : Value) (t : InlineTable) (ks : List Key) → v ≡ values.InlineTable t → (out-InlineTable t).dotted ≡ true
-      → lines_of_item mode (value_view v) ks ≡ inside_lines mode (slots_view (out-InlineTable t).items) ks
-  dotted-value v t ks is dotted =
-      ap (λ x. lines_of_item mode (value_view x) ks) is
-      ∙ ap (λ n. lines_of_item mode n ks) (view-InlineTable t)
-      ∙ dotted-lines mode (inline_view t).fields (inline_view t).slots ks (inline-dotted t ∙ dotted)
-      ∙ ap (λ ss. inside_lines mode ss ks) (inline_slots t)
-
   -- ---- the texts of containers, by their fields
 
   pub array-text : (a : Array)
-      → codes "[" ++ (items_text mode (out-Array a).trailing_comma true (items_view (out-Array a).values.items)
+      → codes "[" ++ (written_items mode (out-Array a).trailing_comma true (items_view (out-Array a).values.items)
       ++ (shown_raw mode (out-Array a).trailing ++ codes "]"))
       ≡ node_text mode (array_node (array_view a))
   array-text a =
-      ap (λ c. codes "[" ++ (items_text mode c true (items_view (out-Array a).values.items)
+      ap (λ c. codes "[" ++ (written_items mode c true (items_view (out-Array a).values.items)
       ++ (shown_raw mode (out-Array a).trailing ++ codes "]"))) (sym (array-comma a))
-      ∙ ap (λ xs. codes "[" ++ (items_text mode (array_view a).fields.comma true xs
+      ∙ ap (λ xs. codes "[" ++ (written_items mode (array_view a).fields.comma true xs
       ++ (shown_raw mode (out-Array a).trailing ++ codes "]"))) (sym (array_items a))
-      ∙ ap (λ r. codes "[" ++ (items_text mode (array_view a).fields.comma true (array_view a).items ++ (shown_raw mode r ++ codes "]")))
+      ∙ ap (λ r. codes "[" ++ (written_items mode (array_view a).fields.comma true (array_view a).items ++ (shown_raw mode r ++ codes "]")))
       (sym (array-trailing a))
-      ∙ sym (list-text mode (array_view a).fields (array_view a).items)
+      ∙ sym (value-is mode (array_node (array_view a)))
 
   -- the pairs and what follows them, where d is the decor of the last
   abbrev pairs_and_end : Bool → Raw → Option Decor → List Line → Text
@@ -104,4 +96,5 @@ module _ (mode : Mode) where
       (inside_lines mode (inline_view t).slots [])) (sym (inline-comma t))
       ∙ ap (λ r. pairs_and_end (inline_view t).fields.comma r (last_shown None (inside_lines mode (inline_view t).slots []))
       (inside_lines mode (inline_view t).slots [])) (sym (inline-trailing t))
-      ∙ sym (inline-text mode (inline_view t).fields (inline_view t).slots)
+      ∙ sym (pairs-closed mode (inline_view t).fields.comma (shown_raw mode (inline_view t).fields.trailing)
+      (inside_lines mode (inline_view t).slots []))

@@ -2,7 +2,7 @@
 -- return.
 use Rattle.std.specs.Prelude.{ℕ, ℤ, Bool, false, List, [], ◌∷◌, Option, Some, None, if◌then◌else◌}
 use Rattle.std.specs.declared.ops.Range.{Range}
-use Rattle.toml_edit_model.specs.Tree.{Raw, Decor, Key, Extent, unset, ArrayFields, InlineFields, TableFields, Node, list, inline, table}
+use Rattle.toml_edit_model.specs.Tree.{Raw, Decor, Extent, unset, ArrayFields, InlineFields, TableFields, Node, list, inline, table}
 use Rattle.toml_edit_model.specs.Tree.{tables, Items, Slots, no_slots, slot, is_value_node}
 use Rattle.toml_edit_model.specs.TreeOf.{made_by_path, spanned_form}
 use Rattle.toml_edit_slots.specs.declared.slots.Slot as repr

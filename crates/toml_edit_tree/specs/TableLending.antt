@@ -1,11 +1,12 @@
 -- A new table, and what a table lends of its slots.
-use Rattle.std.specs.Prelude.{ℕ, List, false, Option, None}
+use Rattle.std.specs.Prelude.{ℕ, List, Option}
 use Rattle.std.specs.Option.{option_map_or}
 use Rattle.std.specs.Borrow.{Lends, LendsIf, MutBor, Fml, follows}
 use Rattle.toml_edit_model.specs.Lists.{slots_from}
 use Rattle.toml_edit_model.specs.Slots.{Slot}
 use Rattle.toml_edit_model.specs.Text.{Text}
-use Rattle.toml_edit_model.specs.Tree.{Decor, Key, Node, TableFields, unset}
+use Rattle.toml_edit_model.specs.Tree.{Decor, Key, Node}
+use Rattle.toml_edit_model.specs.Conversions.{new_table}
 use Rattle.toml_edit_tree.specs.Containers.{TableView}
 use Rattle.toml_edit_key.specs.KeyMutView.{lent_parts, with_parts}
 use Rattle.toml_edit_key.specs.contracts.key.KeyParts.{the_row as parts_row}
@@ -16,15 +17,6 @@ use Rattle.toml_edit_tree.specs.declared.item.Item.{Item}
 use Rattle.toml_edit_tree.specs.declared.table.Table.{Table, out-Table}
 use Rattle.toml_edit_tree.specs.contracts.item.Item.{the_row as item_row}
 use Rattle.toml_edit_tree.specs.contracts.table.Table.{the_row as table_row}
-
-abbrev pub new_table : TableFields
-new_table = record {
-  decor = unset;
-  is_implicit = false;
-  is_dotted = false;
-  position = None;
-  extent = None;
-}
 
 -- a new table of these slots
 abbrev pub new_table_of : List (Slot Node) → TableView

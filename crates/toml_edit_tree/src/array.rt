@@ -28,7 +28,7 @@ use std::fmt;
 use std::ops::Range;
 use toml_edit_io::{Printed, Sink, show};
 use toml_edit_repr::{Decor, Mem, RawString};
-use toml_edit_slots::NoMemory;
+use toml_edit_slots::{NoMemory, list};
 
 mod iter;
 mod line_texts;
@@ -338,7 +338,7 @@ impl Array {
     pub fn get(&self, at: usize) -> Option<&Value>
         ensures { option_map (λ v. value_view v.now) result ≡ value_at at (items_of self.now) }
     {
-        toml_edit_lists::get(self.values.as_slice(), at)
+        list::get(self.values.as_slice(), at)
     }
 
     /// Returns a mutable reference to the value at index `at`, or `None` past the end and where the
@@ -560,7 +560,7 @@ impl Array {
         ensures back { IfErr result (λ refused. refused.0 ≡ value) }
     {
         match self.copied_decor(at) {
-            Ok(decor) => Ok(self.replace_formatted(at, redecorated(value, decor))),
+            Ok(decor) => Ok(self.replace_formatted(at, with_decor(value, decor))),
             Err(_) => Err(NoMemory(value)),
         }
     }
@@ -686,7 +686,7 @@ impl Array {
 }
 
 /// Returns the value with this decor in place of its own.
-fn redecorated(value: Value, decor: Decor) -> Value
+fn with_decor(value: Value, decor: Decor) -> Value
     ensures { value_view result ≡ with_decor decor (value_view value) }
 {
     let mut value = value;
@@ -702,7 +702,7 @@ where
     ensures { RetainsBy (SaysOfValue F.Fn keep) (values_seen (listed items.old.items))
         (listed items.new.items) }
 {
-    toml_edit_lists::retain(items, keep);
+    list::retain(items, keep);
 }
 
 /// Sets the decor of each value: nothing around the first, and one space before each of the others.

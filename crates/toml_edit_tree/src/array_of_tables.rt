@@ -27,7 +27,7 @@ use std::alloc::Global;
 use std::ops::Range;
 use std::{fmt, slice, vec};
 use toml_edit_repr::Mem;
-use toml_edit_slots::NoMemory;
+use toml_edit_slots::{NoMemory, list};
 
 /// An array of tables, each with a header in double brackets (TOML, "Array of Tables").
 ///
@@ -109,7 +109,7 @@ impl ArrayOfTables {
     /// Makes an empty array of tables, whose first header spans the bytes from `start` to `end` of
     /// the source.
     #[doc(hidden)]
-    pub fn begun(alloc: Global, start: usize, end: usize) -> ArrayOfTables
+    pub fn with_span(alloc: Global, start: usize, end: usize) -> ArrayOfTables
         ensures { tables_view result ≡ record { extent = Some (start, end); items = no_items } }
     {
         ArrayOfTables {
@@ -187,7 +187,7 @@ impl ArrayOfTables {
         ensures { option_map (λ table. table_node (table_view table.now)) result
             ≡ table_at at (tables_of self.now) }
     {
-        toml_edit_lists::get(self.values.as_slice(), at)
+        list::get(self.values.as_slice(), at)
     }
 
     /// Returns a mutable reference to the table at index `at`, or `None` past the end and where the
@@ -409,7 +409,7 @@ where
     ensures { RetainsBy (SaysOfTable F.Fn keep) (elements (listed items.old.items))
         (listed items.new.items) }
 {
-    toml_edit_lists::retain(items, keep);
+    list::retain(items, keep);
 }
 
 /// Adds an item at the end.

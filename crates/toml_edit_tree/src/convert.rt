@@ -207,12 +207,12 @@ fn make_items(items: &mut Vec<Item>)
 fn renew(item: &mut Item)
     ensures { item_view item.new ≡ in_new_form (item_view item.old) }
 {
-    let made = renewed(mem::replace(item, Item::None));
+    let made = into_new_form(mem::replace(item, Item::None));
     drop(mem::replace(item, made));
 }
 
 /// Returns a table as an inline table, an array of tables as an array, and any other item as it is.
-fn renewed(item: Item) -> Item
+fn into_new_form(item: Item) -> Item
     ensures { item_view result ≡ in_new_form (item_view item) }
 {
     match item {

@@ -12,8 +12,8 @@ ghost use Rattle.toml_edit_tree.specs.declared.item.Item.{the_lemmas};
 use crate::item::Item;
 use crate::table::Table;
 use crate::value::Value;
-use toml_edit_lists::Holds;
-use toml_edit_slots::NoMemory;
+use toml_edit_slots::list::Holds;
+use toml_edit_slots::{NoMemory, list};
 
 impl Holds<Value> for Item {
     ghost held = { value_held };
@@ -73,7 +73,7 @@ pub(crate) fn take_value(items: &mut Vec<Item>, at: usize) -> Value
     ensures value { Some (value_view result) ≡ value_at at (listed items.old.items) }
     ensures items { listed items.new.items ≡ removed_at at (listed items.old.items) }
 {
-    toml_edit_lists::remove(items, at)
+    list::remove(items, at)
 }
 
 /// Removes the table at the index and returns it.
@@ -82,7 +82,7 @@ pub(crate) fn take_table(items: &mut Vec<Item>, at: usize) -> Table
     ensures table { Some (table_node (table_view result)) ≡ table_at at (listed items.old.items) }
     ensures items { listed items.new.items ≡ removed_at at (listed items.old.items) }
 {
-    toml_edit_lists::remove(items, at)
+    list::remove(items, at)
 }
 
 /// Replaces the value at the index and returns the old one.
@@ -92,7 +92,7 @@ pub(crate) fn replace_value(items: &mut Vec<Item>, at: usize, value: Value) -> V
     ensures items { listed items.new.items
         ≡ written_at at (value_view value) (listed items.old.items) }
 {
-    toml_edit_lists::replace(items, at, value)
+    list::replace(items, at, value)
 }
 
 /// Replaces the table at the index and returns the old one.
@@ -102,7 +102,7 @@ pub(crate) fn replace_table(items: &mut Vec<Item>, at: usize, table: Table) -> T
     ensures items { listed items.new.items
         ≡ written_at at (table_node (table_view table)) (listed items.old.items) }
 {
-    toml_edit_lists::replace(items, at, table)
+    list::replace(items, at, table)
 }
 
 /// Adds a value at the end.
@@ -112,7 +112,7 @@ pub(crate) fn push_value(items: &mut Vec<Item>, value: Value) -> Result<(), NoMe
     ensures err { OnErr result (items_view items.new.items ≡ items_view items.old.items) }
     ensures back { IfErr result (λ refused. refused.0 ≡ value) }
 {
-    match toml_edit_lists::push(items, value) {
+    match list::push(items, value) {
         Ok(()) => Ok(()),
         Err(value) => Err(NoMemory(value)),
     }
@@ -125,7 +125,7 @@ pub(crate) fn push_table(items: &mut Vec<Item>, table: Table) -> Result<(), NoMe
     ensures err { OnErr result (items_view items.new.items ≡ items_view items.old.items) }
     ensures back { IfErr result (λ refused. refused.0 ≡ table) }
 {
-    match toml_edit_lists::push(items, table) {
+    match list::push(items, table) {
         Ok(()) => Ok(()),
         Err(table) => Err(NoMemory(table)),
     }
@@ -143,7 +143,7 @@ pub(crate) fn insert_value(
     ensures err { OnErr result (items_view items.new.items ≡ items_view items.old.items) }
     ensures back { IfErr result (λ refused. refused.0 ≡ value) }
 {
-    match toml_edit_lists::insert(items, at, value) {
+    match list::insert(items, at, value) {
         Ok(()) => Ok(()),
         Err(value) => Err(NoMemory(value)),
     }
@@ -162,7 +162,7 @@ pub(crate) fn insert_table(
     ensures err { OnErr result (items_view items.new.items ≡ items_view items.old.items) }
     ensures back { IfErr result (λ refused. refused.0 ≡ table) }
 {
-    match toml_edit_lists::insert(items, at, table) {
+    match list::insert(items, at, table) {
         Ok(()) => Ok(()),
         Err(table) => Err(NoMemory(table)),
     }

@@ -13,9 +13,9 @@ ghost use Rattle.toml_edit_model.specs.Text.{newline};
 ghost use Rattle.toml_edit_model.specs.Tree.{key_text, node_decor, shown_suffix};
 ghost use Rattle.toml_edit_model.specs.Conversions.{value_display};
 ghost use Rattle.toml_edit_model.specs.Print.{one_space, element_default, inside_lines, segments, table_lines};
-ghost use Rattle.toml_edit_laws.specs.PrintByVisits.{has_inside, has_lines};
+ghost use Rattle.toml_edit_laws.specs.PrintByVisits.{has_inside, has_lines, comma_before, last_shown, before_key, dotted_keys, key_part, pair_start, element_text, between_pairs, after_pairs, pairs_shown, lines_text, written_items};
 ghost use Rattle.toml_edit_repr.specs.Modes.{mode_of};
-ghost use Rattle.toml_edit_tree.specs.Printing.{node_text, keys_on, before_key, dotted_keys, key_part, pair_start, comma_before, element_text, items_text, lines_of_item, lines_in_table, has_lines_inside, has_lines_in_table, between_pairs, after_pairs, pairs_shown, last_shown, lines_text};
+ghost use Rattle.toml_edit_tree.specs.Printing.{node_text, keys_on, lines_of_item, lines_in_table, has_lines_inside, has_lines_in_table};
 ghost use Rattle.toml_edit_tree.specs.Containers.{array_node, inline_node};
 ghost use Rattle.toml_edit_tree.specs.View.{array_view, inline_view, value_view, item_view, items_view, slots_view, table_slots, fields_view};
 
@@ -246,6 +246,7 @@ fn value_has_lines(value: &Value) -> bool
 fn put_line<S: Sink>(out: &mut S, mode: Mode, path: &Path<'_, '_>, key: &Key, value: &Value)
     ensures { WritesInCalls S.puts out.old
         (pair_start (mode_of mode) [] (keys_on path.now) key.now (value_view value.now)
+        (node_text (mode_of mode) (value_view value.now))
         ++ (shown_suffix (mode_of mode) [] (node_decor (value_view value.now)) ++ newline))
         out.new }
 {
@@ -360,7 +361,7 @@ fn put_array_text<S: Sink>(out: &mut S, mode: Mode, array: &Array)
 #[inline(always)]
 fn put_items<S: Sink>(out: &mut S, mode: Mode, items: &Vec<Item>, comma: bool)
     ensures { WritesInCalls S.puts out.old
-        (items_text (mode_of mode) comma true (items_view items.now.items)) out.new }
+        (written_items (mode_of mode) comma true (items_view items.now.items)) out.new }
 {
     let mut is_first = true;
     'items: for item in items {
@@ -377,7 +378,8 @@ fn put_items<S: Sink>(out: &mut S, mode: Mode, items: &Vec<Item>, comma: bool)
 #[inline(always)]
 fn put_element<S: Sink>(out: &mut S, mode: Mode, value: &Value, is_first: bool)
     ensures { WritesInCalls S.puts out.old
-        (element_text (mode_of mode) is_first (value_view value.now)) out.new }
+        (element_text (mode_of mode) is_first (value_view value.now)
+        (node_text (mode_of mode) (value_view value.now))) out.new }
 {
     let decor = value.decor();
     put_comma_before(out, is_first);
@@ -519,7 +521,7 @@ fn put_pair<S: Sink>(
     ensures { WritesInCalls S.puts out.old
         (between_pairs (mode_of mode) (option_copied before.entry)
         ++ pair_start (mode_of mode) one_space (keys_on path.now) key.now
-        (value_view value.now)) out.new }
+        (value_view value.now) (node_text (mode_of mode) (value_view value.now))) out.new }
 {
     put_between_pairs(out, mode, before);
     put_key_part(out, mode, " ", path, key);

@@ -243,7 +243,7 @@ pub fn filled_place(slots: &Slots<Item>, key: &str) -> Option<usize>
 }
 
 /// Finds the slot of the key, after adding a placeholder at the end if the key is missing.
-pub(crate) fn place_under(slots: &mut Slots<Item>, key: &str) -> Mem<usize>
+pub(crate) fn find_or_add_slot(slots: &mut Slots<Item>, key: &str) -> Mem<usize>
     ensures within { IfOk result (λ at. at < length slots.new) }
     ensures made { OnOk result
         (shown_slots slots.new ≡ with_place key.now (shown_slots slots.old)) }
@@ -259,7 +259,8 @@ pub(crate) fn place_under(slots: &mut Slots<Item>, key: &str) -> Mem<usize>
     ensures present { IsTrue (has_slot key.now (shown_slots slots.old)) → IsOk result }
     ensures err { OnErr result (slots.new ≡ slots.old) }
 {
-    let _entries = slots.as_slice();
+    // No two keys have one name, says its contract.
+    let _ = slots.as_slice();
     match slots.find(key) {
         Some(at) => Ok(at),
         None => {

@@ -5,13 +5,13 @@ ghost use Rattle.std.specs.Iterator.{Drains, ExtendsWithItems, IsFinite};
 ghost use Rattle.std.specs.Option.{option_copied};
 ghost use Rattle.std.specs.Prelude.{[], ◌<◌, ◌↔◌, ◌≡◌, IfErr, IfOk, IfSome, IsOk, IsSome, IsTrue, List, None, OnErr, OnOk, Some, length, map, option_and_then, option_map, slice_get, true};
 ghost use Rattle.toml_edit_model.specs.Conversions.{formatted, into_value, new_inline};
-ghost use Rattle.toml_edit_model.specs.InlineCalls.{contains_value_key, get_value, old_slot, old_value, or_inserted_value, value_slot};
+ghost use Rattle.toml_edit_model.specs.InlineCalls.{get_value, old_slot, old_value, or_inserted_value, value_slot};
 ghost use Rattle.toml_edit_model.specs.Iterating.{value_pairs, valued};
 ghost use Rattle.toml_edit_model.specs.Keys.{new_key};
 ghost use Rattle.toml_edit_model.specs.Lists.{slot_list};
 ghost use Rattle.toml_edit_model.specs.Retaining.{RetainsBy};
 ghost use Rattle.toml_edit_model.specs.Slots.{AreApart, changed, extended, has_slot, inserted, inserted_formatted, lookup, lookup_key, put, with_item, without};
-ghost use Rattle.toml_edit_model.specs.TableCalls.{get, get_slot};
+ghost use Rattle.toml_edit_model.specs.TableCalls.{get, get_slot, contains_value};
 ghost use Rattle.toml_edit_model.specs.Tree.{Key, is_value_node, no_slots};
 ghost use Rattle.toml_edit_slots.specs.Slots.{items_of, place};
 ghost use Rattle.toml_edit_tree.specs.ContainerParts.{LendsInlineDecor, LendsInlineSlots, holding, pairs_left};
@@ -286,7 +286,8 @@ impl InlineTable {
         ensures count { result ≡ length (inline_slots_of self.now) }
         ensures apart { AreApart (inline_slots_of self.now) }
     {
-        let _entries = self.items.as_slice();
+        // No two keys have one name, says its contract.
+        let _ = self.items.as_slice();
         self.items.len()
     }
 
@@ -382,7 +383,7 @@ impl InlineTable {
 
     /// Returns `true` if there is a value under `key`.
     pub fn contains_key(&self, key: &str) -> bool
-        ensures found { result ≡ contains_value_key key.now (inline_slots_of self.now) }
+        ensures found { result ≡ contains_value key.now (inline_slots_of self.now) }
         // Then indexing by `[..]` finds the value.
         ensures there { IsTrue result → IsSome (get_value key.now (inline_slots_of self.now)) }
     {
@@ -452,14 +453,14 @@ impl InlineTable {
         ensures present { IsTrue (has_slot key.now (inline_slots_of self.old)) → IsOk result }
         ensures back { IfErr result (λ refused. refused.0 ≡ value) }
     {
-        match self.place_for(key, value) {
+        match self.find_or_add_value(key, value) {
             Ok(at) => Ok(self.value_at_mut(at)),
             Err(refused) => Err(refused),
         }
     }
 
     /// Finds or adds the slot of the key, and sees to it that it holds a value.
-    fn place_for(&mut self, key: &str, value: Value) -> Result<usize, NoMemory<Value>>
+    fn find_or_add_value(&mut self, key: &str, value: Value) -> Result<usize, NoMemory<Value>>
         ensures held { IfOk result (λ at. has_value_at at (out-InlineTable self.new).items ≡ true) }
         ensures value { IfOk result
             (λ at. option_map value_view (value_at at (out-InlineTable self.new).items)

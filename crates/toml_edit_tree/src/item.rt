@@ -3,7 +3,7 @@
 ghost use Rattle.std.specs.Borrow.{sem};
 ghost use Rattle.std.specs.Prelude.{◌↔◌, ◌≡◌, IfErr, IfOk, IfSome, IsOk, IsSome, IsTrue, List, None, OnErr, OnOk, Some, is_some, option_and_then, option_map, true};
 ghost use Rattle.toml_edit_datetime.specs.DatetimeView.{datetime_view};
-ghost use Rattle.toml_edit_model.specs.Conversions.{item_display, with_decor};
+ghost use Rattle.toml_edit_model.specs.Conversions.{item_display, with_decor, new_table};
 ghost use Rattle.toml_edit_model.specs.Indexing.{index_or_inserted, indexed, item_under, number, text};
 ghost use Rattle.toml_edit_model.specs.Lists.{items_in, on_slots, slots_in};
 ghost use Rattle.toml_edit_model.specs.Slots.{place};
@@ -19,14 +19,13 @@ ghost use Rattle.toml_edit_tree.specs.Indexed.{LendsSlotsIn, lent_under, or_else
 ghost use Rattle.toml_edit_tree.specs.InlineLending.{LendsOwnValue};
 ghost use Rattle.toml_edit_tree.specs.ItemParts.{LendsArrayIn, LendsInlineIn, item_span};
 ghost use Rattle.toml_edit_tree.specs.ItemPlaces.{LendsOwnTable};
-ghost use Rattle.toml_edit_tree.specs.TableLending.{new_table};
 ghost use Rattle.toml_edit_tree.specs.View.{array_view, inline_view, item_view, table_view, tables_view, value_view};
 ghost use Rattle.toml_edit_tree.specs.declared.index.IndexFault.TheVariants.{WrongKind};
 
 use crate::array::Array;
 use crate::array_of_tables::ArrayOfTables;
 use crate::copy::copy_item;
-use crate::index::{Index, IndexFault, filled_item, filled_place, item_at, place_under};
+use crate::index::{Index, IndexFault, filled_item, filled_place, find_or_add_slot, item_at};
 use crate::inline_table::InlineTable;
 use crate::table::Table;
 use crate::value::Value;
@@ -139,7 +138,7 @@ impl Item {
     /// end. A placeholder first becomes an inline table, made by `alloc`.
     ///
     /// No contract says what this item is after an error, or after a write through the reference.
-    /// Where a proof needs that, call [`make_place`](Self::make_place) and then
+    /// Where a proof needs that, call [`find_or_add_slot`](Self::find_or_add_slot) and then
     /// [`as_slots_mut`](Self::as_slots_mut).
     ///
     /// # Errors
@@ -154,7 +153,7 @@ impl Item {
             ↔ (index_or_inserted key.now (item_view self.old) ≡ None)) }
         ensures present { IsSome (item_under key.now (item_view self.old)) → IsOk result }
     {
-        match self.make_place(alloc, key) {
+        match self.find_or_add_slot(alloc, key) {
             Ok(at) => match self.as_slots_mut() {
                 Some(slots) => Ok(slots.item_mut(at)),
                 None => unreachable!(),
@@ -172,7 +171,7 @@ impl Item {
     /// # Errors
     ///
     /// Those of [`index_or_insert`](Self::index_or_insert). This item is unchanged then.
-    pub fn make_place(&mut self, alloc: Global, key: &str) -> Result<usize, IndexFault>
+    pub fn find_or_add_slot(&mut self, alloc: Global, key: &str) -> Result<usize, IndexFault>
         ensures made { OnOk result
             (index_or_inserted key.now (item_view self.old) ≡ Some (item_view self.new)) }
         ensures place { IfOk result
@@ -190,7 +189,7 @@ impl Item {
             };
         }
         match self.as_slots_mut() {
-            Some(slots) => match place_under(slots, key) {
+            Some(slots) => match find_or_add_slot(slots, key) {
                 Ok(at) => Ok(at),
                 Err(_) => Err(IndexFault::Memory),
             },
@@ -208,7 +207,7 @@ impl Item {
         ensures err { OnErr result (self.new ≡ self.old) }
     {
         let mut table = InlineTable::new(alloc);
-        match place_under(&mut table.items, key) {
+        match find_or_add_slot(&mut table.items, key) {
             Ok(at) => {
                 drop(mem::replace(self, Item::Value(Value::InlineTable(table))));
                 Ok(at)

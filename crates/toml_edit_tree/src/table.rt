@@ -4,7 +4,7 @@ ghost use Rattle.std.specs.Borrow.{sem};
 ghost use Rattle.std.specs.Iterator.{Drains, ExtendsWithItems, IsFinite};
 ghost use Rattle.std.specs.Option.{option_copied, option_map_or};
 ghost use Rattle.std.specs.Prelude.{[], ◌<◌, ◌↔◌, ◌≡◌, Bool, IfErr, IfOk, IfSome, IsOk, IsSome, IsTrue, List, OnErr, OnOk, Some, false, length, map, option_and_then, option_map, slice_get};
-ghost use Rattle.toml_edit_model.specs.Conversions.{formatted, table_display};
+ghost use Rattle.toml_edit_model.specs.Conversions.{formatted, table_display, new_table};
 ghost use Rattle.toml_edit_model.specs.Iterating.{filled, filled_pairs};
 ghost use Rattle.toml_edit_model.specs.Lists.{is_item};
 ghost use Rattle.toml_edit_model.specs.Retaining.{RetainsBy};
@@ -17,7 +17,7 @@ ghost use Rattle.toml_edit_tree.specs.Containers.{table_node, table_with_dotted,
 ghost use Rattle.toml_edit_tree.specs.Held.{held_left};
 ghost use Rattle.toml_edit_tree.specs.Indexed.{LendsMade, item_put, lent_under, written_under};
 ghost use Rattle.toml_edit_tree.specs.SlotsOf.{AddsSlots, SaysOfItem, slot_read, slot_taken, slots_of};
-ghost use Rattle.toml_edit_tree.specs.TableLending.{LendsHeld, new_table, new_table_of, with_item_under};
+ghost use Rattle.toml_edit_tree.specs.TableLending.{LendsHeld, new_table_of, with_item_under};
 ghost use Rattle.toml_edit_tree.specs.View.{fields_view, item_view, slots_view, table_slots, table_view};
 ghost use Rattle.toml_edit_tree.specs.declared.index.IndexFault.TheVariants.{Memory};
 ghost use Rattle.toml_edit_tree.specs.declared.item.Item.{Item};
@@ -26,7 +26,7 @@ ghost use Rattle.toml_edit_tree.specs.declared.table.Table.{out-Table};
 use crate::convert::format_slots;
 use crate::copy::copy_table;
 use crate::encode::put_table_lines;
-use crate::index::{IndexFault, filled_item, place_under};
+use crate::index::{IndexFault, filled_item, find_or_add_slot};
 use crate::item::Item;
 pub use entry::{Entry, OccupiedEntry, VacantEntry};
 pub use iter::{IntoIter, Iter};
@@ -322,7 +322,8 @@ impl Table {
         ensures count { result ≡ length (slots_of self.now) }
         ensures apart { AreApart (slots_of self.now) }
     {
-        let _entries = self.slots.as_slice();
+        // No two keys have one name, says its contract.
+        let _ = self.slots.as_slice();
         self.slots.len()
     }
 
@@ -526,7 +527,7 @@ impl Table {
         ensures present { IsTrue (has_slot key.now (slots_of self.old)) → IsOk result }
         ensures fault { IfErr result (λ fault. fault ≡ Memory) }
     {
-        match place_under(&mut self.slots, key) {
+        match find_or_add_slot(&mut self.slots, key) {
             Ok(at) => Ok(self.item_at_mut(at)),
             Err(_) => Err(IndexFault::Memory),
         }

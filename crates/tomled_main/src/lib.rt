@@ -2,17 +2,16 @@
 #![tactic(auto)]
 
 use std::env::{Env, FillError};
-use std::io::{BufWriter, ErrorKind, Write};
+use std::io::ErrorKind;
 use std::process::ExitCode;
 use std::{env, io};
-use toml_edit_command::{end_unwritten, end_without_memory, run};
+use toml_edit_command::{end_without_memory, run};
 use toml_edit_io::Watched;
 
 /// Runs `tomled` with the arguments and the streams of the process, and returns its exit status.
 ///
-/// It is that of [`toml_edit_command::run`], but for two faults: out of memory for the arguments or
-/// for the buffer of standard output, and a fault when what the buffer holds is written at the end.
-/// A program crate has one stored run, so each run has a crate, whose `main` calls this.
+/// It is that of [`toml_edit_command::run`], but for one fault: out of memory for the arguments. A
+/// program crate has one stored run, so each run has a crate, whose `main` calls this.
 pub fn run_process(rt: HostRuntime) -> ExitCode {
     let words = match words_of(&rt) {
         Ok(words) => words,
@@ -24,20 +23,13 @@ pub fn run_process(rt: HostRuntime) -> ExitCode {
             Vec::new(rt.alloc())
         }
     };
-    // A document is written in many small pieces.
-    let Ok(mut output) = BufWriter::new(rt.alloc(), rt.stdout()) else {
-        return ExitCode::from(end_without_memory(&mut Watched::new(rt.stderr())));
-    };
     let status = run(
         rt.alloc(),
         words.as_slice(),
         &mut Watched::new(rt.stdin()),
-        &mut Watched::new(&mut output),
+        &mut Watched::new(rt.stdout()),
         &mut Watched::new(rt.stderr()),
     );
-    if status == 0 && output.flush().is_err() {
-        return ExitCode::from(end_unwritten(&mut Watched::new(rt.stderr())));
-    }
     ExitCode::from(status)
 }
 

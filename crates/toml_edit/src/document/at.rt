@@ -3,10 +3,11 @@ ghost use Rattle.std.specs.Prelude.{◌≡◌, IfErr, option_map};
 ghost use Rattle.toml_edit_laws.specs.Commands.{item_at, remove_at, root_item, set_at};
 ghost use Rattle.toml_edit_tree.specs.View.{item_view, value_view};
 ghost use Rattle.toml_edit_paths.specs.Calls.{ChangesFound, TakesFound, item_inside, replaced_at};
-ghost use Rattle.toml_edit_paths.specs.Changes.{Changes, names};
+ghost use Rattle.toml_edit_paths.specs.Changes.{Changes};
 ghost use Rattle.toml_edit_paths.specs.Headed.{set_at_with_headers};
 ghost use Rattle.toml_edit_paths.specs.declared.fault.ChangeFault.TheVariants.{NoSuchPath};
 ghost use Rattle.toml_edit.specs.DocumentView.{IsPrintedAs, tree_owned};
+ghost use Rattle.toml_edit_model.specs.Keys.{names};
 
 use super::DocumentMut;
 use toml_edit_key::Key;

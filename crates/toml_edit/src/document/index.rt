@@ -9,7 +9,7 @@ ghost use Rattle.toml_edit_tree.specs.View.{item_view};
 ghost use Rattle.toml_edit_tree.specs.declared.index.IndexFault.TheVariants.{Memory};
 ghost use Rattle.toml_edit.specs.DocumentLending.{LendsUnder};
 ghost use Rattle.toml_edit.specs.DocumentView.{tree_owned};
-ghost use Rattle.toml_edit.specs.Roots.{root_node};
+ghost use Rattle.toml_edit_laws.specs.Commands.{root_item};
 
 use super::DocumentMut;
 use std::alloc::Global;
@@ -31,9 +31,9 @@ impl DocumentMut {
     pub fn index_or_insert(&mut self, alloc: Global, key: &str) -> Result<&mut Item, IndexFault>
         ensures* writes_back { sem 𝓛 (LendsUnder self.entry key.now result) }
         ensures item { IfOk result
-            (λ lent. lent_under key.now (root_node (tree_owned self.old))
+            (λ lent. lent_under key.now (root_item (tree_owned self.old))
             ≡ Some (item_view lent.now)) }
-        ensures present { IsSome (item_under key.now (root_node (tree_owned self.old)))
+        ensures present { IsSome (item_under key.now (root_item (tree_owned self.old)))
             → IsOk result }
         ensures fault { IfErr result (λ fault. fault ≡ Memory) }
     {

@@ -16,12 +16,11 @@ use Rattle.toml_edit_laws.proofs.common.PathLaws.{front-refl}
 use Rattle.toml_edit_laws.proofs.common.Tests.{if-true, if-false}
 use Rattle.toml_edit_laws.proofs.locality.Blocks.{Block, block_of, blocks, blocks-append}
 use Rattle.toml_edit_laws.proofs.locality.Elements.{counted, counted-more, items-append, item-made}
-use Rattle.toml_edit_laws.proofs.locality.Made.{made-node, items-swap, split-made}
+use Rattle.toml_edit_laws.proofs.locality.Made.{made-node, items-swap, split-made, along-made}
 use Rattle.toml_edit_laws.proofs.locality.Slots.{slots_under, Found, found, slots_from-list, items_from-list, change-item}
 use Rattle.toml_edit_laws.proofs.locality.Sound.{NodeIsSound, ItemsAreSound, sound-items, sound-items-front, sound-items-back}
 use Rattle.toml_edit_laws.proofs.locality.Under.{slot_lines}
 use Rattle.toml_edit_edit_laws.proofs.comments.Facts.{as_is, stays-as_is, facts-as_is}
-use Rattle.toml_edit_edit_laws.proofs.renaming.Along.{along-made}
 use Rattle.toml_edit_edit_laws.proofs.renaming.Facts.{Told, has-element, in-place, element-in-place, along-told}
 use Rattle.toml_edit_edit_laws.specs.Comments.{recommented, with_header_decor, header_edited, visit_with, HeaderRecommentedMeans}
 use Rattle.toml_edit_edit_laws.specs.Comments.{HeaderRecommentedStaysMade}

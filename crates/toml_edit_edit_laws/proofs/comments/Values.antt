@@ -17,6 +17,7 @@ use Rattle.toml_edit_laws.proofs.locality.Made.{replaced_stays_made, split-made}
 use Rattle.toml_edit_laws.proofs.locality.Replacing.{replaced}
 use Rattle.toml_edit_laws.proofs.locality.Slots.{Found, found}
 use Rattle.toml_edit_laws.proofs.locality.Sound.{Steady, steady-parts, leads-made, leads-sound, sound-slot}
+use Rattle.toml_edit_laws.proofs.commands.Keeping.{decor-made}
 use Rattle.toml_edit_edit_laws.proofs.renaming.Along.{edited-same}
 use Rattle.toml_edit_edit_laws.specs.Comments.{LineRecommented, RecommentedStaysMade}
 
@@ -35,14 +36,6 @@ decor-value d (inline f ss) = refl
 decor-value d (table f ss) = refl
 decor-value d (tables e xs) = refl
 decor-value d nothing = refl
-
-decor-made : (d : Decor) (n : Node) → IsWellMade n → IsWellMade (with_decor d n)
-decor-made d (leaf s r e) h = h
-decor-made d (list f xs) h = h
-decor-made d (inline f ss) h = h
-decor-made d (table f ss) h = h
-decor-made d (tables e xs) h = h
-decor-made d nothing h = h
 
 -- the spelling of a key among others
 made-key : (xs ys : List (Slot Node)) (s : Slot Node) → SlotsAreWellMade (slots_from (xs ++ (s ∷ ys)))

@@ -6,18 +6,17 @@ use Rattle.std.proofs.lemmas.Bool.{cases_Bool}
 use Rattle.std.proofs.lemmas.List.{map-append}
 use Rattle.toml_edit_model.specs.Mode.{Mode}
 use Rattle.toml_edit_model.specs.Text.{is_empty}
-use Rattle.toml_edit_model.specs.Paths.{Step, Path, to_key, to_element}
+use Rattle.toml_edit_model.specs.Paths.{Step, Path}
 use Rattle.toml_edit_model.specs.Tree.{Key, Node, Slots, SlotsAreWellMade, Tree}
-use Rattle.toml_edit_model.specs.HeaderOrder.{Visit, visit_of, slots_walk, is_root}
+use Rattle.toml_edit_model.specs.HeaderOrder.{Visit, slots_walk, is_root}
 use Rattle.toml_edit_model.specs.Print.{Line, table_lines, lines_of, below, is_line_node, has_header, header_statement, Printed, printed}
 use Rattle.toml_edit_model.specs.Print.{printed_line, printed_header, printed_table}
 use Rattle.toml_edit_model.specs.Fits.{has_own_prefix}
 use Rattle.toml_edit_model.specs.Slots.{Slot, keyed}
 use Rattle.toml_edit_model.specs.Lists.{slots_from}
-use Rattle.toml_edit_laws.specs.Locality.{Turn, into_table, into_element, Leads, root_visit, edited, value_line, has_block, element_count}
+use Rattle.toml_edit_laws.specs.Locality.{Turn, Leads, root_visit, edited, value_line, has_block}
 use Rattle.toml_edit_laws.proofs.common.Tests.{and_left, and_right, not-true, true-false}
 use Rattle.toml_edit_laws.proofs.common.PathLaws.{is_front}
-use Rattle.toml_edit_laws.proofs.common.Lists.{not_empty-last}
 use Rattle.toml_edit_laws.proofs.common.Each.{all-append, all-back}
 use Rattle.toml_edit_laws.proofs.locality.Slots.{slots_under, lines-append}
 use Rattle.toml_edit_laws.proofs.locality.Blocks.{Block, block_of, blocks, is_headed, block_printed, IsSteadyBlock, IsSteadyTable}
@@ -30,25 +29,10 @@ use Rattle.toml_edit_laws.proofs.locality.Edited.{firm-visits, steady-tree, stea
 use Rattle.toml_edit_laws.proofs.locality.Replacing.{itself, map-itself}
 use Rattle.toml_edit_laws.proofs.locality.Values.{slot-line}
 use Rattle.toml_edit_laws.proofs.locality.Ways.{entered}
+use Rattle.toml_edit_laws.proofs.locality.Adding.{leads-root}
 use Rattle.toml_edit_edit_laws.specs.Placing.{on_list, statement_in}
 
 -- ---- the root alone has no keys
-
-pub leads-keys : (way : List Turn) (s v : Visit) → is_empty s.keys ≡ false → Leads way s v → is_root v ≡ false
-leads-keys [] s v h e = subst (λ (x : Visit). is_empty x.keys ≡ false) e h
-leads-keys (into_table k ∷ way) s v h (l, f, ss, eq, rest) =
-    leads-keys way (visit_of (to_key s.path l.name) (s.keys ++ (l ∷ [])) false f ss) v (not_empty-last s.keys l) rest
-leads-keys (into_element k i ∷ way) s v h (l, e, xs, before, f, ss, after, eq, items, place, rest) =
-    leads-keys way (visit_of (to_element (to_key s.path l.name) (element_count before)) (s.keys ++ (l ∷ [])) true f ss) v
-    (not_empty-last s.keys l) rest
-
-leads-root : (way : List Turn) (t : Tree) (v : Visit) → Leads way (root_visit t) v → is_root v ≡ true → root_visit t ≡ v
-leads-root [] t v e h = e
-leads-root (into_table k ∷ way) t v (l, f, ss, eq, rest) h =
-    true-false (is_root v) h (leads-keys way (visit_of (to_key [] l.name) (l ∷ []) false f ss) v refl rest)
-leads-root (into_element k i ∷ way) t v (l, e, xs, before, f, ss, after, eq, items, place, rest) h =
-    true-false (is_root v) h
-    (leads-keys way (visit_of (to_element (to_key [] l.name) (element_count before)) (l ∷ []) true f ss) v refl rest)
 
 -- a steady block with a header has one whatever its lines are
 pub headed-always : (b : Block) (ls : List Line) → IsSteadyBlock b → is_headed b ≡ true → is_headed (with_lines b ls) ≡ true

@@ -31,17 +31,12 @@ use Rattle.toml_edit_laws.proofs.locality.Slots.{found, slots_under, slots_from-
 use Rattle.toml_edit_laws.proofs.locality.Sound.{Steady, steady-parts, leads-made}
 use Rattle.toml_edit_laws.proofs.locality.Splice.{lines-split, blocks-split, other-lines-out, other-blocks-out}
 use Rattle.toml_edit_laws.proofs.locality.Under.{front-is, slot_lines, IsLineOut, IsBlockOut}
+use Rattle.toml_edit_laws.proofs.locality.Filtering.{filter-alike}
 use Rattle.toml_edit_edit_laws.specs.Placing.{inside, MovedInside}
 use Rattle.toml_edit_edit_laws.proofs.placing.Lists.{Taken, taken, others-inserted}
 use Rattle.toml_edit_edit_laws.proofs.placing.Moving.{moved-whole, lines-empty, moved-steady}
 
 -- ---- filters
-
-filter-alike : {A : Type 0} (first second : A → Bool) → ((x : A) → first x ≡ second x) → (xs : List A) → filter first xs ≡ filter second xs
-filter-alike first second same [] = refl
-filter-alike first second same (x ∷ xs) =
-    ap (λ b. if b then x ∷ filter first xs else filter first xs) (same x)
-    ∙ ap (λ ys. if second x then x ∷ ys else ys) (filter-alike first second same xs)
 
 filter-flat : {A B : Type 0} (test : B → Bool) (f : A → List B) (xs : List A)
     → filter test (flat_map f xs) ≡ flat_map (λ x. filter test (f x)) xs

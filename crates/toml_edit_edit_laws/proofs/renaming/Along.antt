@@ -1,44 +1,13 @@
 -- Edits at the end of a way: the tree stays well made, and what counts is the edit of that one table.
 use Rattle.std.proofs.Common.{◌≡◌, sym, ◌∙◌, ap, subst, true, false, List, [], ◌∷◌, ◌++◌}
 use Rattle.toml_edit_model.specs.Paths.{to_key, to_element}
-use Rattle.toml_edit_model.specs.Tree.{Node, table, tables, Slots, ItemsAreWellMade, SlotsAreWellMade, Tree}
+use Rattle.toml_edit_model.specs.Tree.{Node, table, tables, ItemsAreWellMade, SlotsAreWellMade, Tree}
 use Rattle.toml_edit_model.specs.HeaderOrder.{Visit, visit_of}
 use Rattle.toml_edit_model.specs.Slots.{Slot, keyed, on_item, changed_at}
 use Rattle.toml_edit_model.specs.Lists.{slot_list, slots_from, items_from, on_slots, on_items}
 use Rattle.toml_edit_laws.specs.Locality.{Turn, into_table, into_element, Leads, root_visit, along, edited, element_count}
 use Rattle.toml_edit_laws.proofs.locality.Elements.{item-made}
-use Rattle.toml_edit_laws.proofs.locality.Made.{made-node, items-swap, split-made}
 use Rattle.toml_edit_laws.proofs.locality.Slots.{slots_under, items_under, Found, found, slots_from-list, items_from-list, change-item}
-
-pub along-made : (way : List Turn) (g : List (Slot Node) → List (Slot Node)) (s v : Visit) → SlotsAreWellMade s.slots → Leads way s v
-    → (SlotsAreWellMade v.slots → SlotsAreWellMade (slots_under g v.slots)) → SlotsAreWellMade (slots_under (along way g) s.slots)
-along-made [] g s v w e go = subst (λ (x : Visit). SlotsAreWellMade x.slots → SlotsAreWellMade (slots_under g x.slots)) (sym e) go w
-along-made (into_table k ∷ way) g s v w (l, f, ss, eq, rest) go =
-    let t : Visit = visit_of (to_key s.path l.name) (s.keys ++ (l ∷ [])) false f ss in
-    let us : Slots = slots_under (along way g) ss in
-    let fd : Found k (keyed l (table f ss)) (slot_list s.slots) = found k s.slots (keyed l (table f ss)) w eq in
-    let is_new : slots_under (along (into_table k ∷ way) g) s.slots ≡ slots_from (fd.front ++ (keyed l (table f us) ∷ fd.back)) =
-    ap slots_from (fd.change (on_item (on_slots (along way g)))) in
-    subst SlotsAreWellMade (sym is_new)
-    (made-node fd.front fd.back l (table f ss) (table f us) (along-made way g t v fd.made rest go)
-    (split-made k (keyed l (table f ss)) s.slots fd w))
-along-made (into_element k i ∷ way) g s v w (l, e, xs, before, f, ss, after, eq, items, place, rest) go =
-    let t : Visit = visit_of (to_element (to_key s.path l.name) (element_count before)) (s.keys ++ (l ∷ [])) true f ss in
-    let us : Slots = slots_under (along way g) ss in
-    let fd : Found k (keyed l (tables e xs)) (slot_list s.slots) = found k s.slots (keyed l (tables e xs)) w eq in
-    let ex : xs ≡ items_from (before ++ (table f ss ∷ after)) = sym (items_from-list xs) ∙ ap items_from items in
-    let inside : ItemsAreWellMade (items_from (before ++ (table f ss ∷ after))) = subst ItemsAreWellMade ex fd.made in
-    let other : items_under (changed_at i (on_slots (along way g))) xs ≡ items_from (before ++ (table f us ∷ after)) =
-    ap (λ z. items_from (changed_at i (on_slots (along way g)) z)) items
-    ∙ ap items_from (change-item before (table f ss) after i (on_slots (along way g)) place) in
-    let is_new : slots_under (along (into_element k i ∷ way) g) s.slots
-    ≡ slots_from (fd.front ++ ((keyed l (tables e (items_from (before ++ (table f us ∷ after))))) ∷ fd.back)) =
-    ap slots_from (fd.change (on_item (on_items (changed_at i (on_slots (along way g))))))
-    ∙ ap (λ z. slots_from (fd.front ++ (keyed l (tables e z) ∷ fd.back))) other in
-    subst SlotsAreWellMade (sym is_new)
-    (made-node fd.front fd.back l (tables e xs) (tables e (items_from (before ++ (table f us ∷ after))))
-    (items-swap before after (table f ss) (table f us) (along-made way g t v (item-made before (table f ss) after inside) rest go) inside)
-    (split-made k (keyed l (tables e xs)) s.slots fd w))
 
 -- two edits that are one at the table
 pub along-same : (way : List Turn) (g c : List (Slot Node) → List (Slot Node)) (s v : Visit) → SlotsAreWellMade s.slots → Leads way s v

@@ -17,11 +17,11 @@ use Rattle.toml_edit_model.specs.Lists.{slot_list, slots_from, items_from, on_sl
 use Rattle.toml_edit_laws.specs.Locality.{Turn, into_table, into_element, Leads, along, element_count}
 use Rattle.toml_edit_laws.proofs.common.PathLaws.{is_front, front-more, front-through}
 use Rattle.toml_edit_laws.proofs.common.Tests.{false-by, true-false}
-use Rattle.toml_edit_laws.proofs.locality.Along.{leads-front}
+use Rattle.toml_edit_laws.proofs.locality.Along.{leads-out, leads-above}
 use Rattle.toml_edit_laws.proofs.locality.Elements.{counted, counted-more, item-made}
 use Rattle.toml_edit_laws.proofs.locality.Slots.{slots_under, items_under, HaveOtherKeys, Found, found, slots_from-list, items_from-list}
 use Rattle.toml_edit_laws.proofs.locality.Slots.{change-item}
-use Rattle.toml_edit_laws.proofs.locality.Under.{IsApart, apart-keys, apart-elements, not-longer}
+use Rattle.toml_edit_laws.proofs.locality.Under.{IsApart, apart-keys, apart-elements}
 
 -- the facts with another path for each
 abbrev pub on_path : (Path → Path) → Fact → Fact
@@ -253,18 +253,6 @@ module _ (G : Path → Path) where
     -- ---- along a way
 
     module _ (v : Visit) (x : Step) (below : is_front (v.path ++ (x ∷ [])) q ≡ true) where
-      leads-above : (way : List Turn) (s : Visit) → Leads way s v → is_front s.path q ≡ true
-      leads-above way s e =
-          front-through s.path (v.path ++ (x ∷ [])) q
-          (front-through s.path v.path (v.path ++ (x ∷ [])) (leads-front way s v e) (front-more v.path (x ∷ []))) below
-
-      pub leads-out : (way : List Turn) (s : Visit) → Leads way s v → is_front q s.path ≡ false
-      leads-out way s e =
-          false-by (is_front q s.path)
-          (λ d. true-false (is_front (v.path ++ (x ∷ [])) v.path)
-          (front-through (v.path ++ (x ∷ [])) q v.path below (front-through q s.path v.path d (leads-front way s v e)))
-          (not-longer v.path x))
-
       pub along-told : (way : List Turn) (g : List (Slot Node) → List (Slot Node)) (s : Visit) → SlotsAreWellMade s.slots → Leads way s v
           → (SlotsAreWellMade v.slots → Told v.path v.slots (slots_under g v.slots))
           → Told s.path s.slots (slots_under (along way g) s.slots)
@@ -281,10 +269,12 @@ module _ (G : Path → Path) where
           let told : Told p ss us = along-told way g t fd.made rest go in
           let shown : is_shown (table f us) ≡ is_shown (table f ss) = ap (λ b. not (f.is_dotted || f.is_implicit) || b) told.1 in
           let same : node_facts (table f us) p ≡ map (on_path G) (node_facts (table f ss) p) =
-          ap (λ z. fact z a_table ∷ slots_facts us p) (sym (stays p (leads-out way t rest))) ∙ ap (λ zs. fact (G p) a_table ∷ zs) told.0 in
+          ap (λ z. fact z a_table ∷ slots_facts us p) (sym (stays p (leads-out q v x below way t rest)))
+          ∙ ap (λ zs. fact (G p) a_table ∷ zs) told.0 in
           subst (λ y. Told s.path y (slots_under (along (into_table k ∷ way) g) s.slots)) (sym is_old)
           (subst (λ y. Told s.path (slots_from (fd.front ++ (keyed l (table f ss) ∷ fd.back))) y) (sym is_new)
-          (in-place s.path fd.front fd.back (keyed l (table f ss)) (keyed l (table f us)) (leads-above way t rest) fd.others_front
+          (in-place s.path fd.front fd.back (keyed l (table f ss)) (keyed l (table f us))
+          (leads-above q v x below way t rest) fd.others_front
           fd.others_back shown same))
       along-told (into_element k i ∷ way) g s w (l, e, xs, before, f, ss, after, eq, items, place, rest) go =
           let r : Path = to_key s.path l.name in
@@ -305,18 +295,19 @@ module _ (G : Path → Path) where
           ∙ ap slots_from fd.is in
           let told : Told p ss us = along-told way g t made rest go in
           let inner : node_facts (table f us) p ≡ map (on_path G) (node_facts (table f ss) p) =
-          ap (λ z. fact z a_table ∷ slots_facts us p) (sym (stays p (leads-out way t rest))) ∙ ap (λ zs. fact (G p) a_table ∷ zs) told.0 in
+          ap (λ z. fact z a_table ∷ slots_facts us p) (sym (stays p (leads-out q v x below way t rest)))
+          ∙ ap (λ zs. fact (G p) a_table ∷ zs) told.0 in
           let up : is_front r q ≡ true =
-          front-through r p q (front-more r (at_element (element_count before) ∷ [])) (leads-above way t rest) in
+          front-through r p q (front-more r (at_element (element_count before) ∷ [])) (leads-above q v x below way t rest) in
           let out : is_front q r ≡ false =
           false-by (is_front q r) (λ d. true-false (is_front q p)
-          (front-through q r p d (front-more r (at_element (element_count before) ∷ []))) (leads-out way t rest)) in
+          (front-through q r p d (front-more r (at_element (element_count before) ∷ []))) (leads-out q v x below way t rest)) in
           let shown : is_shown (tables e ys) ≡ is_shown (tables e xs) = has-element before after f us
           ∙ sym (ap has_table ex ∙ has-element before after f ss) in
           let same : node_facts (tables e ys) r ≡ map (on_path G) (node_facts (tables e xs) r) =
           ap (λ z. fact z an_array ∷ tables_facts ys r 0) (sym (stays r out))
           ∙ ap (λ zs. fact (G r) an_array ∷ zs)
-          (element-in-place r before after f f ss us (leads-above way t rest) inner
+          (element-in-place r before after f f ss us (leads-above q v x below way t rest) inner
           ∙ ap (λ z. map (on_path G) (tables_facts z r 0)) (sym ex)) in
           subst (λ y. Told s.path y (slots_under (along (into_element k i ∷ way) g) s.slots)) (sym is_old)
           (subst (λ y. Told s.path (slots_from (fd.front ++ (keyed l (tables e xs) ∷ fd.back))) y) (sym is_new)

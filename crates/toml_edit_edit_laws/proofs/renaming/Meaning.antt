@@ -12,7 +12,8 @@ use Rattle.toml_edit_laws.specs.Locality.{root_visit, along}
 use Rattle.toml_edit_laws.proofs.common.PathLaws.{same_step-refl, is_front, front-refl}
 use Rattle.toml_edit_laws.proofs.common.Tests.{if-true}
 use Rattle.toml_edit_laws.proofs.locality.Slots.{slots_under, Found, found, slots_from-list}
-use Rattle.toml_edit_edit_laws.proofs.renaming.Facts.{node-goes, Told, in-place, leads-out, along-told}
+use Rattle.toml_edit_laws.proofs.locality.Along.{leads-out}
+use Rattle.toml_edit_edit_laws.proofs.renaming.Facts.{node-goes, Told, in-place, along-told}
 use Rattle.toml_edit_edit_laws.proofs.renaming.Names.{renamed-is}
 use Rattle.toml_edit_edit_laws.specs.Renaming.{renamed_path, RenamedMeans}
 
@@ -60,5 +61,5 @@ renamed_means t way v k u s made leads is_there free =
     (in-place G q stays v.path fd.front fd.back s (on_key (renamed_key u) s) (front-refl q) fd.others_front fd.others_back refl
     (node-goes G s.item q (to_key v.path u) (renamed-goes v.path s.key.name u))))) in
     ap (λ z. fact z a_table ∷ slots_facts (slots_under (along way (renamed_slot k u)) t.slots) [])
-    (sym (stays [] (leads-out G q stays v (at_key s.key.name) (front-refl q) way (root_visit t) leads)))
+    (sym (stays [] (leads-out q v (at_key s.key.name) (front-refl q) way (root_visit t) leads)))
     ∙ ap (λ zs. fact (G []) a_table ∷ zs) told.0

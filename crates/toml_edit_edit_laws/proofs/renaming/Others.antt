@@ -19,14 +19,14 @@ use Rattle.toml_edit_laws.proofs.common.PathLaws.{front-refl, below-last}
 use Rattle.toml_edit_laws.proofs.common.Tests.{if-false, not-true}
 use Rattle.toml_edit_laws.proofs.locality.Edited.{stays-steady}
 use Rattle.toml_edit_laws.proofs.locality.Filtering.{filter-all}
-use Rattle.toml_edit_laws.proofs.locality.Made.{split-made}
+use Rattle.toml_edit_laws.proofs.locality.Made.{split-made, along-made}
 use Rattle.toml_edit_laws.proofs.locality.Removing.{removed}
 use Rattle.toml_edit_laws.proofs.locality.Slots.{Found, found}
 use Rattle.toml_edit_laws.proofs.locality.Sound.{Steady, steady-parts, steady-whole, leads-made}
 use Rattle.toml_edit_laws.proofs.locality.Texts.{print-framed, edited-framed, texts-append}
 use Rattle.toml_edit_laws.proofs.locality.Twice.{with_slots, leads-edited, edited-twice}
 use Rattle.toml_edit_laws.proofs.locality.Under.{front-is}
-use Rattle.toml_edit_edit_laws.proofs.renaming.Along.{along-made, edited-same, edited-stays}
+use Rattle.toml_edit_edit_laws.proofs.renaming.Along.{edited-same, edited-stays}
 use Rattle.toml_edit_edit_laws.proofs.renaming.Names.{made-renamed, renamed-is, renamed-stays, others-of_name, lookup-renamed}
 use Rattle.toml_edit_edit_laws.proofs.renaming.Names.{without-renamed}
 use Rattle.toml_edit_edit_laws.proofs.renaming.Printing.{NameApart, name-apart, new-steady}

@@ -29,7 +29,7 @@ use Rattle.toml_edit_model.specs.Order.{sorted_by}
 
 -- ---- the order of headers
 
-pairs-places : (R : Visit → Visit → Type 0) (seen : ℤ) (vs : List Visit) → AllPairs R vs
+pub pairs-places : (R : Visit → Visit → Type 0) (seen : ℤ) (vs : List Visit) → AllPairs R vs
     → AllPairs (λ (a b : PlacedVisit). R a.1 b.1) (places_from seen vs)
 pairs-places R seen [] h = tt
 pairs-places R seen (v ∷ vs) h = by_test v.fields.is_dotted (pairs-places R seen vs h.1) (pairs-places R (place_of seen v) vs h.1)
@@ -41,7 +41,8 @@ pairs-places R seen (v ∷ vs) h = by_test v.fields.is_dotted (pairs-places R se
     by_test true x y = x
     by_test false x y = (places-all (R v) (place_of seen v) vs h.0, y)
 
-pairs-unimage : {A B : Type 0} (f : A → B) (R : B → B → Type 0) (xs : List A) → AllPairs R (map f xs) → AllPairs (λ a b. R (f a) (f b)) xs
+pub pairs-unimage : {A B : Type 0} (f : A → B) (R : B → B → Type 0) (xs : List A) → AllPairs R (map f xs)
+    → AllPairs (λ a b. R (f a) (f b)) xs
 pairs-unimage f R [] h = tt
 pairs-unimage {A} f R (x ∷ xs) h = (each xs h.0, pairs-unimage f R xs h.1)
   where

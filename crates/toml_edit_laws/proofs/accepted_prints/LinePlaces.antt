@@ -14,12 +14,13 @@ use Rattle.toml_edit_laws.proofs.accepted_prints.PrintedCut.{if_lines}
 use Rattle.toml_edit_laws.proofs.accepted_prints.Spots.{Spot, valued, dotted, headed, inside_node_spot, node_spot, slots_spot, suits, Sees}
 use Rattle.toml_edit_laws.proofs.accepted_prints.Spots.{SeesInside, SeesNode, SeesNodeInside, sees-first, sees-rest, inside-first}
 use Rattle.toml_edit_laws.proofs.accepted_prints.Spots.{inside-rest, sees-here, inside-here}
-use Rattle.toml_edit_laws.proofs.accepted_prints.NamedPaths.{names, names-snoc, down, dotted_told, down-snoc, dotted-snoc, line-snoc}
+use Rattle.toml_edit_laws.proofs.accepted_prints.NamedPaths.{names-snoc, down, dotted_told, down-snoc, dotted-snoc, line-snoc}
 use Rattle.toml_edit_laws.proofs.accepted_prints.NamedPaths.{below-down, Fit}
 use Rattle.toml_edit_laws.proofs.common.Cores.{line_cores}
 use Rattle.toml_edit_laws.proofs.common.Pairs.{AllPairs, all-across, pairs-append}
 use Rattle.toml_edit_laws.proofs.common.Each.{all-append, all-map}
 use Rattle.toml_edit_model.specs.Roles.{dotted_role, value_role}
+use Rattle.toml_edit_model.specs.Keys.{names}
 
 pub record Parted (xs ys : List Text) : Type 0 where
   pub common : List Text

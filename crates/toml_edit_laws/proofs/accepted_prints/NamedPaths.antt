@@ -17,9 +17,7 @@ use Rattle.toml_edit_laws.proofs.accepted_prints.HeaderReach.{RightBy}
 use Rattle.toml_edit_laws.proofs.common.Cores.{Core, core, keys_of_segments, line_cores}
 use Rattle.toml_edit_laws.proofs.common.Each.{all-append}
 use Rattle.toml_edit_model.specs.Roles.{Role, dotted_role, value_role}
-
-abbrev pub names : List Key → List Text
-names ks = map (λ k. k.name) ks
+use Rattle.toml_edit_model.specs.Keys.{names}
 
 module _ (mode : Mode) where
   pub segments-names : (ks : List Key) → keys_of_segments (segments mode ks) ≡ names ks

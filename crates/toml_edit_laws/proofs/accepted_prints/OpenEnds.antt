@@ -107,7 +107,7 @@ accepted-open c earlier (s ∷ r ∷ ss) =
 
 -- ---- what is meant
 
-facts-open : (c : Context) (ss : List Statement) → facts_from c (open_statements ss) ≡ facts_from c ss
+pub facts-open : (c : Context) (ss : List Statement) → facts_from c (open_statements ss) ≡ facts_from c ss
 facts-open c [] = refl
 facts-open c (key_line f v end ∷ []) = refl
 facts-open c (header h end ∷ []) = refl

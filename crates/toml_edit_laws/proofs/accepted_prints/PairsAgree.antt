@@ -11,13 +11,14 @@ use Rattle.toml_edit_model.specs.Tree.{Node, IsWellMade, shown_raw}
 use Rattle.toml_edit_model.specs.Print.{Line, value_of, inside_lines, pairs_of_lines, add_after_pairs, close_inline}
 use Rattle.toml_edit_laws.proofs.common.Tests.{and_both, append-nil}
 use Rattle.toml_edit_laws.proofs.common.PathLaws.{same_path-is}
-use Rattle.toml_edit_laws.proofs.accepted_prints.NamedPaths.{names, segments-names, line-told}
+use Rattle.toml_edit_laws.proofs.accepted_prints.NamedPaths.{segments-names, line-told}
 use Rattle.toml_edit_laws.proofs.accepted_prints.LinePlaces.{Parted, inside-parted}
 use Rattle.toml_edit_laws.proofs.common.Cores.{Core, core, keys_of_segments, line_cores}
 use Rattle.toml_edit_laws.proofs.common.Pairs.{AllPairs, pairs-image}
 use Rattle.toml_edit_laws.proofs.accepted_prints.EachPrintedValue.{LooksAtEach, after-pairs, value-passes}
 use Rattle.toml_edit_model.specs.Roles.{Role, dotted_role, implied_role, header_role, array_role, value_role, continued_role}
 use Rattle.toml_edit_model.specs.Roles.{may_meet_inline}
+use Rattle.toml_edit_model.specs.Keys.{names}
 
 -- ---- two pairs
 

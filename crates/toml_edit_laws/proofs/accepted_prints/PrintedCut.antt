@@ -5,7 +5,7 @@ use Rattle.std.specs.List.{list_all, AllByRecursion}
 use Rattle.toml_edit_laws.proofs.common.LineEnds.{newline-is}
 use Rattle.toml_edit_model.specs.Mode.{Mode, is_exact}
 use Rattle.toml_edit_model.specs.Text.{Text, joined, is_empty}
-use Rattle.toml_edit_model.specs.Trivia.{IsWhiteSpace, IsWholeTrivia, IsLineEnd, IsFinalTrivia, IsNewline, lf}
+use Rattle.toml_edit_model.specs.Trivia.{IsWhiteSpace, IsWholeTrivia, IsFinalTrivia, IsNewline, lf}
 use Rattle.toml_edit_model.specs.Trivia as trivia
 use Rattle.toml_edit_model.specs.Syntax.{Statement, key_line, header, statement_text, document_text, IsStatement, AreStatements, IsPath}
 use Rattle.toml_edit_model.specs.Syntax.{IsValue, IsHeader, keeps_limits, is_ranged, keeps_ranges, without_newline, open_statements}

@@ -10,6 +10,7 @@ use Rattle.toml_edit_laws.proofs.common.Members.{Among, passes-among}
 use Rattle.toml_edit_laws.proofs.common.Tests.{and_left, and_right, and_both, append-nil, same_text-refl, same_text-is, false-by}
 use Rattle.toml_edit_laws.proofs.common.Tests.{true-false, if-true, if-false, or-true}
 use Rattle.toml_edit_model.specs.Roles.{Role, dotted_role, implied_role, header_role, array_role, value_role, continued_role, may_meet}
+use Rattle.toml_edit_model.specs.Roles.{is_header_role, is_value_role}
 
 -- a line's value, so many keys below the table that it is a line of; a table that lines go through; a table with a header; an array
 -- of tables
@@ -78,16 +79,8 @@ suits _ _ = false
 abbrev pub Meet : Role → Role → Type 0
 Meet r q = (may_meet r q ≡ true) ⊎ (((r ≡ header_role) × (q ≡ header_role)) ⊎ ((r ≡ value_role) × (q ≡ value_role)))
 
-abbrev is_header : Role → Bool
-is_header header_role = true
-is_header _ = false
-
-abbrev is_value : Role → Bool
-is_value value_role = true
-is_value _ = false
-
 abbrev meets : Role → Role → Bool
-meets r q = may_meet r q || ((is_header r && is_header q) || (is_value r && is_value q))
+meets r q = may_meet r q || ((is_header_role r && is_header_role q) || (is_value_role r && is_value_role q))
 
 abbrev roles : List Role
 roles = dotted_role ∷ implied_role ∷ header_role ∷ array_role ∷ value_role ∷ continued_role ∷ []
@@ -108,7 +101,7 @@ all-meet dotted = refl
 all-meet headed = refl
 all-meet arrayed = refl
 
-is-header : (r : Role) → is_header r ≡ true → r ≡ header_role
+is-header : (r : Role) → is_header_role r ≡ true → r ≡ header_role
 is-header dotted_role h = absurd cc
 is-header implied_role h = absurd cc
 is-header header_role h = refl
@@ -116,7 +109,7 @@ is-header array_role h = absurd cc
 is-header value_role h = absurd cc
 is-header continued_role h = absurd cc
 
-is-value : (r : Role) → is_value r ≡ true → r ≡ value_role
+is-value : (r : Role) → is_value_role r ≡ true → r ≡ value_role
 is-value dotted_role h = absurd cc
 is-value implied_role h = absurd cc
 is-value header_role h = absurd cc
@@ -129,16 +122,25 @@ suiting-meet s r q h g =
     let row = passes-among (λ r. list_all (λ q. not (suits r s && suits q s) || meets r q) roles) r roles (all-meet s) (each-role r) in
     let both : (not (suits r s && suits q s) || meets r q) ≡ true =
     passes-among (λ q. not (suits r s && suits q s) || meets r q) q roles row (each-role q) in
-    by_test (may_meet r q) refl (is_header r && is_header q) refl
+    by_test (may_meet r q) refl (is_header_role r && is_header_role q) refl
     (sym (ap (λ b. not b || meets r q) (and_both (suits r s) (suits q s) h g)) ∙ both)
   where
-    by_test : (b : Bool) → may_meet r q ≡ b → (c : Bool) → (is_header r && is_header q) ≡ c → (b || (c || (is_value r && is_value q)))
+    by_test : (b : Bool) → may_meet r q ≡ b → (c : Bool) → (is_header_role r && is_header_role q) ≡ c
+        → (b || (c || (is_value_role r && is_value_role q)))
         ≡ true → Meet r q
     by_test true e c f m = inl e
     by_test false e true f m =
-        inr (inl (is-header r (and_left (is_header r) (is_header q) f), is-header q (and_right (is_header r) (is_header q) f)))
+        inr (inl (
+          is-header r (and_left (is_header_role r) (is_header_role q) f),
+          is-header q
+              (and_right (is_header_role r) (is_header_role q) f),
+        ))
     by_test false e false f m =
-        inr (inr (is-value r (and_left (is_value r) (is_value q) m), is-value q (and_right (is_value r) (is_value q) m)))
+        inr (inr (
+          is-value r (and_left (is_value_role r) (is_value_role q) m),
+          is-value q
+              (and_right (is_value_role r) (is_value_role q) m),
+        ))
 
 -- ---- a map of all paths sees the slots of a table
 

@@ -6,8 +6,8 @@ use Rattle.std.specs.List.{list_all, AllByRecursion}
 use Rattle.toml_edit_model.specs.Mode.{Mode}
 use Rattle.toml_edit_model.specs.Text.{Text, is_empty}
 use Rattle.toml_edit_model.specs.Syntax.{Statement, key_line, header, keeps_limits, is_ranged, without_newline}
-use Rattle.toml_edit_model.specs.Paths.{at_key, Step, Path, Mention, Source, Context, start_context, source_of, mentions_of, context_after}
-use Rattle.toml_edit_model.specs.Paths.{placed_from, line_mentions, header_mentions, header_role_of, path_start}
+use Rattle.toml_edit_model.specs.Paths.{at_key, Path, Mention, Source, Context, start_context, source_of, mentions_of, context_after}
+use Rattle.toml_edit_model.specs.Paths.{placed_from, header_role_of, path_start}
 use Rattle.toml_edit_model.specs.Paths as paths
 use Rattle.toml_edit_model.specs.Accepted.{agree, has_agreeing_pairs, has_agreeing_tables, is_sound}
 use Rattle.toml_edit_laws.specs.OneByOne.{is_right_after, all_right_after}
@@ -24,9 +24,9 @@ use Rattle.toml_edit_laws.proofs.accepted_prints.Spots.{Spot, valued, suiting-me
 use Rattle.toml_edit_laws.proofs.accepted_prints.WalkPlaces.{walk-at}
 use Rattle.toml_edit_laws.proofs.accepted_prints.WalkPaths.{Apart}
 use Rattle.toml_edit_laws.proofs.accepted_prints.HeaderNumbers.{tree_at, order-apart}
-use Rattle.toml_edit_laws.proofs.accepted_prints.NamedPaths.{names, down-append, below-down, line-told, header-told}
+use Rattle.toml_edit_laws.proofs.accepted_prints.NamedPaths.{down-append, below-down, line-told, header-told}
 use Rattle.toml_edit_laws.proofs.accepted_prints.LinePlaces.{LineAt, PartedLines, table-at, table-parted}
-use Rattle.toml_edit_laws.proofs.accepted_prints.Threads.{told_of, Threads, is_key_line, OwnOf, Says, StandsIn}
+use Rattle.toml_edit_laws.proofs.accepted_prints.Threads.{told_of, Threads, OwnOf, Says, StandsIn}
 use Rattle.toml_edit_laws.proofs.accepted_prints.PairsAgree.{parted-front, agree-by, value-agrees}
 use Rattle.toml_edit_laws.proofs.accepted_prints.PrintedLead.{prefixed, lead, printed-threads, threads-next, printed-statements, written-by}
 use Rattle.toml_edit_laws.proofs.common.Cores.{core}
@@ -34,6 +34,8 @@ use Rattle.toml_edit_laws.proofs.common.PathLaws.{same-after}
 use Rattle.toml_edit_laws.proofs.common.Pairs.{AllPairs, pairs-append, pairs-image, pairs-map}
 use Rattle.toml_edit_laws.proofs.common.Each.{all-both, all-append, all-map, all-image}
 use Rattle.toml_edit_model.specs.Roles.{Role, header_role, value_role, may_meet}
+use Rattle.toml_edit_model.specs.Normal.{is_line}
+use Rattle.toml_edit_model.specs.Keys.{names}
 
 -- ---- paths
 
@@ -57,17 +59,17 @@ keys-length (k ∷ ks) = ap suc (keys-length ks)
 -- ---- no two statements are of one table's header, or of one value
 
 abbrev pub Unlike : Printed → Printed → Type 0
-Unlike p q = p.path ≡ q.path → is_key_line p.statement ≡ is_key_line q.statement → ⊥
+Unlike p q = p.path ≡ q.path → is_line p.statement ≡ is_line q.statement → ⊥
 
 -- the same with a text before the first
-prefixed-kind : (t : Text) (s : Statement) → is_key_line (prefixed t s) ≡ is_key_line s
+prefixed-kind : (t : Text) (s : Statement) → is_line (prefixed t s) ≡ is_line s
 prefixed-kind t (key_line f v end) = refl
 prefixed-kind t (header h end) = refl
 
 lead-unlike : (t : Text) (ps : List Printed) → AllPairs Unlike ps → AllPairs Unlike (lead t ps)
 lead-unlike t [] h = tt
 lead-unlike t (p ∷ ps) h = (
-  all-map (Unlike p) (λ q. p.path ≡ q.path → is_key_line (prefixed t p.statement) ≡ is_key_line q.statement
+  all-map (Unlike p) (λ q. p.path ≡ q.path → is_line (prefixed t p.statement) ≡ is_line q.statement
       → ⊥) ps (λ q u e k. u e (sym (prefixed-kind t p.statement) ∙ k)) h.0,
   h.1,
 )
@@ -98,7 +100,7 @@ all-sound (p ∷ ps) h g =
 
 -- ---- an open end
 
-open-kind : (s : Statement) → is_key_line (without_newline s) ≡ is_key_line s
+open-kind : (s : Statement) → is_line (without_newline s) ≡ is_line s
 open-kind (key_line f v end) = refl
 open-kind (header h end) = refl
 
@@ -127,8 +129,8 @@ module _ (mode : Mode) where
     -- the header of the table, or a line of it
     abbrev PrintedOf : Visit → Printed → Type 0
     PrintedOf v p =
-        ((p.path ≡ v.path) × (is_key_line p.statement ≡ false))
-        ⊎ ((l : Line) × LineAt mode K v.path l × (p.path ≡ below v.path l.keys) × (is_key_line p.statement ≡ true))
+        ((p.path ≡ v.path) × (is_line p.statement ≡ false))
+        ⊎ ((l : Line) × LineAt mode K v.path l × (p.path ≡ below v.path l.keys) × (is_line p.statement ≡ true))
 
     lines-unlike : (v w : Visit) (l m : Line) → Apart v w → LineAt mode K v.path l → LineAt mode K w.path m → below v.path l.keys
         ≡ below w.path m.keys → ⊥
@@ -146,7 +148,7 @@ module _ (mode : Mode) where
     tables-unlike v w apart p q (inr h) (inr g) e k = lines-unlike v w h.0 g.0 apart h.1 g.1 (sym h.2 ∙ e ∙ g.2)
 
     header-of : (f : Bool) (v : Visit) (c : Bool)
-        → AllByRecursion (λ (p : Printed). (p.path ≡ v.path) × (is_key_line p.statement ≡ false)) (if c
+        → AllByRecursion (λ (p : Printed). (p.path ≡ v.path) × (is_line p.statement ≡ false)) (if c
         then record { block = v.path; path = v.path; statement = header_statement mode f v } ∷ [] else [])
     header-of f v true = ((refl, refl), tt)
     header-of f v false = tt
@@ -160,7 +162,7 @@ module _ (mode : Mode) where
         → AllByRecursion (PrintedOf v) (printed_table mode f v)
     table-of f v h =
         all-append (PrintedOf v) (printed_header mode f v) (map (printed_line mode v.path) (lines_of mode v))
-        (all-map (λ (p : Printed). (p.path ≡ v.path) × (is_key_line p.statement ≡ false)) (PrintedOf v) (printed_header mode f v)
+        (all-map (λ (p : Printed). (p.path ≡ v.path) × (is_line p.statement ≡ false)) (PrintedOf v) (printed_header mode f v)
         (λ p g. inl g) (header-of f v (has_header mode v)))
         (all-image (printed_line mode v.path) (PrintedOf v) (lines_of mode v)
         (all-map (LineAt mode K v.path) (λ l. PrintedOf v (printed_line mode v.path l)) (lines_of mode v) (λ l g. inr (l, g, refl, refl))
@@ -173,17 +175,17 @@ module _ (mode : Mode) where
         ∙ below-append v.path m.keys) in
         parted-front (names l.keys) (names m.keys) [] h (sym same ∙ sym (append-nil (map at_key (names l.keys))))
 
-    all-across : (xs ys : List Printed) → AllByRecursion (λ (p : Printed). is_key_line p.statement ≡ false) xs
-        → AllByRecursion (λ (p : Printed). is_key_line p.statement ≡ true) ys
+    all-across : (xs ys : List Printed) → AllByRecursion (λ (p : Printed). is_line p.statement ≡ false) xs
+        → AllByRecursion (λ (p : Printed). is_line p.statement ≡ true) ys
         → AllByRecursion (λ p. AllByRecursion (Unlike p) ys) xs
     all-across [] ys h g = tt
     all-across (x ∷ xs) ys h g = (
-      all-map (λ (p : Printed). is_key_line p.statement
+      all-map (λ (p : Printed). is_line p.statement
           ≡ true) (Unlike x) ys (λ y k e f. (let clash : false ≡ true = sym h.0 ∙ f ∙ k in cc)) g,
       all-across xs ys h.1 g,
     )
 
-    all-lines : (v : Visit) (ls : List Line) → AllByRecursion (λ l. is_key_line (printed_line mode v.path l).statement ≡ true) ls
+    all-lines : (v : Visit) (ls : List Line) → AllByRecursion (λ l. is_line (printed_line mode v.path l).statement ≡ true) ls
     all-lines v [] = tt
     all-lines v (l ∷ ls) = (refl, all-lines v ls)
 
@@ -195,9 +197,9 @@ module _ (mode : Mode) where
         (pairs-map PartedLines (λ l m. Unlike (printed_line mode v.path l) (printed_line mode v.path m)) (lines_of mode v) (line-line v)
         (table-parted mode v.slots [] is.made)))
         (all-across (printed_header mode f v) (map (printed_line mode v.path) (lines_of mode v))
-        (all-map (λ (p : Printed). (p.path ≡ v.path) × (is_key_line p.statement ≡ false)) (λ (p : Printed). is_key_line p.statement
+        (all-map (λ (p : Printed). (p.path ≡ v.path) × (is_line p.statement ≡ false)) (λ (p : Printed). is_line p.statement
         ≡ false) (printed_header mode f v) (λ p g. g.1) (header-of f v (has_header mode v)))
-        (all-image (printed_line mode v.path) (λ (p : Printed). is_key_line p.statement
+        (all-image (printed_line mode v.path) (λ (p : Printed). is_line p.statement
         ≡ true) (lines_of mode v) (all-lines v (lines_of mode v))))
 
     abbrev Faces : PlacedVisit → Type 0

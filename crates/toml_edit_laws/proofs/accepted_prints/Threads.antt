@@ -26,7 +26,7 @@ use Rattle.toml_edit_laws.proofs.accepted_prints.WalkPlaces.{Trail, start, to_ta
 use Rattle.toml_edit_laws.proofs.accepted_prints.WalkPaths.{walk-apart, is_item_of}
 use Rattle.toml_edit_laws.proofs.accepted_prints.HeaderNumbers.{tree_at}
 use Rattle.toml_edit_laws.proofs.accepted_prints.HeaderReach.{RightBy, Reached, reached, elements_in}
-use Rattle.toml_edit_laws.proofs.accepted_prints.NamedPaths.{names, segments-names, names-snoc, down, dotted_told, line-snoc, down-snoc}
+use Rattle.toml_edit_laws.proofs.accepted_prints.NamedPaths.{segments-names, names-snoc, down, dotted_told, line-snoc, down-snoc}
 use Rattle.toml_edit_laws.proofs.accepted_prints.NamedPaths.{below-down, named_path, header-named, header_told, passing_told, named-snoc}
 use Rattle.toml_edit_laws.proofs.accepted_prints.NamedPaths.{header-snoc, right-same, passed-trail, Fit, passing-fit}
 use Rattle.toml_edit_laws.proofs.accepted_prints.LinePlaces.{LineAt, table-at}
@@ -38,6 +38,8 @@ use Rattle.toml_edit_laws.proofs.common.Statements.{own_header}
 use Rattle.toml_edit_laws.proofs.common.Visits.{root-first}
 use Rattle.toml_edit_model.specs.Order.{sorted_by}
 use Rattle.toml_edit_model.specs.Roles.{Role, header_role, array_role, value_role, implied_role, continued_role, dotted_role}
+use Rattle.toml_edit_model.specs.Normal.{is_line}
+use Rattle.toml_edit_model.specs.Keys.{names}
 
 -- ---- the reader's context
 
@@ -63,14 +65,10 @@ Threads P A b (p ∷ ps) = P A b p × Threads P (arrays_after A p.statement) (bl
 
 -- ---- what holds of each statement there
 
-abbrev pub is_key_line : Statement → Bool
-is_key_line (key_line f v end) = true
-is_key_line (header h end) = false
-
 -- its own path has the role of its own header or value
 abbrev pub OwnOf : Printed → Path → Role → Type 0
-OwnOf p q header_role = (q ≡ p.path) × (is_key_line p.statement ≡ false)
-OwnOf p q value_role = (q ≡ p.path) × (is_key_line p.statement ≡ true)
+OwnOf p q header_role = (q ≡ p.path) × (is_line p.statement ≡ false)
+OwnOf p q value_role = (q ≡ p.path) × (is_line p.statement ≡ true)
 OwnOf p q array_role = Unit {0}
 OwnOf p q dotted_role = Unit {0}
 OwnOf p q implied_role = Unit {0}

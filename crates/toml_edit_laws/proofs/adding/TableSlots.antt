@@ -1,15 +1,15 @@
 -- The slots of a table, by the mentions that their keys are kept from, and the elements of an array of tables.
-use Rattle.std.proofs.Common.{◌≡◌, ◌≤◌, refl, sym, subst, arith, ℕ, zero, suc, ◌+◌, Bool, true, false, List, [], ◌∷◌, ◌++◌, length, Option}
+use Rattle.std.proofs.Common.{◌≡◌, ◌≤◌, refl, sym, subst, arith, ℕ, zero, suc, ◌+◌, Bool, true, false, List, [], ◌∷◌, ◌++◌, Option}
 use Rattle.std.proofs.Common.{Some, None}
 use Rattle.std.specs.Prelude.{if◌then◌else◌}
 use Rattle.std.proofs.lemmas.Bool.{eqb-true}
 use Rattle.toml_edit_model.specs.Text.{Text, same_text}
 use Rattle.toml_edit_model.specs.Paths.{at_key, at_element, same_step, Mention, Source}
 use Rattle.toml_edit_model.specs.Tree.{Key, TableFields, Node, table, Items, no_items, item, Slots, no_slots, slot}
-use Rattle.toml_edit_model.specs.TreeOf.{Form, key_at, header_fields, IsNodeOf, AreElementsOf, AreSlotsOf}
+use Rattle.toml_edit_model.specs.TreeOf.{Form, key_at, IsNodeOf, AreElementsOf, AreSlotsOf}
 use Rattle.toml_edit_laws.specs.FlatTree.{with_slot}
 use Rattle.toml_edit_laws.specs.InlineTree.{node_at, with_node}
-use Rattle.toml_edit_laws.specs.TableTree.{without_slot, with_item, change_last, change_item}
+use Rattle.toml_edit_laws.specs.TableTree.{without_slot, change_item}
 use Rattle.toml_edit_laws.proofs.common.Tests.{false-by, same_text-is}
 use Rattle.toml_edit_laws.proofs.mentions.GatherLaws.{first_of_key, AreDistinct, first-none}
 use Rattle.toml_edit_laws.proofs.common.OptionSteps.{map_some}
@@ -201,46 +201,3 @@ module _ (form : Form) where
         elements-change ns others (suc i) j t change more xs zs on same goes h.2 changed,
       )
   elements-change ns others i (suc j) t change (a ∷ more) (item n xs) ys is same goes h e = absurd h
-
-  -- one element more at the end
-  pub elements-add : (ns : List (Mention Source)) (i t : ℕ) (more : List (Mention Source)) (a : Mention Source) (xs : Items) (ss : Slots)
-      → t ≡ i + length more → AreElementsOf form ns i more xs → AreAllSlots (under (at_element t) ns) ss
-      → AreElementsOf form ns i (more ++ (a ∷ [])) (with_item xs (table (header_fields form a.source a.source.statement) ss))
-  elements-add ns i t [] a no_items ss is h g =
-      let here : t ≡ i = omega arith in
-      (refl, subst (λ l. AreAllSlots (under (at_element l) ns) ss) here g, tt)
-  elements-add ns i t [] a (item n xs) ss is h g = absurd h
-  elements-add ns i t (b ∷ more) a no_items ss is h g = absurd h
-  elements-add ns i t (b ∷ more) a (item (table f us) xs) ss is h g =
-      let on : t ≡ suc i + length more = omega arith in
-      (h.0, h.1, elements-add ns (suc i) t more a xs ss on h.2 g)
-  elements-add ns i t (b ∷ more) a (item n xs) ss is h g = absurd h
-
-  -- a change of the slots of the last element
-  abbrev pub ChangesSlots : (Slots → Option Slots) → List (Mention Source) → List (Mention Source) → Type 0
-  ChangesSlots change ms others = (ss us : Slots) → AreAllSlots ms ss → change ss ≡ Some us → AreAllSlots others us
-
-  pub elements-last : (ns others : List (Mention Source)) (i t : ℕ) (change : Slots
-      → Option Slots) (more : List (Mention Source)) (xs ys : Items)
-      → suc t ≡ i + length more → AreSameBut t ns others → ChangesSlots change (under (at_element t) ns) (under (at_element t) others)
-      → AreElementsOf form ns i more xs → change_last change xs ≡ Some ys → AreElementsOf form others i more ys
-  elements-last ns others i t change more no_items ys is same goes h e = absurd cc
-  elements-last ns others i t change [] (item n xs) ys is same goes h e = absurd h
-  elements-last ns others i t change (a ∷ []) (item (table f ss) no_items) ys is same goes h e =
-      let here : t ≡ i = omega arith in
-      let (us, changed, made) = map_some (change ss) (λ (us : Slots). item (table f us) no_items) ys e in
-      let first : AreAllSlots (under (at_element t) ns) ss = subst (λ l. AreAllSlots (under (at_element l) ns) ss) (sym here) h.1 in
-      subst (λ zs. AreElementsOf form others i (a ∷ []) zs) made
-      (h.0, subst (λ l. AreAllSlots (under (at_element l) others) us) here (goes ss us first changed), tt)
-  elements-last ns others i t change (a ∷ []) (item (table f ss) (item o xs)) ys is same goes h e = absurd h.2
-  elements-last ns others i t change (a ∷ b ∷ more) (item (table f ss) no_items) ys is same goes h e = absurd h.2
-  elements-last ns others i t change (a ∷ b ∷ more) (item (table f ss) (item o xs)) ys is same goes h e =
-      let (zs, changed, made) = map_some (change_last change (item o xs)) (item (table f ss)) ys e in
-      let before : suc i ≤ t = omega arith in
-      let on : suc t ≡ suc i + length (b ∷ more) = omega arith in
-      subst (λ us. AreElementsOf form others i (a ∷ b ∷ more) us) made (
-        h.0,
-        subst (λ us. AreAllSlots us ss) (same-before t i ns others same before) h.1,
-        elements-last ns others (suc i) t change (b ∷ more) (item o xs) zs on same goes h.2 changed,
-      )
-  elements-last ns others i t change (a ∷ more) (item n xs) ys is same goes h e = absurd h

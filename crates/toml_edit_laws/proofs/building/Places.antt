@@ -15,7 +15,6 @@ use Rattle.toml_edit_laws.specs.OneByOne.{is_right_after, all_right_after}
 use Rattle.toml_edit_laws.specs.Building.{keys_in, context_from, context_behind, done_places, next_place}
 use Rattle.toml_edit_laws.proofs.common.Tests.{and_left, and_right, append-nil}
 use Rattle.toml_edit_laws.proofs.values.ValueFaults.{is_right_value-faults}
-use Rattle.toml_edit_laws.specs.FlatTree.{is_right_value}
 use Rattle.toml_edit_laws.proofs.clashes.ClashContext.{HasKey, agree-each}
 use Rattle.toml_edit_laws.proofs.clashes.ClashFirst.{placed-append}
 use Rattle.toml_edit_laws.proofs.building.Conditions.{AreDone, done_first, done_next}
@@ -25,6 +24,7 @@ use Rattle.toml_edit_laws.proofs.one_by_one.Together.{right-together}
 use Rattle.toml_edit_laws.proofs.one_by_one.FirstFaulty.{wrong_there}
 use Rattle.toml_edit_model.specs.Version.{v1_1}
 use Rattle.toml_edit_model.specs.Roles.{may_meet}
+use Rattle.toml_edit_model.specs.Lone.{is_accepted_value}
 
 -- ---- the conditions, after statements
 
@@ -98,7 +98,7 @@ pub sound-of-none : (start : ℕ) (t : Statement) → own_faults start t ≡ [] 
 sound-of-none start (key_line f v end) h =
     let i = start + length f.leading + length (path_text f.path) + length f.before_equals + 1 + length f.after_equals in
     let short = short-none f.path (left-empty (long_path f.path) (value_faults v i 0) h) in
-    let right : is_right_value v ≡ true = sym (is_right_value-faults v i)
+    let right : is_accepted_value v ≡ true = sym (is_right_value-faults v i)
     ∙ ap is_empty (right-empty (long_path f.path) (value_faults v i 0) h) in
     together (is_short f.path) (nat_le (depth v) nesting_limit && has_short_keys v) (keeps_ranges v) (has_agreeing_pairs v) short right
   where

@@ -1,7 +1,6 @@
 -- What a loop over the statements of a document does: it stops at the first faulty one, by its faults, and else ends with the tree.
 use Rattle.std.proofs.Common.{◌≡◌, refl, sym, ◌∙◌, ap, subst, Bool, true, false, List, [], ◌∷◌, ◌++◌, append_assoc, Option, Some, None, inl}
-use Rattle.std.proofs.Common.{inr}
-use Rattle.std.specs.Prelude.{not, is_some, Contains}
+use Rattle.std.specs.Prelude.{not, is_some}
 use Rattle.toml_edit_model.specs.Mode.{Mode}
 use Rattle.toml_edit_model.specs.Text.{is_empty, one}
 use Rattle.toml_edit_model.specs.Syntax.{Statement, Document, IsDocument}
@@ -13,10 +12,10 @@ use Rattle.toml_edit_model.specs.TreeOf.{spanned_in, IsTreeOf}
 use Rattle.toml_edit_laws.specs.OneByOne.{is_right_after}
 use Rattle.toml_edit_laws.specs.TableClash.{table_way_fault, table_way_faults}
 use Rattle.toml_edit_laws.specs.Building.{slots_along, context_behind, done_places, next_place, Builder, first_builder, added, clash_at}
-use Rattle.toml_edit_laws.specs.Building.{faults_at, behind, built_tree, IsStatementNode, IsBehind, Stops, StandsBefore, IsRefusedBy}
+use Rattle.toml_edit_laws.specs.Building.{faults_at, behind, built_tree, IsStatementNode, IsBehind, StandsBefore}
 use Rattle.toml_edit_laws.specs.Building.{run_on, run, AreStatementNodes, EndsAt, Ends, Runs}
 use Rattle.toml_edit_laws.proofs.common.Tests.{append-nil}
-use Rattle.toml_edit_laws.proofs.common.Members.{Among, among-cases, from-contained, to-contained}
+use Rattle.toml_edit_laws.proofs.common.Members.{Among}
 use Rattle.toml_edit_laws.proofs.values.ValueFaults.{is_empty-nil}
 use Rattle.toml_edit_laws.proofs.clashes.ClashContext.{HasKey, keyed_statements}
 use Rattle.toml_edit_laws.proofs.clashes.ClashFirst.{right-none, stops}
@@ -25,10 +24,6 @@ use Rattle.toml_edit_laws.proofs.building.Loop.{keyed-front, here-faults, buildi
 use Rattle.toml_edit_laws.proofs.clashes.BlockClash.{block_found}
 use Rattle.toml_edit_laws.proofs.mentions.Placed.{mentions_in}
 use Rattle.std.specs.List.{AllByRecursion}
-
--- A statement that has a fault of its own, or that can't be added, makes the document faulty by that fault.
-refused-by : (d : Document) (done : List Statement) (s : Statement) (f : Fault) → Stops d done s f → IsRefusedBy d f
-refused-by d done s f h = record { names = h.names; refused = h.refused }
 
 module _ (mode : Mode) where
   -- ---- one loop invariant: the builder stands before the statements that are left
@@ -55,43 +50,11 @@ module _ (mode : Mode) where
   stands_last d b h at =
       (building_laws mode d h).last b (subst (λ ss. IsBehind mode d ss b) (sym (at.split ∙ append-nil at.done)) at.behind)
 
-  pub stands_faulty : (d : Document) (s : Statement) (rest : List Statement) (b : Builder) (f : Fault) → IsDocument d
-      → StandsBefore mode d (s ∷ rest) b
-      → Contains (own_faults b.start s) f → IsRefusedBy d f
-  stands_faulty d s rest b f h at has =
-      refused-by d at.done s f (((building_laws mode d h).step at.done s rest b at.split at.behind).faulty f has)
-
-  pub stands_clash : (d : Document) (s : Statement) (rest : List Statement) (b : Builder) (x : Mention Source × Node) → IsDocument d
-      → StandsBefore mode d (s ∷ rest) b
-      → clash_at b s ≡ Some x → IsRefusedBy d (table_way_fault x)
-  stands_clash d s rest b x h at e =
-      refused-by d at.done s (table_way_fault x) (((building_laws mode d h).step at.done s rest b at.split at.behind).clashes x e)
-
-  -- So does whatever stands in it.
-  pub stands_refused : (d : Document) (s : Statement) (rest : List Statement) (b : Builder) (f : Fault) → IsDocument d
-      → StandsBefore mode d (s ∷ rest) b
-      → Contains (faults_at b s) f → IsRefusedBy d f
-  stands_refused d s rest b f h at has =
-      elim (among-cases f (own_faults b.start s) (table_way_faults (clash_at b s)) (from-contained f (faults_at b s) has)) [
-        | inl own ↦ stands_faulty d s rest b f h at (to-contained f (own_faults b.start s) own)
-        | inr way ↦ by_clash (clash_at b s) refl way
-      ]
-    where
-      by_clash : (o : Option (Mention Source × Node)) → clash_at b s ≡ o → Among f (table_way_faults o) → IsRefusedBy d f
-      by_clash None e way = elim way [ ]
-      by_clash (Some x) e (inl is) = subst (IsRefusedBy d) (sym is) (stands_clash d s rest b x h at e)
-      by_clash (Some x) e (inr none) = elim none [ ]
-
   -- One of both holds of each.
   pub stands_goes : (d : Document) (s : Statement) (rest : List Statement) (b : Builder) (n : Node) → IsDocument d
       → StandsBefore mode d (s ∷ rest) b
       → is_some (added mode b s n) ≡ not (is_some (clash_at b s))
   stands_goes d s rest b n h at = ((building_laws mode d h).step at.done s rest b at.split at.behind).goes n
-
-  -- The table of its block is there.
-  pub stands_there : (d : Document) (s : Statement) (rest : List Statement) (b : Builder) → IsDocument d → StandsBefore mode d (s ∷ rest) b
-      → (inner : Slots) × (slots_along b.block b.slots ≡ Some inner)
-  stands_there d s rest b h at = ((building_laws mode d h).step at.done s rest b at.split at.behind).there
 
   -- So is that of the last block, whatever is left.
   pub stands_block : (d : Document) (rest : List Statement) (b : Builder) → IsDocument d → StandsBefore mode d rest b

@@ -17,7 +17,7 @@ use Rattle.toml_edit_laws.proofs.common.Tests.{true-false}
 use Rattle.toml_edit_laws.proofs.mentions.GatherLaws.{first_of_key, first_of_key-is}
 use Rattle.toml_edit_laws.proofs.clashes.ClashMentions.{is_table_role, AreOfStatements, statements-under, statements-under_path}
 use Rattle.toml_edit_laws.proofs.clashes.ClashKept.{kept-free}
-use Rattle.toml_edit_laws.proofs.clashes.ClashRoles.{IsSlotNode, IsFound, node-found, AreRolesOf, standing, is_array_node, is_table_node}
+use Rattle.toml_edit_laws.proofs.clashes.ClashRoles.{IsSlotNode, IsFound, node-found, AreRolesOf, standing}
 use Rattle.toml_edit_laws.proofs.clashes.ClashCounts.{count_at, count-none, count-under, count-own}
 use Rattle.toml_edit_laws.proofs.clashes.LineClash.{line_goes}
 use Rattle.toml_edit_laws.proofs.building.Descent.{along_goes}
@@ -27,6 +27,8 @@ use Rattle.toml_edit_laws.proofs.common.OptionSteps.{map-twice}
 use Rattle.toml_edit_laws.specs.KeptKeys.{under_path}
 use Rattle.toml_edit_model.specs.Roles.{Role, may_meet, is_array_role}
 use Rattle.toml_edit_model.specs.TableMentions.{under, kept, some_at, array_headers}
+use Rattle.toml_edit_model.specs.Lists.{is_tables_node}
+use Rattle.toml_edit_model.specs.Shown.{is_table_node}
 
 -- ---- the table of a block
 
@@ -208,7 +210,7 @@ module _ (mode : Mode) where
       within : suc i ≡ length (array_headers (under (at_key k) ms))
       within = last ∙ sym (count-own (under (at_key k) ms) ∙ count-under is_array_role (at_key k) [] ms)
 
-      by_item : (n : Node) → node_at k ss ≡ Some n → is_array_node n ≡ true → (j : Mention Source) → k ≡ j.segment.key
+      by_item : (n : Node) → node_at k ss ≡ Some n → is_tables_node n ≡ true → (j : Mention Source) → k ≡ j.segment.key
           → IsSlotNode mode ms j n
           → HasBlock (at_key k ∷ at_element i ∷ p) ms ss
       by_item (tables x xs) g t j key is =

@@ -23,10 +23,11 @@ use Rattle.toml_edit_laws.proofs.clashes.LineClash.{line_clashes}
 use Rattle.toml_edit_laws.proofs.clashes.HeaderClash.{header_clashes}
 use Rattle.toml_edit_laws.proofs.mentions.Placed.{placed_at}
 use Rattle.toml_edit_laws.proofs.common.OptionSteps.{is_none-map, is_none}
-use Rattle.toml_edit_laws.proofs.clashes.ClashRoles.{is_array_node, is_table_node}
 use Rattle.toml_edit_laws.specs.KeptKeys.{under_path}
 use Rattle.toml_edit_model.specs.Roles.{Role, may_meet, is_value_role, extends}
 use Rattle.toml_edit_model.specs.TableMentions.{under, kept}
+use Rattle.toml_edit_model.specs.Lists.{is_tables_node}
+use Rattle.toml_edit_model.specs.Shown.{is_table_node}
 
 -- ---- what is said of a clash
 
@@ -34,7 +35,7 @@ use Rattle.toml_edit_model.specs.TableMentions.{under, kept}
 abbrev said : Bool → Role → Text → Text
 said is_value later type = if is_value && extends later then cannot_extend type else duplicate_key
 
-said-table : (later : Role) (n : Node) (type : Text) → (is_table_node n || is_array_node n) ≡ true → table_way_message later n
+said-table : (later : Role) (n : Node) (type : Text) → (is_table_node n || is_tables_node n) ≡ true → table_way_message later n
     ≡ said false later type
 said-table later (table f ss) type h = refl
 said-table later (tables e xs) type h = refl
@@ -92,7 +93,8 @@ module _ (mode : Mode) where
       ≡ clash_message e.role later (statement_value_type e.source.statement)
   said-way later e n h = by_value (is_value_role e.role) h
     where
-      by_value : (b : Bool) → MatchBool b (IsLineNode (spanned_in mode) e.source e.source.statement n) ((is_table_node n || is_array_node n)
+      by_value : (b : Bool)
+          → MatchBool b (IsLineNode (spanned_in mode) e.source e.source.statement n) ((is_table_node n || is_tables_node n)
           ≡ true)
           → table_way_message later n ≡ said b later (statement_value_type e.source.statement)
       by_value true h = said-line later e.source e.source.statement n h

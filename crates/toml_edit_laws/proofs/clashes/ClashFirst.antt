@@ -1,39 +1,27 @@
 -- A statement that can't be added to the slots of the right statements before it is the first faulty one, and its fault is among those
 -- that are named.
 use Rattle.std.proofs.Common.{◌≡◌, refl, sym, ◌∙◌, ap, subst, ℕ, ◌+◌, Bool, true, false, List, [], ◌∷◌, ◌++◌, append_assoc, length, Option}
-use Rattle.std.proofs.Common.{Some, None, inl}
+use Rattle.std.proofs.Common.{Some, None}
 use Rattle.std.specs.Prelude.{◌&&◌, nat_le}
-use Rattle.std.specs.List.{AllByRecursion, list_all}
+use Rattle.std.specs.List.{list_all}
 use Rattle.std.proofs.Math.Bool.{and-false}
-use Rattle.toml_edit_model.specs.Mode.{Mode}
-use Rattle.toml_edit_model.specs.Text.{Text}
-use Rattle.toml_edit_model.specs.Syntax.{Segment, Frame, Value, Header, Statement, key_line, header, Document, path_text, depth}
+use Rattle.toml_edit_model.specs.Syntax.{Segment, Statement, key_line, header, Document, path_text, depth}
 use Rattle.toml_edit_model.specs.Syntax.{nesting_limit, is_short, has_short_keys, keeps_ranges}
-use Rattle.toml_edit_model.specs.Paths.{Mention, Source, Placed, Context, source_of, mentions_of, path_start, context_after, start_context}
+use Rattle.toml_edit_model.specs.Paths.{Placed, Context, context_after, start_context}
 use Rattle.toml_edit_model.specs.Paths.{placed_from, placed}
 use Rattle.toml_edit_model.specs.Accepted.{agree, has_agreeing_pairs, is_sound, is_accepted}
 use Rattle.toml_edit_model.specs.Faults.{Fault, first_clash, statement_clash, long_path, value_faults, own_faults, faults_in}
-use Rattle.toml_edit_model.specs.Tree.{Node, Slots}
-use Rattle.toml_edit_model.specs.TreeOf.{spanned_in, AreSlotsOf}
 use Rattle.toml_edit_laws.specs.OneByOne.{is_right_after, all_right_after, first_faults}
-use Rattle.toml_edit_laws.specs.TableTree.{own_mentions}
-use Rattle.toml_edit_laws.specs.TableClash.{line_clash, header_clash, table_way_fault, table_way_faults}
 use Rattle.toml_edit_laws.specs.Building.{context_from, context_behind, done_places}
 use Rattle.toml_edit_laws.proofs.common.Tests.{and_left, and_right, and-assoc, append-nil}
-use Rattle.toml_edit_laws.proofs.common.Members.{Among, among-right}
+use Rattle.toml_edit_laws.proofs.common.Members.{Among}
 use Rattle.toml_edit_laws.proofs.values.ValueFaults.{is_empty-nil, is_right_value-faults}
 use Rattle.toml_edit_laws.proofs.inline_tables.AgreeLaws.{agree-clash}
-use Rattle.toml_edit_laws.proofs.clashes.LineClash.{line_agrees}
-use Rattle.toml_edit_laws.proofs.clashes.HeaderClash.{header_agrees}
-use Rattle.toml_edit_laws.proofs.clashes.ClashFaults.{agree-below, line_fault, header_fault}
-use Rattle.toml_edit_laws.proofs.clashes.ClashContext.{HasKey, before_none, agree-each, before_all}
+use Rattle.toml_edit_laws.proofs.clashes.ClashContext.{agree-each}
 use Rattle.toml_edit_laws.proofs.mentions.Placed.{mentions_in, placed_at}
 use Rattle.toml_edit_laws.proofs.common.OptionSteps.{is_none}
-use Rattle.toml_edit_laws.proofs.clashes.ClashMentions.{statements-under_path}
 use Rattle.toml_edit_laws.proofs.one_by_one.Together.{accepted-is}
-use Rattle.toml_edit_laws.specs.KeptKeys.{under_path}
 use Rattle.toml_edit_model.specs.Roles.{may_meet}
-use Rattle.toml_edit_model.specs.TableMentions.{kept}
 
 -- ---- right statements have no faults
 
@@ -128,62 +116,3 @@ stops d done s rest f is right wrong among =
           (subst (Among f) (sym (first-after [] (done_places d done) (here ∷ later) right))
           (first-among (done_places d done) later here f among)),
     )
-
--- one that doesn't agree with them isn't right
-pub off-wrong : (earlier : List Placed) (here : Placed) → agree may_meet (mentions_in earlier) here.mentions ≡ false
-    → is_right_after earlier here ≡ false
-off-wrong earlier here off =
-    ap (λ b. is_sound here.source.statement && b) (agree-each earlier here.mentions ∙ off) ∙ and-false (is_sound here.source.statement)
-
-refused : (d : Document) (done : List Statement) (s : Statement) (rest : List Statement) (f : Fault) → d.statements ≡ done ++ (s ∷ rest)
-    → all_right_after [] (done_places d done) ≡ true → agree may_meet (mentions_in (done_places d done))
-    (mentions_of (context_behind d done) s) ≡ false
-    → Among f (faults_in (done_places d done) (placed_at (context_behind d done) s)) → (is_accepted d ≡ false)
-    × Among f (first_faults [] (placed d))
-refused d done s rest f is right off among =
-    stops d done s rest f is right (off-wrong (done_places d done) (placed_at (context_behind d done) s) off) among
-
-module _ (mode : Mode) where
-  -- A header that can't be added after right statements makes the document faulty, and its fault is one of those.
-  pub header_refused : (d : Document) (done : List Statement) (h : Header) (end : Text) (rest : List Statement) (ss : Slots)
-      (x : Mention Source × Node)
-      → d.statements ≡ done ++ (header h end ∷ rest) → AllByRecursion HasKey done → all_right_after [] (done_places d done) ≡ true
-      → AreSlotsOf (spanned_in mode) (mentions_in (done_places d done)) (kept (mentions_in (done_places d done))) ss
-      → header_clash h.is_array (own_mentions (context_behind d done) (header h end)) ss ≡ Some x
-      → (is_accepted d ≡ false) × Among (table_way_fault x) (first_faults [] (placed d))
-  header_refused d done h end rest ss x is keyed right slots clashes =
-      let c = context_behind d done in
-      let before = before_all (start_context d) done [] keyed (before_none d) right in
-      let off : agree may_meet (mentions_in (done_places d done)) (mentions_of c (header h end)) ≡ false =
-      header_agrees mode h.is_array (source_of c (header h end)) c.arrays (c.start
-      + path_start (header h end)) h.path (mentions_in (done_places d done)) ss before.statements before.counted slots
-      ∙ ap is_none clashes in
-      let faults = header_fault mode c h end (done_places d done) ss before.statements before.counted slots
-      ∙ ap (λ o. own_faults c.start (header h end) ++ table_way_faults o) clashes in
-      refused d done (header h end) rest (table_way_fault x) is right off
-      (subst (Among (table_way_fault x)) (sym faults) (among-right (table_way_fault x) (own_faults c.start (header h end))
-      (table_way_fault x ∷ []) (inl refl)))
-
-  -- So does a key line that can't be added to the slots of its block's table.
-  pub line_refused : (d : Document) (done : List Statement) (f : Frame) (v : Value) (end : Text) (rest : List Statement) (ss : Slots)
-      (x : Mention Source × Node)
-      → d.statements ≡ done ++ (key_line f v end ∷ rest) → AllByRecursion HasKey done → all_right_after [] (done_places d done) ≡ true
-      → AreSlotsOf (spanned_in mode) (under_path (context_behind d done).block (mentions_in (done_places d done)))
-      (kept (under_path (context_behind d done).block (mentions_in (done_places d done)))) ss
-      → line_clash (own_mentions (context_behind d done) (key_line f v end)) ss ≡ Some x
-      → (is_accepted d ≡ false) × Among (table_way_fault x) (first_faults [] (placed d))
-  line_refused d done f v end rest ss x is keyed right slots clashes =
-      let c = context_behind d done in
-      let ms = mentions_in (done_places d done) in
-      let source = source_of c (key_line f v end) in
-      let start = c.start + path_start (key_line f v end) in
-      let before = before_all (start_context d) done [] keyed (before_none d) right in
-      let here = statements-under_path c.block ms before.statements in
-      let off : agree may_meet ms (mentions_of c (key_line f v end)) ≡ false =
-      agree-below c.block source start f.path ms ∙ line_agrees mode source start f.path (under_path c.block ms) ss here slots
-      ∙ ap is_none clashes in
-      let faults = line_fault mode c f v end (done_places d done) ss here slots
-      ∙ ap (λ o. own_faults c.start (key_line f v end) ++ table_way_faults o) clashes in
-      refused d done (key_line f v end) rest (table_way_fault x) is right off
-      (subst (Among (table_way_fault x)) (sym faults) (among-right (table_way_fault x) (own_faults c.start (key_line f v end))
-      (table_way_fault x ∷ []) (inl refl)))

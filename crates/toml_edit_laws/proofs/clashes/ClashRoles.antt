@@ -22,6 +22,8 @@ use Rattle.toml_edit_laws.proofs.mentions.RoleTests.{is_through_role, by_role, i
 use Rattle.toml_edit_model.specs.Roles.{Role, dotted_role, implied_role, header_role, array_role, value_role, continued_role}
 use Rattle.toml_edit_model.specs.Roles.{is_header_role, is_value_role, is_dotted_role, is_array_role}
 use Rattle.toml_edit_model.specs.TableMentions.{under, own, roles, kept, some_at}
+use Rattle.toml_edit_model.specs.Lists.{is_tables_node, is_dotted_table}
+use Rattle.toml_edit_model.specs.Shown.{is_table_node}
 
 module _ (mode : Mode) where
   -- ---- the item of a key
@@ -38,22 +40,9 @@ module _ (mode : Mode) where
       → IsFound ms (first_of_key k ks) (node_at k ss)
   node-found ms ks k ss h = slots-find (spanned_in mode) ms ks k ss h
 
--- what an item is
-abbrev pub is_array_node : Node → Bool
-is_array_node (tables e xs) = true
-is_array_node _ = false
-
-abbrev pub is_dotted_node : Node → Bool
-is_dotted_node (table f ss) = f.is_dotted
-is_dotted_node _ = false
-
 abbrev pub is_headed_node : Node → Bool
 is_headed_node (table f ss) = not f.is_implicit
 is_headed_node _ = false
-
-abbrev pub is_table_node : Node → Bool
-is_table_node (table f ss) = true
-is_table_node _ = false
 
 -- ---- roles at its path
 
@@ -61,10 +50,10 @@ is_table_node _ = false
 -- those of tables, of a header where it isn't implicit and of a dotted key where it is dotted.
 pub record AreRolesOf (ms : List (Mention Source)) (p : Path) (n : Node) : Type 0 where
   pub value : some_at is_value_role p ms ≡ is_value_node n
-  pub array : some_at is_array_role p ms ≡ is_array_node n
+  pub array : some_at is_array_role p ms ≡ is_tables_node n
   pub table : some_at is_table_role p ms ≡ is_table_node n
   pub headed : some_at is_header_role p ms ≡ is_headed_node n
-  pub dotted : some_at is_dotted_role p ms ≡ is_dotted_node n
+  pub dotted : some_at is_dotted_role p ms ≡ is_dotted_table n
 
 -- no role of a table, and so no header and no dotted key
 pub no-table : (p : Path) (ms : List (Mention Source)) → some_at is_table_role p ms ≡ false → (some_at is_header_role p ms ≡ false)
@@ -75,7 +64,7 @@ no-table p ms h = (
 )
 
 value-roles : (p : Path) (ms : List (Mention Source)) (n : Node) → AreOfStatements ms → some_at is_value_role p ms ≡ true
-    → is_value_node n ≡ true → is_array_node n ≡ false → is_table_node n ≡ false → is_headed_node n ≡ false → is_dotted_node n ≡ false
+    → is_value_node n ≡ true → is_tables_node n ≡ false → is_table_node n ≡ false → is_headed_node n ≡ false → is_dotted_table n ≡ false
     → AreRolesOf ms p n
 value-roles p ms n are h v a t e d =
     let none = kinds-apart is_value_role is_table_role p ms refl are.meeting h in
@@ -89,7 +78,7 @@ value-roles p ms n are h v a t e d =
     }
 
 array-roles : (p : Path) (ms : List (Mention Source)) (n : Node) → AreOfStatements ms → some_at is_array_role p ms ≡ true
-    → is_value_node n ≡ false → is_array_node n ≡ true → is_table_node n ≡ false → is_headed_node n ≡ false → is_dotted_node n ≡ false
+    → is_value_node n ≡ false → is_tables_node n ≡ true → is_table_node n ≡ false → is_headed_node n ≡ false → is_dotted_table n ≡ false
     → AreRolesOf ms p n
 array-roles p ms n are h v a t e d =
     let none = kinds-apart is_array_role is_table_role p ms refl are.meeting h in

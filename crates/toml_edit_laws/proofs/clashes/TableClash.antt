@@ -12,23 +12,25 @@ use Rattle.toml_edit_laws.proofs.common.Tests.{or-left, or-right}
 use Rattle.toml_edit_laws.proofs.mentions.GatherLaws.{deeper, all_deeper, unmentioned-none}
 use Rattle.toml_edit_laws.proofs.inline_tables.AgreeLaws.{clash-none, both_deeper, clash-deeper, clash-at, clash-free}
 use Rattle.toml_edit_laws.proofs.clashes.ClashMentions.{is_table_role, some_at-or, AreOfStatements}
-use Rattle.toml_edit_laws.proofs.clashes.ClashRoles.{AreRolesOf, IsStanding, is_array_node, is_table_node, is_headed_node, is_dotted_node}
+use Rattle.toml_edit_laws.proofs.clashes.ClashRoles.{AreRolesOf, IsStanding, is_headed_node}
 use Rattle.toml_edit_laws.proofs.mentions.SomeAt.{some_at-under, some_at-less}
 use Rattle.toml_edit_laws.proofs.common.OptionSteps.{is_none}
 use Rattle.toml_edit_laws.proofs.mentions.RoleTests.{by_role, implies}
 use Rattle.toml_edit_model.specs.Roles.{Role, dotted_role, implied_role, header_role, array_role, value_role, continued_role, may_meet}
 use Rattle.toml_edit_model.specs.Roles.{is_header_role, is_value_role, any_role, is_dotted_role, is_array_role}
 use Rattle.toml_edit_model.specs.TableMentions.{under, some_at}
+use Rattle.toml_edit_model.specs.Lists.{is_tables_node, is_dotted_table}
+use Rattle.toml_edit_model.specs.Shown.{is_table_node}
 
 -- ---- the roles that an item refuses
 
 -- an item stands in the way of a role
 abbrev pub blocks : Role → Node → Bool
-blocks dotted_role n = is_headed_node n || (is_array_node n || is_value_node n)
-blocks implied_role n = is_array_node n || is_value_node n
-blocks header_role n = (is_headed_node n || is_dotted_node n) || (is_array_node n || is_value_node n)
+blocks dotted_role n = is_headed_node n || (is_tables_node n || is_value_node n)
+blocks implied_role n = is_tables_node n || is_value_node n
+blocks header_role n = (is_headed_node n || is_dotted_table n) || (is_tables_node n || is_value_node n)
 blocks array_role n = is_table_node n || is_value_node n
-blocks value_role n = is_table_node n || (is_array_node n || is_value_node n)
+blocks value_role n = is_table_node n || (is_tables_node n || is_value_node n)
 blocks continued_role n = false
 
 abbrev refuses : Role → Role → Bool
@@ -89,12 +91,12 @@ blocked : (r : Role) (p : Path) (ms : List (Mention Source)) (n : Node) → AreR
     ≡ blocks r n
 blocked r p ms n h = some_at-same (λ q. not (may_meet q r)) (refuses r) p ms (refuses-is r) ∙ by_later r
   where
-    array_or_value : some_at (λ q. is_array_role q || is_value_role q) p ms ≡ (is_array_node n || is_value_node n)
+    array_or_value : some_at (λ q. is_array_role q || is_value_role q) p ms ≡ (is_tables_node n || is_value_node n)
     array_or_value =
         some_at-or is_array_role is_value_role p ms ∙ ap (λ b. b || some_at is_value_role p ms) h.array
-        ∙ ap (λ b. is_array_node n || b) h.value
+        ∙ ap (λ b. is_tables_node n || b) h.value
 
-    headed_or_dotted : some_at (λ q. is_header_role q || is_dotted_role q) p ms ≡ (is_headed_node n || is_dotted_node n)
+    headed_or_dotted : some_at (λ q. is_header_role q || is_dotted_role q) p ms ≡ (is_headed_node n || is_dotted_table n)
     headed_or_dotted =
         some_at-or is_header_role is_dotted_role p ms ∙ ap (λ b. b || some_at is_dotted_role p ms) h.headed
         ∙ ap (λ b. is_headed_node n || b) h.dotted
@@ -107,7 +109,7 @@ blocked r p ms n h = some_at-same (λ q. not (may_meet q r)) (refuses r) p ms (r
     by_later header_role =
         some_at-or (λ q. is_header_role q || is_dotted_role q) (λ q. is_array_role q || is_value_role q) p ms
         ∙ ap (λ b. b || some_at (λ q. is_array_role q || is_value_role q) p ms) headed_or_dotted
-        ∙ ap (λ b. (is_headed_node n || is_dotted_node n) || b) array_or_value
+        ∙ ap (λ b. (is_headed_node n || is_dotted_table n) || b) array_or_value
     by_later array_role =
         some_at-or is_table_role is_value_role p ms ∙ ap (λ b. b || some_at is_value_role p ms) h.table
         ∙ ap (λ b. is_table_node n || b) h.value
@@ -154,7 +156,7 @@ value-meets array_role n h = refl
 value-meets value_role n h = refl
 value-meets continued_role n h = absurd cc
 
-other-kind : (r : Role) (n : Node) → blocks r n ≡ true → is_value_node n ≡ false → (is_table_node n || is_array_node n) ≡ true
+other-kind : (r : Role) (n : Node) → blocks r n ≡ true → is_value_node n ≡ false → (is_table_node n || is_tables_node n) ≡ true
 other-kind r (table f ss) h e = refl
 other-kind r (tables x xs) h e = refl
 other-kind r (leaf s x d) h e = absurd cc
@@ -195,7 +197,7 @@ module _ (mode : Mode) where
   -- The item in the way is of the earlier mention: its value, or a table or array of tables.
   abbrev pub IsInTheWay : Mention Source → Node → Type 0
   IsInTheWay e n =
-      MatchBool (is_value_role e.role) (IsLineNode (spanned_in mode) e.source e.source.statement n) ((is_table_node n || is_array_node n)
+      MatchBool (is_value_role e.role) (IsLineNode (spanned_in mode) e.source e.source.statement n) ((is_table_node n || is_tables_node n)
       ≡ true)
 
   abbrev pub IsBlocked : List (Mention Source) → Mention Source → Node → Type 0
@@ -214,13 +216,13 @@ module _ (mode : Mode) where
             j,
             clash-at may_meet m j ms first (ap (λ r. may_meet r m.role) role ∙ value-meets m.role n g),
             subst (λ r. MatchBool (is_value_role r) (IsLineNode (spanned_in mode) j.source j.source.statement n) ((is_table_node n
-                || is_array_node n) ≡ true)) (sym role) line,
+                || is_tables_node n) ≡ true)) (sym role) line,
           )
       in_way false v g =
           let (e, found, others) = clash-found m ms (blocked m.role m.path ms n h.roles ∙ g) in (
             e,
             found,
-            subst (λ b. MatchBool b (IsLineNode (spanned_in mode) e.source e.source.statement n) ((is_table_node n || is_array_node n)
+            subst (λ b. MatchBool b (IsLineNode (spanned_in mode) e.source e.source.statement n) ((is_table_node n || is_tables_node n)
                 ≡ true))
                 (sym (others is_value_role (h.roles.value ∙ v))) (other-kind m.role n g v),
           )

@@ -170,7 +170,7 @@ module _ (makes : Bool) (k : Text) (go : Node → Answer Node) (R : Node → Nod
 
 -- ---- set
 
-decor-made : (d : Decor) (v : Node) → IsWellMade v → IsWellMade (with_decor d v)
+pub decor-made : (d : Decor) (v : Node) → IsWellMade v → IsWellMade (with_decor d v)
 decor-made d (leaf s r e) w = w
 decor-made d (list f xs) w = w
 decor-made d (inline f ss) w = w

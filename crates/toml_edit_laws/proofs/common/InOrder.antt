@@ -1,16 +1,16 @@
 -- The sort by insertion is a list in order: the same elements, sorted, and stable.
 use Rattle.std.proofs.Common.{◌≡◌, refl, ◌∙◌, ap, Bool, true, false, pos, List, [], ◌∷◌}
-use Rattle.std.specs.Prelude.{◌&&◌, ◌||◌, not, int_le, filter, if◌then◌else◌}
+use Rattle.std.specs.Prelude.{filter, if◌then◌else◌}
 use Rattle.std.specs.List.Sorted.{IsPermutation}
 use Rattle.std.proofs.lemmas.List.Sorted.{IsPermutation-refl, IsPermutation-sym, IsPermutation-cons, IsPermutation-trans}
 use Rattle.std.proofs.lemmas.List.Sorted.{IsPermutation-middle}
 use Rattle.toml_edit_model.specs.Order.{is_level, is_sorted_by, IsInOrder, insert_by, sorted_by}
 use Rattle.toml_edit_model.specs.Paths.{Mention, Source, Placed}
 use Rattle.toml_edit_model.specs.Normal.{is_line, line_before, ordered}
-use Rattle.toml_edit_model.specs.HeaderOrder.{PlacedVisit as PlacedVisit, is_root, comes_before, walk, places_from}
+use Rattle.toml_edit_model.specs.HeaderOrder.{comes_before, walk, places_from}
 use Rattle.toml_edit_laws.specs.InOrder.{HeadersInOrder}
-use Rattle.toml_edit_laws.proofs.common.OrderLaws.{int_le-total, int_le-trans}
 use Rattle.toml_edit_laws.proofs.common.Tests.{and_left, and_right, and_both, true-false}
+use Rattle.toml_edit_laws.proofs.common.Visits.{before-total, before-trans}
 
 -- ---- the same elements
 
@@ -109,23 +109,5 @@ module _ {A : Type 0} (before : A → A → Bool) (total : (a b : A) → before 
 
 -- ---- the order of headers
 
-comes-total : (g h : PlacedVisit) → comes_before g h ≡ false → comes_before h g ≡ true
-comes-total g h e = by_roots (is_root g.1) (is_root h.1) e
-  where
-    by_roots : (a b : Bool) → (a || (not b && int_le g.0 h.0)) ≡ false → (b || (not a && int_le h.0 g.0)) ≡ true
-    by_roots true b e = absurd cc
-    by_roots false true e = refl
-    by_roots false false e = int_le-total g.0 h.0 e
-
-comes-on : (f g h : PlacedVisit) → comes_before f g ≡ true → comes_before g h ≡ true → comes_before f h ≡ true
-comes-on f g h p q = by_roots (is_root f.1) (is_root g.1) (is_root h.1) p q
-  where
-    by_roots : (a b c : Bool) → (a || (not b && int_le f.0 g.0)) ≡ true → (b || (not c && int_le g.0 h.0)) ≡ true
-        → (a || (not c && int_le f.0 h.0)) ≡ true
-    by_roots true b c p q = refl
-    by_roots false true c p q = absurd cc
-    by_roots false false true p q = absurd cc
-    by_roots false false false p q = int_le-trans f.0 g.0 h.0 p q
-
 pub headers-in-order : HeadersInOrder
-headers-in-order t = in-order comes_before comes-total comes-on (places_from (pos 0) (walk t))
+headers-in-order t = in-order comes_before before-total before-trans (places_from (pos 0) (walk t))

@@ -10,7 +10,8 @@ use Rattle.toml_edit_laws.proofs.common.Tests.{if-true, if-false}
 use Rattle.toml_edit_model.specs.Order.{insert_by, sorted_by}
 
 -- what holds of an inserted element and the others
-all-inserted : {A : Type 0} (P : A → Type 0) (before : A → A → Bool) (a : A) (xs : List A) → AllByRecursion P (insert_by before a xs) → P a
+pub all-inserted : {A : Type 0} (P : A → Type 0) (before : A → A → Bool) (a : A) (xs : List A) → AllByRecursion P (insert_by before a xs)
+    → P a
     × AllByRecursion P xs
 all-inserted P before a [] h = (h.0, tt)
 all-inserted {A} P before a (x ∷ xs) h = by_test (before a x) h (all-inserted P before a xs)

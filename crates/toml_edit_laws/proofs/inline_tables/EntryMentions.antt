@@ -13,6 +13,7 @@ use Rattle.toml_edit_laws.proofs.mentions.KeptMentions.{moved, Lifted, under-has
 use Rattle.toml_edit_model.specs.Roles.{Role, dotted_role, implied_role, header_role, array_role, value_role, continued_role}
 use Rattle.toml_edit_model.specs.Roles.{may_meet_inline, is_header_role}
 use Rattle.toml_edit_model.specs.TableMentions.{under}
+use Rattle.toml_edit_laws.specs.InlineTree.{next_pair}
 
 -- The mentions at and below a key: of dotted keys and of values, each named by the last key of its path, together with each key on
 -- the way to it, with nothing else at or below a value, and with something below a dotted key.
@@ -116,23 +117,19 @@ EachValue P no_pairs = Unit {0}
 EachValue P (pair f v ps) = P v × EachValue P ps
 
 module _ (form : Form) where
-  -- the byte of the pair after this one
-  abbrev after_pair : ℕ → Frame → Value → ℕ
-  after_pair i f v = i + length (frame_text f (value_text v)) + 1
-
   abbrev own_mentions : ℕ → Frame → Value → List (Mention Entry)
   own_mentions i f v = line_mentions (entry_of form i f v) (i + length f.leading) [] f.path
 
   abbrev rest_of : Frame → Value → Pairs → ℕ → List (Mention Entry)
-  rest_of f v ps i = entries form ps (after_pair i f v)
+  rest_of f v ps i = entries form ps (next_pair i f v)
 
   -- each lies below the table
   pub entry-below : (ps : Pairs) (i : ℕ) (m : Mention Entry) → Among m (entries form ps i) → (s : Step) × (q : Path) × (m.path ≡ s ∷ q)
   entry-below no_pairs i m h = elim h [ ]
   entry-below (pair f v ps) i m h =
-      elim (among-cases m (own_mentions i f v) (entries form ps (after_pair i f v)) h) [
+      elim (among-cases m (own_mentions i f v) (entries form ps (next_pair i f v)) h) [
         | inl a ↦ below (entry_of form i f v) (i + length f.leading) [] f.path m a
-        | inr b ↦ entry-below ps (after_pair i f v) m b
+        | inr b ↦ entry-below ps (next_pair i f v) m b
       ]
 
   -- mentions that agree with those of the pairs
@@ -141,14 +138,14 @@ module _ (form : Form) where
       → Among m earlier → Among n (entries form ps i) → m.path ≡ n.path → may m.role n.role ≡ true
   cross may earlier start number no_pairs i h m n a b e = elim b [ ]
   cross may earlier start number (pair f v ps) i h m n a b e =
-      elim (among-cases n (own_mentions i f v) (entries form ps (after_pair i f v)) b) [
+      elim (among-cases n (own_mentions i f v) (entries form ps (next_pair i f v)) b) [
         | inl g ↦
             let t = twin (entry_of form i f v) (record { frame = f; value = v }) (i + length f.leading) (start
             + length f.leading) [] f.path n g in
             subst (λ r. may m.role r ≡ true) t.3 (agree-may may earlier _ m t.0 (and_left _ _ h) a t.1 (e ∙ sym t.2))
         | inr g ↦
             cross may earlier (start + length (frame_text f (value_text v))
-            + 1) (suc number) ps (after_pair i f v) (and_right _ _ h) m n a g e
+            + 1) (suc number) ps (next_pair i f v) (and_right _ _ h) m n a g e
       ]
 
   entry-roles : (ps : Pairs) (i : ℕ) (m : Mention Entry) → Among m (entries form ps i) → (m.role ≡ dotted_role) ⊎ (m.role ≡ value_role)
@@ -156,7 +153,7 @@ module _ (form : Form) where
   entry-roles (pair f v ps) i m h =
       elim (among-cases m (own_mentions i f v) (rest_of f v ps i) h) [
         | inl a ↦ line-role (entry_of form i f v) (i + length f.leading) [] f.path m a
-        | inr b ↦ entry-roles ps (after_pair i f v) m b
+        | inr b ↦ entry-roles ps (next_pair i f v) m b
       ]
 
   entry-named : (ps : Pairs) (i : ℕ) (m : Mention Entry) → Among m (entries form ps i) → (q : Path) (s : Step) → m.path ≡ q ++ (s ∷ [])
@@ -167,7 +164,7 @@ module _ (form : Form) where
         | inl a ↦
             let is = line-named (entry_of form i f v) (i + length f.leading) [] f.path m a in
             same-last q is.0 s (at_key m.segment.key) (sym e ∙ is.1)
-        | inr b ↦ entry-named ps (after_pair i f v) m b q s e
+        | inr b ↦ entry-named ps (next_pair i f v) m b q s e
       ]
 
   entry-closed : (ps : Pairs) (i : ℕ) (m : Mention Entry) → Among m (entries form ps i) → (s : Step) (q r : Path) → m.path ≡ s ∷ (q ++ r)
@@ -179,7 +176,7 @@ module _ (form : Form) where
             let found = line-closed (entry_of form i f v) (i + length f.leading) [] f.path m a s q r e in
             (found.0, among-left found.0 (own_mentions i f v) (rest_of f v ps i) found.1, found.2)
         | inr b ↦
-            let found = entry-closed ps (after_pair i f v) m b s q r e in
+            let found = entry-closed ps (next_pair i f v) m b s q r e in
             (found.0, among-right found.0 (own_mentions i f v) (rest_of f v ps i) found.1, found.2)
       ]
 
@@ -192,7 +189,7 @@ module _ (form : Form) where
             let found = line-shows (entry_of form i f v) (i + length f.leading) [] f.path m a d in
             (found.0, found.1, found.2, among-left found.0 (own_mentions i f v) (rest_of f v ps i) found.3, found.4)
         | inr b ↦
-            let found = entry-shows ps (after_pair i f v) m b d in
+            let found = entry-shows ps (next_pair i f v) m b d in
             (found.0, found.1, found.2, among-right found.0 (own_mentions i f v) (rest_of f v ps i) found.3, found.4)
       ]
 
@@ -207,22 +204,22 @@ module _ (form : Form) where
               | inl y ↦ line-alone (entry_of form i f w) (i + length f.leading) [] f.path m n x y v r e
               | inr y ↦
                   let at = below (entry_of form i f w) (i + length f.leading) [] f.path m x in
-                  let met = entry-closed ps (after_pair i f w) n y at.0 at.1 r (e ∙ ap (λ p. p ++ r) at.2) in
+                  let met = entry-closed ps (next_pair i f w) n y at.0 at.1 r (e ∙ ap (λ p. p ++ r) at.2) in
                   let t = twin (entry_of form i f w) own_source (i + length f.leading) (start + length f.leading) [] f.path m x in
                   absurd (no-value-first met.0.role (subst (λ k. may_meet_inline k met.0.role ≡ true) (t.3 ∙ v)
-                  (cross may_meet_inline _ _ 0 ps (after_pair i f w) (and_left _ _ h) t.0 met.0 t.1 met.1 (t.2 ∙ at.2 ∙ sym met.2))))
+                  (cross may_meet_inline _ _ 0 ps (next_pair i f w) (and_left _ _ h) t.0 met.0 t.1 met.1 (t.2 ∙ at.2 ∙ sym met.2))))
             ]
         | inr x ↦
             elim (among-cases n (own_mentions i f w) (rest_of f w ps i) b) [
               | inl y ↦
-                  let at = entry-below ps (after_pair i f w) m x in
+                  let at = entry-below ps (next_pair i f w) m x in
                   let met = line-closed (entry_of form i f w) (i + length f.leading) [] f.path n y at.0 at.1 r (e
                   ∙ ap (λ p. p ++ r) at.2) in
                   let t = twin (entry_of form i f w) own_source (i + length f.leading) (start + length f.leading) [] f.path met.0 met.1 in
                   absurd (no-value-last t.0.role (subst (λ k. may_meet_inline t.0.role k ≡ true) v
-                  (cross may_meet_inline _ _ 0 ps (after_pair i f w) (and_left _ _ h) t.0 m t.1 x (t.2 ∙ met.2 ∙ sym at.2))))
+                  (cross may_meet_inline _ _ 0 ps (next_pair i f w) (and_left _ _ h) t.0 m t.1 x (t.2 ∙ met.2 ∙ sym at.2))))
               | inr y ↦ entry-alone (start + length (frame_text f (value_text w))
-                  + 1) (suc number) ps (after_pair i f w) (and_right _ _ h) m n x y v r e
+                  + 1) (suc number) ps (next_pair i f w) (and_right _ _ h) m n x y v r e
             ]
       ]
     where
@@ -247,5 +244,5 @@ module _ (form : Form) where
   entry-value P (pair f v ps) i h m a =
       elim (among-cases m (own_mentions i f v) (rest_of f v ps i) a) [
         | inl x ↦ subst (λ e. P e.value) (sym (line-source (entry_of form i f v) (i + length f.leading) [] f.path m x)) h.0
-        | inr y ↦ entry-value P ps (after_pair i f v) h.1 m y
+        | inr y ↦ entry-value P ps (next_pair i f v) h.1 m y
       ]

@@ -1,7 +1,7 @@
 -- The first fault among the pairs of an inline table is where one can't be added to the slots of those before it.
-use Rattle.std.proofs.Common.{◌≡◌, refl, sym, ◌∙◌, ap, subst, ℕ, suc, ◌+◌, Bool, true, false, List, [], ◌∷◌, ◌++◌, append_assoc, length}
+use Rattle.std.proofs.Common.{◌≡◌, refl, sym, ◌∙◌, ap, ℕ, suc, ◌+◌, Bool, true, false, List, [], ◌∷◌, ◌++◌, append_assoc, length}
 use Rattle.std.proofs.Common.{Option, Some, None}
-use Rattle.std.specs.Prelude.{◌&&◌, MatchBool, if◌then◌else◌, map, is_some, option_map}
+use Rattle.std.specs.Prelude.{◌&&◌, MatchBool, if◌then◌else◌, map, option_map}
 use Rattle.std.specs.List.{list_all}
 use Rattle.std.proofs.lemmas.List.{map-append}
 use Rattle.toml_edit_model.specs.Text.{Text}
@@ -10,15 +10,14 @@ use Rattle.toml_edit_model.specs.Paths.{Mention, PairSource, line_mentions, pair
 use Rattle.toml_edit_model.specs.Accepted.{agree, all_agree}
 use Rattle.toml_edit_model.specs.Faults.{Fault, fault, first_clash, type_name, scalar_type, duplicate_key, cannot_extend, is_inline}
 use Rattle.toml_edit_model.specs.Faults.{clash_message, pair_clash, pair_clashes}
-use Rattle.toml_edit_model.specs.Tree.{Node, leaf, list, inline, Items, no_items, item, Slots, no_slots}
+use Rattle.toml_edit_model.specs.Tree.{Node, leaf, list, inline, Slots}
 use Rattle.toml_edit_model.specs.TreeOf.{Form, Entry, entry_of, entries, IsValueNode, AreEntrySlots}
-use Rattle.toml_edit_laws.specs.InlineTree.{add_entry, entry_clash, pair_path, next_pair, followed_by, end_of_pairs, AreKeyed, ArePairNodes}
-use Rattle.toml_edit_laws.specs.InlineTree.{clash_or_later, entries_clash, way_message, way_fault, BeginWith}
-use Rattle.toml_edit_laws.proofs.common.Tests.{append-nil, and_left, and_right, and_both, true-false}
+use Rattle.toml_edit_laws.specs.InlineTree.{entry_clash, pair_path, next_pair, followed_by, end_of_pairs}
+use Rattle.toml_edit_laws.specs.InlineTree.{way_message, way_fault, BeginWith}
+use Rattle.toml_edit_laws.proofs.common.Tests.{append-nil, and_left, and_right, and_both}
 use Rattle.toml_edit_laws.proofs.inline_tables.AgreeLaws.{agree-clash, all_agree-next}
-use Rattle.toml_edit_laws.proofs.inline_tables.AgreeingPairs.{AreAgreeing, agreeing-none, agreeing-line, agreeing-both}
-use Rattle.toml_edit_laws.proofs.inline_tables.InlineBuild.{entry_added}
-use Rattle.toml_edit_laws.proofs.inline_tables.InlineClash.{IsDotted, IsInTheWay, IsSameClash, same-none, entry_clashes, entry_goes}
+use Rattle.toml_edit_laws.proofs.inline_tables.AgreeingPairs.{AreAgreeing}
+use Rattle.toml_edit_laws.proofs.inline_tables.InlineClash.{IsDotted, IsInTheWay, IsSameClash, entry_clashes}
 use Rattle.toml_edit_laws.proofs.inline_tables.InlinePairs.{entry_paths, agreement-of, all-with-none}
 use Rattle.toml_edit_laws.proofs.inline_tables.MentionSources.{sourced, both_sourced, line-sourced, clash-sourced}
 use Rattle.toml_edit_laws.proofs.common.OptionSteps.{is_none}
@@ -145,56 +144,6 @@ module _ (form : Form) where
       ∙ ap value_clash (clash-sourced value_of_entry may_meet_inline ms path)
       ∙ same-fault (entry_clash path ss) (first_clash may_meet_inline ms path)
       (entry_clashes form (entry_of form start f v) (start + length f.leading) f.path ms ss are h)
-
-  -- ---- pair by pair
-
-  first-all : (ps : Pairs) (start : ℕ) (ns : Items) (ms : List (Mention Entry)) (ss : Slots) → AreKeyed ps → ArePairNodes form ps start ns
-      → AreAgreeing ms → AreEntrySlots form ms (kept ms) ss
-      → BeginWith (entries_clash form ps start ns ss) (value_clashes (map (sourced value_of_entry) ms) (value_paths start ps))
-  first-all no_pairs start ns ms ss keyed nodes are h = refl
-  first-all (pair f v ps) start no_items ms ss keyed nodes are h = absurd nodes
-  first-all (pair f v ps) start (item n ns) ms ss keyed nodes are h =
-      subst (λ fs. BeginWith (clash_or_later (entry_clash path ss) (add_entry form path n ss)
-      (entries_clash form ps (next_pair start f v) ns)) (fs ++ others)) (sym (one-fault f v start ms ss are h))
-      (by_clash (entry_clash path ss) refl (add_entry form path n ss) refl
-      (λ between added agreed. subst (λ es. BeginWith (entries_clash form ps (next_pair start f v) ns between)
-      (value_clashes es (value_paths (next_pair start f v) ps))) (values-after f v start ms)
-      (first-all ps (next_pair start f v) ns (ms ++ path) between keyed.1 nodes.1
-      (agreeing-both ms path are (agreeing-line (entry_of form start f v) (start + length f.leading) f.path) agreed)
-      (entry_added form start f v ms n ss between nodes.0 are.pairs h added))))
-    where
-      path : List (Mention Entry)
-      path = pair_path form start f v
-
-      values : List (Mention Value)
-      values = line_mentions v (start + length f.leading) [] f.path
-
-      others : List Fault
-      others = value_clashes (map (sourced value_of_entry) ms ++ values) (value_paths (next_pair start f v) ps)
-
-      alike : IsSameClash form (entry_clash path ss) (first_clash may_meet_inline ms path)
-      alike = entry_clashes form (entry_of form start f v) (start + length f.leading) f.path ms ss are h
-
-      agreement : agree may_meet_inline ms path ≡ is_none (entry_clash path ss)
-      agreement = agree-clash may_meet_inline ms path ∙ sym
-          (same-none form (entry_clash path ss) (first_clash may_meet_inline ms path) alike)
-
-      by_clash : (o : Option (Mention Entry × Node)) → entry_clash path ss ≡ o → (added : Option Slots) → add_entry form path n ss ≡ added
-          → ((between : Slots) → add_entry form path n ss ≡ Some between → agree may_meet_inline ms path ≡ true
-          → BeginWith (entries_clash form ps (next_pair start f v) ns between) others)
-          → BeginWith (clash_or_later o added (entries_clash form ps (next_pair start f v) ns)) (way_faults o ++ others)
-      by_clash (Some c) e added g on = (others, refl)
-      by_clash None e (Some between) g on = on between g (agreement ∙ ap is_none e)
-      by_clash None e None g on =
-          true-false (agree may_meet_inline ms path) (agreement ∙ ap is_none e)
-          (sym (entry_goes form (entry_of form start f v) (start + length f.leading) f.path ms n ss keyed.0 are h) ∙ ap is_some g)
-
-  -- Where the pairs clash, the first fault is that of the first that can't be added; else there is none.
-  pub entries_fault : (ps : Pairs) (start number : ℕ) (ns : Items) → AreKeyed ps → ArePairNodes form ps start ns
-      → BeginWith (entries_clash form ps start ns no_slots) (pair_clashes [] (pair_mentions start ps))
-  entries_fault ps start number ns keyed nodes =
-      subst (BeginWith (entries_clash form ps start ns no_slots)) (sym (clashes-of-values [] start number ps))
-      (first-all ps start ns [] no_slots keyed nodes agreeing-none tt)
 
   -- ---- pairs after pairs
 

@@ -35,7 +35,7 @@ use Rattle.toml_edit_laws.proofs.common.Each.{all-append}
 
 -- ---- the root alone has no keys
 
-leads-keys : (way : List Turn) (s v : Visit) → is_empty s.keys ≡ false → Leads way s v → is_root v ≡ false
+pub leads-keys : (way : List Turn) (s v : Visit) → is_empty s.keys ≡ false → Leads way s v → is_root v ≡ false
 leads-keys [] s v h e = subst (λ (x : Visit). is_empty x.keys ≡ false) e h
 leads-keys (into_table k ∷ way) s v h (l, f, ss, eq, rest) =
     leads-keys way (visit_of (to_key s.path l.name) (s.keys ++ (l ∷ [])) false f ss) v (not_empty-last s.keys l) rest
@@ -43,7 +43,7 @@ leads-keys (into_element k i ∷ way) s v h (l, e, xs, before, f, ss, after, eq,
     leads-keys way (visit_of (to_element (to_key s.path l.name) (element_count before)) (s.keys ++ (l ∷ [])) true f ss) v
     (not_empty-last s.keys l) rest
 
-leads-root : (way : List Turn) (t : Tree) (v : Visit) → Leads way (root_visit t) v → is_root v ≡ true → root_visit t ≡ v
+pub leads-root : (way : List Turn) (t : Tree) (v : Visit) → Leads way (root_visit t) v → is_root v ≡ true → root_visit t ≡ v
 leads-root [] t v e h = e
 leads-root (into_table k ∷ way) t v (l, f, ss, eq, rest) h =
     true-false (is_root v) h (leads-keys way (visit_of (to_key [] l.name) (l ∷ []) false f ss) v refl rest)

@@ -39,6 +39,20 @@ leads-front (into_element k i ∷ way) s v (l, e, xs, before, f, ss, after, d, c
     (front-through s.path r p (front-more s.path (at_key l.name ∷ [])) (front-more r (at_element (element_count before) ∷ [])))
     (leads-front way (visit_of p (s.keys ++ (l ∷ [])) true f ss) v rest)
 
+-- the visits on a way to a table, beside a path below that table
+module _ (q : Path) (v : Visit) (x : Step) (above : is_front (v.path ++ (x ∷ [])) q ≡ true) where
+  pub leads-above : (way : List Turn) (s : Visit) → Leads way s v → is_front s.path q ≡ true
+  leads-above way s e =
+      front-through s.path (v.path ++ (x ∷ [])) q
+      (front-through s.path v.path (v.path ++ (x ∷ [])) (leads-front way s v e) (front-more v.path (x ∷ []))) above
+
+  pub leads-out : (way : List Turn) (s : Visit) → Leads way s v → is_front q s.path ≡ false
+  leads-out way s e =
+      false-by (is_front q s.path)
+      (λ d. true-false (is_front (v.path ++ (x ∷ [])) v.path)
+      (front-through (v.path ++ (x ∷ [])) q v.path above (front-through q s.path v.path d (leads-front way s v e)))
+      (not-longer v.path x))
+
 module _ (mode : Mode) where
   abbrev pub tree_blocks : Tree → List Block
   tree_blocks t = block_of mode (root_visit t) ∷ blocks mode (slots_walk t.slots [] [])
@@ -308,18 +322,6 @@ module _ (mode : Mode) where
         → LineSplice mode q bp (M lk) (N lk) (table_lines mode v.slots lk) (table_lines mode (slots_under g v.slots) lk))
         (edit_blocks : BlockSplice mode q h m n (blocks mode (slots_walk v.slots v.path v.keys))
         (blocks mode (slots_walk (slots_under g v.slots) v.path v.keys))) where
-      leads-above : (way : List Turn) (s : Visit) → Leads way s v → is_front s.path q ≡ true
-      leads-above way s e =
-          front-through s.path (v.path ++ (x ∷ [])) q
-          (front-through s.path v.path (v.path ++ (x ∷ [])) (leads-front way s v e) (front-more v.path (x ∷ []))) above
-
-      leads-out : (way : List Turn) (s : Visit) → Leads way s v → is_front q s.path ≡ false
-      leads-out way s e =
-          false-by (is_front q s.path)
-          (λ d. true-false (is_front (v.path ++ (x ∷ [])) v.path)
-          (front-through (v.path ++ (x ∷ [])) q v.path above (front-through q s.path v.path d (leads-front way s v e)))
-          (not-longer v.path x))
-
       pub along-changes : (way : List Turn) (s : Visit) (bp : Path) (lk : List Key) → below bp lk ≡ s.path → SlotsAreWellMade s.slots
           → AllByRecursion IsFirmVisit (slots_walk s.slots s.path s.keys) → Leads way s v
           → Changes s bp lk (slots_under (along way g) s.slots)
@@ -334,14 +336,15 @@ module _ (mode : Mode) where
           let fd : Found k (keyed l (table f ss)) (slot_list s.slots) = found k s.slots (keyed l (table f ss)) w eq in
           let new : Slots = slots_under (along (into_table k ∷ way) g) s.slots in
           let a : Around mode q s bp lk (keyed l (table f ss)) (keyed l (table f us)) new =
-          around mode q s bp lk k (keyed l (table f ss)) (keyed l (table f us)) new at (leads-above way t rest) fd
+          around mode q s bp lk k (keyed l (table f ss)) (keyed l (table f us)) new at (leads-above q v x above way t rest) fd
           (ap slots_from (fd.change (on_item (on_slots (along way g))))) in
           let firmer : AllByRecursion IsFirmVisit (slots_walk ss p ks) =
           (node-all IsFirmVisit k (keyed l (table f ss)) s.slots s.path s.keys fd firm).1 in
           elim (cases_Bool f.is_dotted) [
             | inl d ↦ dotted-step s bp lk l new f ss us d a
                 (along-changes way t bp (lk ++ (l ∷ [])) (below-last bp lk l ∙ ap (λ z. to_key z l.name) at) fd.made firmer rest)
-            | inr d ↦ inr (table-step s bp lk l new f ss us d a (leads-out way t rest) (along-changes way t p [] refl fd.made firmer rest))
+            | inr d ↦ inr (table-step s bp lk l new f ss us d a (leads-out q v x above way t rest)
+                (along-changes way t p [] refl fd.made firmer rest))
           ]
       along-changes (into_element k i ∷ way) s bp lk at w firm (l, e, xs, before, f, ss, after, eq, items, place, rest) =
           let r : Path = to_key s.path l.name in
@@ -359,7 +362,7 @@ module _ (mode : Mode) where
           ap slots_from (fd.change (on_item (on_items (changed_at i (on_slots (along way g))))))
           ∙ ap (λ z. slots_from (fd.front ++ (keyed l (tables e z) ∷ fd.back))) other in
           let higher : is_front r q ≡ true =
-          front-through r p q (front-more r (at_element (element_count before) ∷ [])) (leads-above way t rest) in
+          front-through r p q (front-more r (at_element (element_count before) ∷ [])) (leads-above q v x above way t rest) in
           let a : Around mode q s bp lk (keyed l (tables e xs)) (keyed l (tables e (items_from (before ++ (table f us ∷ after))))) new =
           around mode q s bp lk k (keyed l (tables e xs)) (keyed l (tables e (items_from (before ++ (table f us ∷ after))))) new at higher
           fd is_new in
@@ -378,12 +381,13 @@ module _ (mode : Mode) where
           let firmer : AllByRecursion IsFirmVisit (slots_walk ss p ks) =
           all-front IsFirmVisit (slots_walk ss p ks) (items_walk (items_from after) r ks (suc (element_count before))) mine.1 in
           let made : SlotsAreWellMade ss = item-made before (table f ss) after (subst ItemsAreWellMade ex fd.made) in
-          inr (element-step s bp lk l new e xs before f ss us after mine.0 ex a (leads-above way t rest) (leads-out way t rest)
+          inr (element-step s bp lk l new e xs before f ss us after mine.0 ex a (leads-above q v x above way t rest)
+          (leads-out q v x above way t rest)
           (along-changes way t p [] refl made firmer rest))
 
       -- the blocks of the tree, that of the root first
       pub whole-tree : (way : List Turn) (t : Tree) → SlotsAreWellMade t.slots → AllByRecursion IsFirmVisit (slots_walk t.slots [] [])
           → Leads way (root_visit t) v → Whole (tree_blocks t) (tree_blocks (edited way g t))
       whole-tree way t w firm e =
-          close (root_visit t) (slots_under (along way g) t.slots) (leads-out way (root_visit t) e)
+          close (root_visit t) (slots_under (along way g) t.slots) (leads-out q v x above way (root_visit t) e)
           (along-changes way (root_visit t) [] [] refl w firm e)

@@ -33,7 +33,8 @@ pub filter-all : {A : Type 0} (test : A → Bool) (xs : List A) → AllByRecursi
 filter-all test [] h = refl
 filter-all test (x ∷ xs) h = rw h.0 (ap (λ ys. x ∷ ys) (filter-all test xs h.1))
 
-filter-alike : {A : Type 0} (first second : A → Bool) → ((x : A) → first x ≡ second x) → (xs : List A) → filter first xs ≡ filter second xs
+pub filter-alike : {A : Type 0} (first second : A → Bool) → ((x : A) → first x ≡ second x) → (xs : List A) → filter first xs
+    ≡ filter second xs
 filter-alike first second same [] = refl
 filter-alike first second same (x ∷ xs) =
     ap (λ b. if b then x ∷ filter first xs else filter first xs) (same x)

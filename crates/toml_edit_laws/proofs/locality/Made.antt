@@ -83,7 +83,7 @@ pub split-made : (k : Text) (s : Slot Node) (ss : Slots) → (fd : Found k s (sl
     → SlotsAreWellMade (slots_from (fd.front ++ (s ∷ fd.back)))
 split-made k s ss fd w = subst SlotsAreWellMade (sym (slots_from-list ss) ∙ ap slots_from fd.is) w
 
-along-made : (way : List Turn) (g : List (Slot Node) → List (Slot Node)) (s v : Visit) → SlotsAreWellMade s.slots → Leads way s v
+pub along-made : (way : List Turn) (g : List (Slot Node) → List (Slot Node)) (s v : Visit) → SlotsAreWellMade s.slots → Leads way s v
     → (SlotsAreWellMade v.slots → SlotsAreWellMade (slots_under g v.slots)) → SlotsAreWellMade (slots_under (along way g) s.slots)
 along-made [] g s v w e go = subst (λ (x : Visit). SlotsAreWellMade x.slots → SlotsAreWellMade (slots_under g x.slots)) (sym e) go w
 along-made (into_table k ∷ way) g s v w (l, f, ss, eq, rest) go =

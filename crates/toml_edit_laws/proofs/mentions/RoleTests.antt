@@ -1,10 +1,9 @@
 -- Roles of lines and of headers.
 use Rattle.std.proofs.Common.{false, Bool, true, refl, ◌≡◌}
-use Rattle.toml_edit_laws.proofs.normal_texts.Trims.{is_last_role}
 use Rattle.std.specs.Prelude.{if◌then◌else◌, ◌&&◌}
 use Rattle.toml_edit_laws.proofs.common.Tests.{and_left, and_right}
 use Rattle.toml_edit_model.specs.Roles.{Role, header_role, array_role, value_role, dotted_role, continued_role, implied_role, is_array_role}
-use Rattle.toml_edit_model.specs.Roles.{is_header_role}
+use Rattle.toml_edit_model.specs.Roles.{is_header_role, ends_path}
 
 abbrev pub is_bracket_role : Role → Bool
 is_bracket_role header_role = true
@@ -16,7 +15,7 @@ is_line_role dotted_role = true
 is_line_role value_role = true
 is_line_role _ = false
 
-pub array-last : (b : Bool) → is_last_role (if b then array_role else header_role) ≡ true
+pub array-last : (b : Bool) → ends_path (if b then array_role else header_role) ≡ true
 array-last true = refl
 array-last false = refl
 

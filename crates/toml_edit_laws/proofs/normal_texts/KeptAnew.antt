@@ -12,14 +12,14 @@ use Rattle.toml_edit_laws.proofs.common.Members.{Among, all-among, among-each}
 use Rattle.toml_edit_laws.proofs.normal_texts.Agreeing.{AreOfLine}
 use Rattle.toml_edit_laws.proofs.normal_texts.LinePaths.{strict}
 use Rattle.toml_edit_laws.proofs.normal_texts.LineOrder.{lines_ordered, all-lines, among-lines}
-use Rattle.toml_edit_laws.proofs.normal_texts.Trims.{is_last_role, is_next, trim, trimmed, IsWhole, whole-trims}
+use Rattle.toml_edit_laws.proofs.normal_texts.Trims.{is_next, trim, trimmed, IsWhole, whole-trims}
 use Rattle.toml_edit_laws.proofs.common.Cores.{Core, core, cores}
 use Rattle.toml_edit_laws.proofs.mentions.RoleTests.{is_line_role}
 use Rattle.toml_edit_laws.proofs.common.Pairs.{AllPairs}
 use Rattle.toml_edit_laws.proofs.common.OptionSteps.{map-or}
 use Rattle.toml_edit_laws.proofs.common.Searches.{find-filter, first-filter, find-some, find-there, find-none}
 use Rattle.toml_edit_laws.proofs.normal_texts.TaggedMentions.{tagged, mentions_of_all, in-tagged, tagged-in, find-tagged, first-tagged, at}
-use Rattle.toml_edit_model.specs.Roles.{Role, dotted_role, implied_role, header_role, array_role, value_role, continued_role}
+use Rattle.toml_edit_model.specs.Roles.{Role, dotted_role, implied_role, header_role, array_role, value_role, continued_role, ends_path}
 use Rattle.toml_edit_model.specs.Roles.{is_header_role}
 use Rattle.toml_edit_model.specs.Kept.{mentions_at, first_of_list, kept_mention, kept_segment, unspaced_ends, kept_path}
 use Rattle.toml_edit_model.specs.Settled.{own_path}
@@ -41,20 +41,20 @@ kept-found {S = S} ms p =
 
 -- what is trimmed here is so elsewhere, if it is first and last there only where it is here
 pub trim-same : (b p : Path) (r : Role) (s : Segment) (c q : Path) (u : Role) → trim b p r s ≡ s → is_next c q ≡ is_next b p
-    → (is_last_role u ≡ true → is_last_role r ≡ true)
+    → (ends_path u ≡ true → ends_path r ≡ true)
     → trim c q u s ≡ s
 trim-same b p r s c q u h e f =
     let one : (if is_next b p then [] else s.before) ≡ s.before = ap (λ (x : Segment). x.before) h in
-    let other : (if is_last_role r then [] else s.after) ≡ s.after = ap (λ (x : Segment). x.after) h in
+    let other : (if ends_path r then [] else s.after) ≡ s.after = ap (λ (x : Segment). x.after) h in
     let first : (if is_next c q then [] else s.before) ≡ s.before = ap (λ a. if a then [] else s.before) e ∙ one in
-    let second : (if is_last_role u then [] else s.after) ≡ s.after = by_last (is_last_role u) refl other in
-    ap (λ t. record s { before = t; after = if is_last_role u then [] else s.after }) first ∙ ap (λ t. record s { after = t }) second
+    let second : (if ends_path u then [] else s.after) ≡ s.after = by_last (ends_path u) refl other in
+    ap (λ t. record s { before = t; after = if ends_path u then [] else s.after }) first ∙ ap (λ t. record s { after = t }) second
   where
-    by_last : (a : Bool) → is_last_role u ≡ a → (if is_last_role r then [] else s.after) ≡ s.after → (if a then [] else s.after) ≡ s.after
+    by_last : (a : Bool) → ends_path u ≡ a → (if ends_path r then [] else s.after) ≡ s.after → (if a then [] else s.after) ≡ s.after
     by_last true g o = sym (ap (λ c. if c then [] else s.after) (f g)) ∙ o
     by_last false g o = refl
 
-header-last : (r : Role) → is_header_role r ≡ true → is_last_role r ≡ true
+header-last : (r : Role) → is_header_role r ≡ true → ends_path r ≡ true
 header-last header_role h = refl
 header-last dotted_role h = absurd cc
 header-last implied_role h = absurd cc
@@ -88,7 +88,7 @@ module _ {S X : Type 0} (line : X → Bool) (block : X → ℕ) (base : X → Pa
   DontEnd x y =
       line x ≡ true → line y ≡ true
       → (m n : Mention S) → Among m (ment x) → Among n (ment y) → same_path m.path n.path ≡ true
-      → (is_last_role m.role ≡ false) × (is_last_role n.role ≡ false)
+      → (ends_path m.role ≡ false) × (ends_path n.role ≡ false)
 
   abbrev pub Stays : X → X → Type 0
   Stays x y = ((block x < block y) ⊎ ((block x ≡ block y) × (line y ≡ true)))
@@ -152,7 +152,7 @@ module _ {S X : Type 0} (line : X → Bool) (block : X → ℕ) (base : X → Pa
   -- a mention of the same path in the same element, or in another that stays
   still-trimmed : (p : Path) (z y : X) (k j : Mention S) → IsSpaced z → Among k (ment z) → same_path p k.path ≡ true → same_path p j.path
       ≡ true
-      → base y ≡ base z → (is_last_role j.role ≡ true → is_last_role k.role ≡ true) → trim (base y) j.path j.role k.segment ≡ k.segment
+      → base y ≡ base z → (ends_path j.role ≡ true → ends_path k.role ≡ true) → trim (base y) j.path j.role k.segment ≡ k.segment
   still-trimmed p z y k j s a e f b l =
       let is : j.path ≡ k.path = sym (same_path-is p j.path f) ∙ same_path-is p k.path e in
       trim-same (base z) k.path k.role k.segment (base y) j.path j.role (all-among (λ m. trimmed (base z) (λ i. i.segment) m
@@ -253,12 +253,12 @@ module _ {S X : Type 0} (line : X → Bool) (block : X → ℕ) (base : X → Pa
         let other : (w.0 ≡ v.0) ⊎ Precedes r v.0 w.0 =
         all-among (λ x. list_any (λ m. at p (core m)) (ment x) ≡ true → (x ≡ v.0) ⊎ Precedes r v.0 x) w.0 zs second.1
         (tagged-in ment zs w (to-order w found.0)).0 (named p w in_w.1 found.1) in
-        let same : v.0 ≡ w.0 → (base v.0 ≡ base w.0) × (is_last_role v.1.role ≡ true → is_last_role w.1.role ≡ true) =
+        let same : v.0 ≡ w.0 → (base v.0 ≡ base w.0) × (ends_path v.1.role ≡ true → ends_path w.1.role ≡ true) =
         λ e.
         let is : v.1 ≡ w.1 =
         some-is v.1 w.1 (sym second.0 ∙ ap (λ x. find (λ m. at p (core m)) (ment x)) e ∙ first.0) in
-        (ap base e, λ l. ap (λ (m : Mention S). is_last_role m.role) (sym is) ∙ l) in
-        let parts : (base v.0 ≡ base w.0) × (is_last_role v.1.role ≡ true → is_last_role w.1.role ≡ true) =
+        (ap base e, λ l. ap (λ (m : Mention S). ends_path m.role) (sym is) ∙ l) in
+        let parts : (base v.0 ≡ base w.0) × (ends_path v.1.role ≡ true → ends_path w.1.role ≡ true) =
         elim one [
           | inl e ↦ same e
           | inr s ↦
@@ -268,7 +268,7 @@ module _ {S X : Type 0} (line : X → Bool) (block : X → ℕ) (base : X → Pa
                     let lines = one-last r w.0 v.0 s q in
                     let met : same_path w.1.path v.1.path ≡ true =
                     subst (λ x. same_path x v.1.path ≡ true) (same_path-is p w.1.path found.1) again.1 in
-                    (sym lines.2, λ l. true-false (is_last_role v.1.role) l (s.2 lines.0 lines.1 w.1 v.1 in_w.1 in_v.1 met).1)
+                    (sym lines.2, λ l. true-false (ends_path v.1.role) l (s.2 lines.0 lines.1 w.1 v.1 in_w.1 in_v.1 met).1)
               ]
         ] in (
           v,

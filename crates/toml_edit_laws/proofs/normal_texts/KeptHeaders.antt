@@ -15,7 +15,6 @@ use Rattle.toml_edit_laws.proofs.normal_texts.SettledStays.{IsAny}
 use Rattle.toml_edit_laws.proofs.normal_texts.Runs.{Run}
 use Rattle.toml_edit_laws.proofs.normal_texts.Agreeing.{AgreesWith}
 use Rattle.toml_edit_laws.proofs.normal_texts.NormalAccepted.{IsRightPlace, place-roles}
-use Rattle.toml_edit_laws.proofs.normal_texts.Trims.{is_last_role}
 use Rattle.toml_edit_laws.proofs.normal_texts.KeptAnew.{headed, kept-found}
 use Rattle.toml_edit_laws.proofs.normal_texts.SettledValues.{agree-at}
 use Rattle.toml_edit_laws.proofs.normal_texts.PlacedLines.{lined_at, mentions_at, any-of-place}
@@ -26,7 +25,7 @@ use Rattle.toml_edit_laws.proofs.common.Pairs.{AllPairs}
 use Rattle.toml_edit_laws.proofs.common.Searches.{find-append, find-map, find-some, find-there, find-none}
 use Rattle.toml_edit_laws.proofs.normal_texts.TaggedMentions.{tagged, in-tagged, tagged-in, find-tagged, first-tagged, at}
 use Rattle.toml_edit_model.specs.Roles.{Role, dotted_role, value_role, implied_role, header_role, array_role, continued_role, may_meet}
-use Rattle.toml_edit_model.specs.Roles.{is_header_role}
+use Rattle.toml_edit_model.specs.Roles.{is_header_role, ends_path}
 use Rattle.toml_edit_model.specs.Kept.{kept_mention}
 use Rattle.std.specs.Option.{option_or}
 
@@ -34,14 +33,14 @@ use Rattle.std.specs.Option.{option_or}
 
 header-end : (source : Source) (arrays : List Path) (role : Role) (start : ℕ) (p : Path) (ss : List Segment) (m : Mention Source)
     → Among m (header_mentions source arrays role start p ss)
-    → is_last_role m.role ≡ true → (m.path ≡ header_path arrays p ss) × (m.role ≡ role)
+    → ends_path m.role ≡ true → (m.path ≡ header_path arrays p ss) × (m.role ≡ role)
 header-end source arrays role start p [] m a l = elim a [ ]
 header-end source arrays role start p (s ∷ []) m (inl e) l = (ap (λ (k : Mention Source). k.path) e, ap (λ (k : Mention Source). k.role) e)
 header-end source arrays role start p (s ∷ []) m (inr a) l = elim a [ ]
 header-end source arrays role start p (s ∷ r ∷ rest) m (inl e) l =
-    true-false (is_last_role m.role) l (ap (λ (k : Mention Source). is_last_role k.role) e ∙ passing (elements_at arrays (to_key p s.key)))
+    true-false (ends_path m.role) l (ap (λ (k : Mention Source). ends_path k.role) e ∙ passing (elements_at arrays (to_key p s.key)))
   where
-    passing : (n : ℕ) → is_last_role (passing_role n) ≡ false
+    passing : (n : ℕ) → ends_path (passing_role n) ≡ false
     passing zero = refl
     passing (suc n) = refl
 header-end source arrays role start p (s ∷ r ∷ rest) m (inr a) l =
@@ -65,11 +64,11 @@ header-has source arrays role start p (s ∷ ss) h = some start p s ss
 -- a header that goes on in an array's element goes through a path of the arrays
 header-through : (source : Source) (arrays : List Path) (role : Role) (start : ℕ) (p : Path) (ss : List Segment) (m : Mention Source)
     → Among m (header_mentions source arrays role start p ss)
-    → is_last_role role ≡ true → m.role ≡ continued_role → elements_at arrays m.path ≡ 0 → ⊥
+    → ends_path role ≡ true → m.role ≡ continued_role → elements_at arrays m.path ≡ 0 → ⊥
 header-through source arrays role start p [] m a l t e = elim a [ ]
 header-through source arrays role start p (s ∷ []) m (inl g) l t e =
     let is : role ≡ continued_role = sym (ap (λ (k : Mention Source). k.role) g) ∙ t in
-    true-false (is_last_role role) l (ap is_last_role is)
+    true-false (ends_path role) l (ap ends_path is)
 header-through source arrays role start p (s ∷ []) m (inr a) l t e = elim a [ ]
 header-through source arrays role start p (s ∷ r ∷ rest) m (inl g) l t e =
     let role_is : passing_role (elements_at arrays (to_key p s.key)) ≡ continued_role = sym (ap (λ (k : Mention Source). k.role) g) ∙ t in
@@ -167,7 +166,7 @@ own-mention x (c, s, is, a, g) l =
         (last.0, last.1, last.2, roles i.is_array last.0.role last.3)
 
 -- a mention that only headers have is of a header of its path
-of-header : (x : Placed) → IsRightPlace x → (m : Mention Source) → Among m x.mentions → is_last_role m.role ≡ true → is_line_role m.role
+of-header : (x : Placed) → IsRightPlace x → (m : Mention Source) → Among m x.mentions → ends_path m.role ≡ true → is_line_role m.role
     ≡ false
     → (lined_at x ≡ false) × (x.source.path ≡ m.path)
 of-header x (c, s, is, a, g) m e l r =
@@ -199,7 +198,7 @@ meets-array implied_role h = absurd cc
 meets-array header_role h = absurd cc
 meets-array value_role h = absurd cc
 
-header-roles : (r : Role) → is_header_role r ≡ true → (is_last_role r ≡ true) × (is_line_role r ≡ false)
+header-roles : (r : Role) → is_header_role r ≡ true → (ends_path r ≡ true) × (is_line_role r ≡ false)
 header-roles header_role h = (refl, refl)
 header-roles dotted_role h = absurd cc
 header-roles implied_role h = absurd cc
@@ -282,7 +281,7 @@ kept-header xs r h g y a l =
               ≡ true) (same_path-is p w.1.path found.1) here)) in
               elim (meets-array w.1.role meets) [
                 | inl j ↦
-                    let parts = of-header w.0 right w.1 in_w.1 (ap is_last_role j) (ap is_line_role j) in
+                    let parts = of-header w.0 right w.1 in_w.1 (ap ends_path j) (ap is_line_role j) in
                     (parts.0, parts.1 ∙ sym (same_path-is p w.1.path found.1))
                 | inr j ↦ absurd (first-through 0 [] [] xs p w r h first.1 refl j)
               ]

@@ -22,10 +22,10 @@ use Rattle.toml_edit_laws.specs.Locality.{SteadyInEachMode}
 
 -- ---- values of one depth, with keys as short
 
-abbrev Same : Value → Value → Type 0
+abbrev pub Same : Value → Value → Type 0
 Same v w = (depth v ≡ depth w) × (has_short_keys v ≡ has_short_keys w)
 
-abbrev SameElements : Elements → Elements → Type 0
+abbrev pub SameElements : Elements → Elements → Type 0
 SameElements es gs = (elements_depth es ≡ elements_depth gs) × (elements_have_short_keys es ≡ elements_have_short_keys gs)
 
 abbrev SamePairs : Pairs → Pairs → Type 0
@@ -99,13 +99,20 @@ empty-alike (l ∷ ls) (m ∷ ms) h = refl
 empty-alike [] (m ∷ ms) h = absurd h
 empty-alike (l ∷ ls) [] h = absurd h
 
+abbrev pub keeps : Printed → Bool
+keeps p = keeps_limits p.statement
+
+pub all-statements : (ps : List Printed) → list_all keeps_limits (map (λ p. p.statement) ps) ≡ list_all keeps ps
+all-statements [] = refl
+all-statements (p ∷ ps) = ap (λ b. keeps_limits p.statement && b) (all-statements ps)
+
 module _ (mode : Mode) where
   after-length : (ks : List Key) → length (segments_after mode ks) ≡ length ks
   after-length [] = refl
   after-length (k ∷ []) = refl
   after-length (k ∷ l ∷ ks) = ap suc (after-length (l ∷ ks))
 
-  segments-length : (ks : List Key) → length (segments mode ks) ≡ length ks
+  pub segments-length : (ks : List Key) → length (segments mode ks) ≡ length ks
   segments-length [] = refl
   segments-length (k ∷ []) = refl
   segments-length (k ∷ l ∷ ks) = ap suc (after-length (l ∷ ks))
@@ -227,13 +234,6 @@ module _ (mode other : Mode) where
       ∙ ap (λ b. is_steady_visit other v && b) (visits-same vs)
 
   -- ---- limits
-
-  abbrev keeps : Printed → Bool
-  keeps p = keeps_limits p.statement
-
-  all-statements : (ps : List Printed) → list_all keeps_limits (map (λ p. p.statement) ps) ≡ list_all keeps ps
-  all-statements [] = refl
-  all-statements (p ∷ ps) = ap (λ b. keeps_limits p.statement && b) (all-statements ps)
 
   line-keeps : (l m : Line) → AlikeLine l m → keeps_limits (line_statement mode l) ≡ keeps_limits (line_statement other m)
   line-keeps l m h =

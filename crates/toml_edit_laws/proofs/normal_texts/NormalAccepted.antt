@@ -177,7 +177,8 @@ module _ (mode : Mode) where
       let deep = and_right (is_short f.path) (nat_le (depth v) nesting_limit && has_short_keys v) limits in
       let value = value-right mode v h.1 (and_right (nat_le (depth v) nesting_limit) (has_short_keys v) deep) ranges agrees in
       let low : depth (normal_value mode v) ≤ depth v = value.depth in
-      let below : depth v ≤ 80 = leb-true (depth v) 80 (and_left (nat_le (depth v) nesting_limit) (has_short_keys v) deep) in
+      let below : depth v ≤ nesting_limit =
+      leb-true (depth v) nesting_limit (and_left (nat_le (depth v) nesting_limit) (has_short_keys v) deep) in
       let path = kept-is-path ms own (rights ms r) (own-rights c (key_line f v end) h)
       (filled (source_of c (key_line f v end)) (c.start + path_start (key_line f v end)) c.block f.path h.0.1.begins) in
       let same : keys_of_segments (kept_path ms own) ≡ keys_of_segments f.path =
@@ -204,7 +205,7 @@ module _ (mode : Mode) where
             && keeps_ranges w) (has_agreeing_pairs w)
             (and_both (is_short (kept_path ms own) && (nat_le (depth w) nesting_limit && has_short_keys w)) (keeps_ranges w)
             (and_both (is_short (kept_path ms own)) (nat_le (depth w) nesting_limit && has_short_keys w) short
-            (and_both (nat_le (depth w) nesting_limit) (has_short_keys w) (le-leb (depth w) 80 (omega arith)) value.short))
+            (and_both (nat_le (depth w) nesting_limit) (has_short_keys w) (le-leb (depth w) nesting_limit (omega arith)) value.short))
             value.ranges)
             value.agreeing,
       )

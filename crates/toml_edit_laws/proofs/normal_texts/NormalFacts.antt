@@ -33,6 +33,7 @@ use Rattle.toml_edit_laws.proofs.common.Cores.{keys_of_segments}
 use Rattle.toml_edit_laws.proofs.mentions.Placed.{placed_at, source-statement}
 use Rattle.toml_edit_laws.proofs.mentions.Placed.{mention_lists}
 use Rattle.toml_edit_laws.proofs.common.Each.{all-map}
+use Rattle.toml_edit_laws.proofs.accepted_prints.OpenEnds.{facts-open}
 use Rattle.toml_edit_model.specs.Order.{insert_by, sorted_by}
 use Rattle.toml_edit_model.specs.Roles.{may_meet_inline}
 use Rattle.toml_edit_model.specs.Settled.{own_path}
@@ -261,12 +262,6 @@ own-statements c (s ∷ ss) = ap (λ t. t ∷ statements (placed_from (context_a
     ∙ ap (λ ts. s ∷ ts) (own-statements (context_after c s) ss)
 
 -- ---- the last statement left open
-
-facts-open : (c : Context) (ss : List Statement) → facts_from c (open_statements ss) ≡ facts_from c ss
-facts-open c [] = refl
-facts-open c (key_line f v end ∷ []) = refl
-facts-open c (header h end ∷ []) = refl
-facts-open c (s ∷ r ∷ ss) = ap (λ fs. statement_facts c s ++ fs) (facts-open (context_after c s) (r ∷ ss))
 
 last-facts : (mode : Mode) (c : Context) (d : Document) (ss : List Statement) → facts_from c (normal_last mode d ss) ≡ facts_from c ss
 last-facts plain c d ss = refl

@@ -12,7 +12,7 @@ use Rattle.toml_edit_model.specs.Normal.{is_line, line_before, ordered, opening_
 use Rattle.toml_edit_model.specs.Normal.{normal_statement, normal_in}
 use Rattle.toml_edit_laws.proofs.common.Tests.{and_left, and_right, and_both, same_text-refl}
 use Rattle.toml_edit_laws.proofs.common.Members.{Among, all-among, among-each}
-use Rattle.toml_edit_laws.proofs.normal_texts.SettledStays.{IsAny, any-statements, settled-stays}
+use Rattle.toml_edit_laws.proofs.normal_texts.SettledStays.{IsAny, any-statements}
 use Rattle.toml_edit_laws.proofs.normal_texts.Runs.{Run, placed-run, with_end, line-ended, IsNormal, AreNormal}
 use Rattle.toml_edit_laws.proofs.normal_texts.Lean.{no-return}
 use Rattle.toml_edit_laws.proofs.normal_texts.Agreeing.{AgreesWith, from-right, all-ordered}
@@ -279,7 +279,3 @@ module _ (mode : Mode) where
       let lines : Bool = has_ordered_lines (mention_lists (placed n)) (placed n) in
       let each : Bool = list_all (λ s. is_settled_statement mode (all_in n) s s.source.statement) (placed n) in
       and_both (not n.has_mark && is_shown_text mode n.final) (lines && each) (normal-ends d) (and_both lines each both.0 both.1)
-
-  -- The normal form of an accepted cut is its own normal form.
-  pub normal-twice : (d : Document) → IsDocument d → is_accepted d ≡ true → normal_in mode (normal_in mode d) ≡ normal_in mode d
-  normal-twice d h g = settled-stays mode (normal_in mode d) (normal-accepted mode d h g).0 (normal-settled d h g)

@@ -9,7 +9,7 @@ use Rattle.toml_edit_model.specs.Trivia.{IsWholeTrivia}
 use Rattle.toml_edit_model.specs.Syntax.{Segment, Frame, Value, scalar, array, inline_table, Elements, no_elements, element, Pairs}
 use Rattle.toml_edit_model.specs.Syntax.{no_pairs, pair, value_text, frame_text, begins_unspaced, IsFrame, IsClose, has_elements, has_pairs}
 use Rattle.toml_edit_model.specs.Syntax.{IsValue, AreElements, ArePairs, depth, elements_depth, pairs_depth, is_short, has_short_keys}
-use Rattle.toml_edit_model.specs.Syntax.{elements_have_short_keys, pairs_have_short_keys, keeps_ranges, elements_keep_ranges}
+use Rattle.toml_edit_model.specs.Syntax.{elements_have_short_keys, pairs_have_short_keys, keeps_ranges, elements_keep_ranges, nesting_limit}
 use Rattle.toml_edit_model.specs.Syntax.{pairs_keep_ranges}
 use Rattle.toml_edit_model.specs.Paths.{Mention, PairSource, line_mentions, pair_mentions}
 use Rattle.toml_edit_model.specs.Accepted.{agree, all_agree, has_agreeing_pairs, elements_have_agreeing_pairs, pairs_have_agreeing_pairs}
@@ -98,7 +98,7 @@ own-right n start f v h =
 
 pub short-keys : (ss rs : List Segment) → keys_of_segments ss ≡ keys_of_segments rs → is_short rs ≡ true → is_short ss ≡ true
 short-keys ss rs e h =
-    ap (λ n. nat_le n 80) (sym (length-map ss (λ s. s.key)) ∙ ap length e ∙ length-map rs (λ s. s.key)) ∙ h
+    ap (λ n. nat_le n nesting_limit) (sym (length-map ss (λ s. s.key)) ∙ ap length e ∙ length-map rs (λ s. s.key)) ∙ h
 
 filled-line : (n start : ℕ) (f : Frame) (v : Value) → begins_unspaced f.path ≡ true
     → is_empty (line_mentions (source_at n f v) start [] f.path) ≡ false

@@ -27,14 +27,14 @@ use Rattle.toml_edit_laws.proofs.normal_texts.RightValues.{normal-agree, normal-
 use Rattle.toml_edit_laws.proofs.normal_texts.LinePaths.{line_paths, names, part_keys, stands}
 use Rattle.toml_edit_laws.proofs.normal_texts.LineOrder.{lines_ordered, ranked, Follows, IsLined, IsAlong, Shares, IsText, IsTest}
 use Rattle.toml_edit_laws.proofs.normal_texts.LineOrder.{AreStepped, in-order, sorted-anew}
-use Rattle.toml_edit_laws.proofs.normal_texts.Trims.{is_last_role, line-whole, own-trimmed}
+use Rattle.toml_edit_laws.proofs.normal_texts.Trims.{line-whole, own-trimmed}
 use Rattle.toml_edit_laws.proofs.normal_texts.KeptAnew.{AreAnew, Stays, Precedes, IsSpaced, anew-all}
 use Rattle.toml_edit_laws.proofs.mentions.Placed.{filled-path}
 use Rattle.toml_edit_laws.proofs.common.Cores.{Core, cores, keys_of_segments}
 use Rattle.toml_edit_laws.proofs.common.Pairs.{AllPairs, pairs-of}
 use Rattle.toml_edit_laws.proofs.common.Each.{all-map, all-image}
 use Rattle.toml_edit_model.specs.Order.{insert_by, sorted_by, is_sorted_by}
-use Rattle.toml_edit_model.specs.Roles.{Role, dotted_role, value_role, implied_role, header_role, array_role, continued_role}
+use Rattle.toml_edit_model.specs.Roles.{Role, dotted_role, value_role, implied_role, header_role, array_role, continued_role, ends_path}
 use Rattle.toml_edit_model.specs.Roles.{may_meet_inline}
 use Rattle.toml_edit_model.specs.Kept.{rank, stands_before, kept_path}
 use Rattle.toml_edit_model.specs.Settled.{own_path, same_segment, same_segments, is_kept, are_settled_pairs, is_shown_text, is_shown_frame}
@@ -115,7 +115,7 @@ agree-at {S = S} may ms ns m n h a b e =
     by_test true e h = h
     by_test false e h = absurd cc
 
-pub inline-ends : (r q : Role) → may_meet_inline r q ≡ true → (is_last_role r ≡ false) × (is_last_role q ≡ false)
+pub inline-ends : (r q : Role) → may_meet_inline r q ≡ true → (ends_path r ≡ false) × (ends_path q ≡ false)
 inline-ends dotted_role dotted_role h = (refl, refl)
 inline-ends dotted_role implied_role h = absurd cc
 inline-ends dotted_role header_role h = absurd cc

@@ -1,5 +1,5 @@
 -- What is printed of a tree whose spans became texts keeps limits where what is printed of the tree does.
-use Rattle.std.proofs.Common.{◌≡◌, refl, sym, ◌∙◌, ap, ℕ, suc, Bool, true, false, List, [], ◌∷◌, ◌++◌, length}
+use Rattle.std.proofs.Common.{◌≡◌, refl, sym, ◌∙◌, ap, ℕ, suc, Bool, true, false, List, [], ◌∷◌, ◌++◌}
 use Rattle.std.specs.Prelude.{◌&&◌, max, nat_le, map, if◌then◌else◌}
 use Rattle.std.specs.List.{AllByRecursion, list_all}
 use Rattle.std.proofs.lemmas.List.{length-map}
@@ -13,13 +13,14 @@ use Rattle.toml_edit_model.specs.Paths.{Path}
 use Rattle.toml_edit_model.specs.Tree.{Key, Node, nothing, leaf, list, inline, table, tables, Items, no_items, item, Slots, no_slots, slot}
 use Rattle.toml_edit_model.specs.Tree.{Tree, shown_raw, node_decor}
 use Rattle.toml_edit_model.specs.HeaderOrder.{PlacedVisit, in_header_order}
-use Rattle.toml_edit_model.specs.Print.{Line, segments, segments_after, is_line_node, table_lines, dotted_lines, inside_lines, lines_inside}
+use Rattle.toml_edit_model.specs.Print.{Line, segments, is_line_node, table_lines, dotted_lines, inside_lines, lines_inside}
 use Rattle.toml_edit_model.specs.Print.{lines_of, line_of, value_of, elements_of, around_of, add_after, close_array, add_after_pairs}
-use Rattle.toml_edit_model.specs.Print.{close_inline, pairs_of_lines, line_statement, has_header, header_statement, Printed, printed_line}
+use Rattle.toml_edit_model.specs.Print.{close_inline, pairs_of_lines, line_statement, has_header, header_statement, printed_line}
 use Rattle.toml_edit_model.specs.Print.{printed_header, printed_table, printed_tables, statements_of}
 use Rattle.toml_edit_laws.proofs.normal_texts.SpansWalk.{key, visit, line, inside-owned, lines-owned, header-same, placed_visit}
 use Rattle.toml_edit_laws.proofs.normal_texts.SpansWalk.{order-owned}
 use Rattle.toml_edit_laws.proofs.common.Each.{all-append}
+use Rattle.toml_edit_laws.proofs.normal_texts.LinesInModes.{Same, SameElements, all-statements, keeps, segments-length}
 use Rattle.toml_edit_model.specs.OwnedForm.{owned_node, owned_items, owned_slots, owned_tree}
 
 -- ---- closing texts
@@ -71,25 +72,12 @@ module _ (mode : Mode) where
       let rest = pairs-lines (m ∷ ls) in
       (ap (max (depth l.value)) rest.0, ap (λ c. is_short (segments mode l.keys) && (has_short_keys l.value && c)) rest.1)
 
-  after-length : (ks : List Key) → length (segments_after mode ks) ≡ length ks
-  after-length [] = refl
-  after-length (k ∷ []) = refl
-  after-length (k ∷ l ∷ ks) = ap suc (after-length (l ∷ ks))
-
-  segments-length : (ks : List Key) → length (segments mode ks) ≡ length ks
-  segments-length [] = refl
-  segments-length (k ∷ []) = refl
-  segments-length (k ∷ l ∷ ks) = ap suc (after-length (l ∷ ks))
-
   module _ (source : Text) where
     short-same : (ks : List Key) → is_short (segments mode (map (key mode source) ks)) ≡ is_short (segments mode ks)
-    short-same ks = ap (λ n. nat_le n nesting_limit) (segments-length (map (key mode source) ks) ∙ length-map ks (key mode source)
-        ∙ sym (segments-length ks))
+    short-same ks = ap (λ n. nat_le n nesting_limit) (segments-length mode (map (key mode source) ks) ∙ length-map ks (key mode source)
+        ∙ sym (segments-length mode ks))
 
     -- depth and keys stay
-    abbrev Same : Value → Value → Type 0
-    Same v w = (depth v ≡ depth w) × (has_short_keys v ≡ has_short_keys w)
-
     abbrev SameLine : Line → Type 0
     SameLine l = Same (value_of mode (owned_node source l.item)) l.value
 
@@ -110,9 +98,6 @@ module _ (mode : Mode) where
         → AllByRecursion SameLine ((elim b [ true ↦ line_of ks n (value_of mode n) | false ↦ ls ]) ++ rest)
     slot-all true ks n ls rest s h g = (s, g)
     slot-all false ks n ls rest s h g = all-append SameLine ls rest h g
-
-    abbrev SameElements : Elements → Elements → Type 0
-    SameElements es gs = (elements_depth es ≡ elements_depth gs) × (elements_have_short_keys es ≡ elements_have_short_keys gs)
 
     -- an element more
     more-same : (n : Node) (first other : Bool) (es gs : Elements) → Same (value_of mode (owned_node source n)) (value_of mode n)
@@ -207,9 +192,6 @@ module _ (mode : Mode) where
     abbrev table_keeps : PlacedVisit → Bool
     table_keeps g = (if has_header mode g.1 then is_short (segments mode g.1.keys) else true) && lines_keep (lines_of mode g.1)
 
-    abbrev keeps : Printed → Bool
-    keeps p = keeps_limits p.statement
-
     lines-kept : (p : Path) (ls : List Line) → list_all keeps (map (printed_line mode p) ls) ≡ lines_keep ls
     lines-kept p [] = refl
     lines-kept p (l ∷ ls) = ap (λ b. keeps_limits (line_statement mode l) && b) (lines-kept p ls)
@@ -236,10 +218,6 @@ module _ (mode : Mode) where
         let next : Bool = b && is_empty (printed_table mode b g.1) in
         list_all-append keeps (printed_table mode b g.1) (printed_tables mode next gs)
         ∙ ap (λ c. c && list_all keeps (printed_tables mode next gs)) (table-kept b g) ∙ ap (λ c. table_keeps g && c) (tables-kept next gs)
-
-    all-statements : (ps : List Printed) → list_all keeps_limits (map (λ p. p.statement) ps) ≡ list_all keeps ps
-    all-statements [] = refl
-    all-statements (p ∷ ps) = ap (λ b. keeps_limits p.statement && b) (all-statements ps)
 
     lines-keep : (ls : List Line) → AllByRecursion SameLine ls → lines_keep (map (line mode source) ls) ≡ lines_keep ls
     lines-keep [] h = refl

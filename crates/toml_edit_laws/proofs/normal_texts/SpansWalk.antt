@@ -1,6 +1,6 @@
 -- The walk, the headers in order and the lines of a tree whose spans became texts are those of the tree.
 use Rattle.std.proofs.Common.{◌≡◌, refl, sym, ◌∙◌, ap, ℕ, suc, Bool, true, false, List, [], ◌∷◌, ◌++◌}
-use Rattle.std.specs.Prelude.{◌&&◌, ◌||◌, not, max, ℤ, pos, map, filter, if◌then◌else◌}
+use Rattle.std.specs.Prelude.{◌&&◌, ◌||◌, not, ℤ, pos, map, filter, if◌then◌else◌}
 use Rattle.std.specs.List.{AllByRecursion, list_all}
 use Rattle.std.proofs.lemmas.List.{map-append}
 use Rattle.toml_edit_model.specs.Mode.{Mode}

@@ -40,22 +40,22 @@ use Rattle.toml_edit_model.specs.TableMentions.{own, under, array_headers, kept}
 
 -- ---- mentions
 
-abbrev IsFitSource : Mention Source → Type 0
+abbrev pub IsFitSource : Mention Source → Type 0
 IsFitSource m = IsSpacedSegment m.segment × IsAny m.source.statement × IsBracketed m
 
-abbrev AllFit : List (Mention Source) → Type 0
+abbrev pub AllFit : List (Mention Source) → Type 0
 AllFit ms = AllByRecursion IsFitSource ms
 
-fit-under : (k : Text) (ms : List (Mention Source)) → AllFit ms → AllFit (under (at_key k) ms)
+pub fit-under : (k : Text) (ms : List (Mention Source)) → AllFit ms → AllFit (under (at_key k) ms)
 fit-under k ms h = all-under IsFitSource (λ m t p e a. a) (at_key k) ms h
 
-fit-element : (i : ℕ) (ms : List (Mention Source)) → AllFit ms → AllFit (under (at_element i) ms)
+pub fit-element : (i : ℕ) (ms : List (Mention Source)) → AllFit ms → AllFit (under (at_element i) ms)
 fit-element i ms h = all-under IsFitSource (λ m t p e a. a) (at_element i) ms h
 
-fit-kept : (ms : List (Mention Source)) → AllFit ms → AllFit (kept ms)
+pub fit-kept : (ms : List (Mention Source)) → AllFit ms → AllFit (kept ms)
 fit-kept ms h = kept-all IsFitSource [] ms h
 
-arrays-fit : (us : List (Mention Source)) → AllFit us → AllFit (array_headers us)
+pub arrays-fit : (us : List (Mention Source)) → AllFit us → AllFit (array_headers us)
 arrays-fit us h = all-filter IsFitSource (λ m. is_array_role m.role) (own us) (all-filter IsFitSource (λ m. is_empty m.path) us h)
 
 both-fit : (ms : List (Mention Source)) → AllByRecursion IsRightMention ms → AllByRecursion IsBracketed ms → AllFit ms

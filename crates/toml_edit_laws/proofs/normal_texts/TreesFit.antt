@@ -11,7 +11,7 @@ use Rattle.toml_edit_model.specs.Accepted.{has_agreeing_tables, is_sound, is_acc
 use Rattle.toml_edit_model.specs.Normal.{has_open_end, normal_last, normal_in}
 use Rattle.toml_edit_model.specs.Tree.{TableFields, Tree, shown_prefix}
 use Rattle.toml_edit_model.specs.TreeOf.{owned_in, IsTreeOf}
-use Rattle.toml_edit_model.specs.HeaderOrder.{Visit, walk, slots_walk, places_from, place_of, comes_before, in_header_order}
+use Rattle.toml_edit_model.specs.HeaderOrder.{Visit, walk, slots_walk, places_from, place_of, comes_before, in_header_order, PlacedVisit}
 use Rattle.toml_edit_model.specs.Print.{has_header, statements_of, written_statements, add_before}
 use Rattle.toml_edit_model.specs.Fits.{is_too_late, none_too_late, headed, elements_are_ordered, is_steady_visit, has_steady_header}
 use Rattle.toml_edit_model.specs.Fits.{has_own_prefix, has_no_dotted_inline, FitsIn}
@@ -65,9 +65,6 @@ some-number : (v : Visit) (o : Option ℤ) → v.fields.position ≡ o → is_so
 some-number v None e h c = absurd cc
 some-number v (Some (pos n)) e h c = subst (λ o. has_number (record v { fields = record v.fields { position = o } }) ≡ true) (sym e) refl
 some-number v (Some (negsuc n)) e h c = absurd cc
-
-abbrev PlacedVisit : Type 0
-PlacedVisit = ℤ × Visit
 
 array-is : (h : Header) → is_array_role (header_role_of h) ≡ h.is_array
 array-is h = by_kind h.is_array

@@ -9,37 +9,30 @@ use Rattle.toml_edit_model.specs.Syntax.{Segment, begins_unspaced, ends_unspaced
 use Rattle.toml_edit_model.specs.Paths.{at_key, at_element, Path, to_key, passing_role, Mention, mention_of, next_start, line_mentions}
 use Rattle.toml_edit_model.specs.Paths.{elements_at, in_last, header_mentions}
 use Rattle.toml_edit_laws.proofs.values.ValueFaults.{is_empty-nil}
-use Rattle.toml_edit_model.specs.Roles.{Role, dotted_role, header_role, array_role, value_role}
+use Rattle.toml_edit_model.specs.Roles.{Role, dotted_role, ends_path}
 use Rattle.toml_edit_model.specs.Settled.{own_path}
 use Rattle.toml_edit_model.specs.Kept.{unspaced_end, unspaced_ends}
-
--- the last segment of a statement has such a role
-abbrev pub is_last_role : Role → Bool
-is_last_role value_role = true
-is_last_role header_role = true
-is_last_role array_role = true
-is_last_role _ = false
 
 -- one step below this path
 abbrev pub is_next : Path → Path → Bool
 is_next b p = length p == suc (length b)
 
 abbrev pub trim : Path → Path → Role → Segment → Segment
-trim b p r s = record s { before = if is_next b p then [] else s.before; after = if is_last_role r then [] else s.after }
+trim b p r s = record s { before = if is_next b p then [] else s.before; after = if ends_path r then [] else s.after }
 
 abbrev pub trimmed : {S : Type 0} → Path → (Mention S → Segment) → Mention S → Segment
 trimmed b g m = trim b m.path m.role (g m)
 
 abbrev IsTail : {S : Type 0} → Path → List (Mention S) → Type 0
 IsTail b [] = Unit {0}
-IsTail b (m ∷ []) = (is_last_role m.role ≡ true) × (is_next b m.path ≡ false)
-IsTail b (m ∷ n ∷ rest) = (is_last_role m.role ≡ false) × (is_next b m.path ≡ false) × IsTail b (n ∷ rest)
+IsTail b (m ∷ []) = (ends_path m.role ≡ true) × (is_next b m.path ≡ false)
+IsTail b (m ∷ n ∷ rest) = (ends_path m.role ≡ false) × (is_next b m.path ≡ false) × IsTail b (n ∷ rest)
 
 -- the first is one step below the path, and the last ends the statement
 abbrev pub IsWhole : {S : Type 0} → Path → List (Mention S) → Type 0
 IsWhole b [] = Unit {0}
-IsWhole b (m ∷ []) = (is_last_role m.role ≡ true) × (is_next b m.path ≡ true)
-IsWhole b (m ∷ n ∷ rest) = (is_last_role m.role ≡ false) × (is_next b m.path ≡ true) × IsTail b (n ∷ rest)
+IsWhole b (m ∷ []) = (ends_path m.role ≡ true) × (is_next b m.path ≡ true)
+IsWhole b (m ∷ n ∷ rest) = (ends_path m.role ≡ false) × (is_next b m.path ≡ true) × IsTail b (n ∷ rest)
 
 tail-trims : {S : Type 0} (b : Path) (g : Mention S → Segment) (ms : List (Mention S)) → IsTail b ms → unspaced_end (map g ms)
     ≡ map (trimmed b g) ms
@@ -47,7 +40,7 @@ tail-trims b g [] h = refl
 tail-trims b g (m ∷ []) h = rw (h.0, h.1) refl
 tail-trims b g (m ∷ n ∷ rest) h =
     ap (λ ss. g m ∷ ss) (tail-trims b g (n ∷ rest) h.2)
-    ∙ ap (λ s. s ∷ map (trimmed b g) (n ∷ rest)) (by_tests (is_next b m.path) (is_last_role m.role) h.1 h.0)
+    ∙ ap (λ s. s ∷ map (trimmed b g) (n ∷ rest)) (by_tests (is_next b m.path) (ends_path m.role) h.1 h.0)
   where
     by_tests : (a c : Bool) → a ≡ false → c ≡ false → g m
         ≡ record (g m) { before = if a then [] else (g m).before; after = if c then [] else (g m).after }
@@ -62,7 +55,7 @@ whole-trims b g [] h = refl
 whole-trims b g (m ∷ []) h = rw (h.0, h.1) refl
 whole-trims b g (m ∷ n ∷ rest) h =
     ap (λ ss. record (g m) { before = [] } ∷ ss) (tail-trims b g (n ∷ rest) h.2)
-    ∙ ap (λ s. s ∷ map (trimmed b g) (n ∷ rest)) (by_tests (is_next b m.path) (is_last_role m.role) h.1 h.0)
+    ∙ ap (λ s. s ∷ map (trimmed b g) (n ∷ rest)) (by_tests (is_next b m.path) (ends_path m.role) h.1 h.0)
   where
     by_tests : (a c : Bool) → a ≡ true → c ≡ false → record (g m) { before = [] }
         ≡ record (g m) { before = if a then [] else (g m).before; after = if c then [] else (g m).after }
@@ -84,12 +77,12 @@ here-key b k = eq-eqb (length (to_key b k)) (suc (length b)) (let long : length 
 longer : (b p : Path) (k : Text) → length b ≤ length p → length b < length (to_key p k)
 longer b p k h = (let long : length (to_key p k) ≡ length p + 1 = length-append p (one (at_key k)) in omega arith)
 
-tail-cons : {S : Type 0} (b : Path) (m : Mention S) (ms : List (Mention S)) → is_empty ms ≡ false → is_last_role m.role ≡ false
+tail-cons : {S : Type 0} (b : Path) (m : Mention S) (ms : List (Mention S)) → is_empty ms ≡ false → ends_path m.role ≡ false
     → is_next b m.path ≡ false → IsTail b ms → IsTail b (m ∷ ms)
 tail-cons b m [] e f g h = absurd cc
 tail-cons b m (n ∷ ms) e f g h = (f, g, h)
 
-whole-cons : {S : Type 0} (b : Path) (m : Mention S) (ms : List (Mention S)) → is_empty ms ≡ false → is_last_role m.role ≡ false
+whole-cons : {S : Type 0} (b : Path) (m : Mention S) (ms : List (Mention S)) → is_empty ms ≡ false → ends_path m.role ≡ false
     → is_next b m.path ≡ true → IsTail b ms → IsWhole b (m ∷ ms)
 whole-cons b m [] e f g h = absurd cc
 whole-cons b m (n ∷ ms) e f g h = (f, g, h)
@@ -123,7 +116,7 @@ header-some : {S : Type 0} (source : S) (arrays : List Path) (role : Role) (star
 header-some source arrays role start p s [] = refl
 header-some source arrays role start p s (r ∷ rest) = refl
 
-passing-last : (n : ℕ) → is_last_role (passing_role n) ≡ false
+passing-last : (n : ℕ) → ends_path (passing_role n) ≡ false
 passing-last zero = refl
 passing-last (suc n) = refl
 
@@ -132,7 +125,7 @@ in_last-long zero p = omega arith
 in_last-long (suc n) p = (let long : length (p ++ (at_element n ∷ [])) ≡ length p + 1 = length-append p (one (at_element n)) in omega arith)
 
 header-tail : {S : Type 0} (b : Path) (source : S) (arrays : List Path) (role : Role) (start : ℕ) (p : Path) (ss : List Segment)
-    → is_last_role role ≡ true → length b < length p
+    → ends_path role ≡ true → length b < length p
     → IsTail b (header_mentions source arrays role start p ss)
 header-tail b source arrays role start p [] l h = tt
 header-tail b source arrays role start p (s ∷ []) l h = (l, next-key b p s.key h)
@@ -147,7 +140,7 @@ header-tail b source arrays role start p (s ∷ r ∷ rest) l h =
     (header-tail b source arrays role (next_start start s) (in_last count here) (r ∷ rest) l (omega arith))
 
 pub header-whole : {S : Type 0} (source : S) (arrays : List Path) (role : Role) (start : ℕ) (b : Path) (ss : List Segment)
-    → is_last_role role ≡ true
+    → ends_path role ≡ true
     → IsWhole b (header_mentions source arrays role start b ss)
 header-whole source arrays role start b [] l = tt
 header-whole source arrays role start b (s ∷ []) l = (l, here-key b s.key)

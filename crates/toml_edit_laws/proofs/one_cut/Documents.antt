@@ -13,27 +13,27 @@ use Rattle.toml_edit_laws.proofs.one_cut.Parts.{past, past_trivia, past_final, o
 use Rattle.toml_edit_laws.proofs.one_cut.Statements.{IsEnding, EndsAt, leading_of, statement_tail, statement_then, leading_is}
 use Rattle.toml_edit_laws.proofs.one_cut.Statements.{statement_opens, one_statement}
 
-abbrev statements_text : List Statement → Text
+abbrev pub statements_text : List Statement → Text
 statements_text ss = joined (map statement_text ss)
 
 -- ---- a list of statements
 
-ends_weaken : (Weak Strong : Text → Type 0) (s : Statement) → ((end : Text) → Weak end → Strong end) → IsStatement Weak s
+pub ends_weaken : (Weak Strong : Text → Type 0) (s : Statement) → ((end : Text) → Weak end → Strong end) → IsStatement Weak s
     → IsStatement Strong s
 ends_weaken Weak Strong (key_line f v end) more (frame, value, ends) = (frame, value, more end ends)
 ends_weaken Weak Strong (header h end) more (is, ends) = (is, more end ends)
 
 -- the first of the statements, and the others
-first_of : (s : Statement) (ss : List Statement) (final : Text) → AreStatements final (s ∷ ss) → EndsAt (statements_text ss ++ final) s
+pub first_of : (s : Statement) (ss : List Statement) (final : Text) → AreStatements final (s ∷ ss) → EndsAt (statements_text ss ++ final) s
 first_of s [] final is = is
 first_of s (r ∷ rest) final (is, more) =
     ends_weaken IsNewline (λ end. IsEnding end (statements_text (r ∷ rest) ++ final)) s (λ end newline. inl newline) is
 
-later_of : (s : Statement) (ss : List Statement) (final : Text) → AreStatements final (s ∷ ss) → AreStatements final ss
+pub later_of : (s : Statement) (ss : List Statement) (final : Text) → AreStatements final (s ∷ ss) → AreStatements final ss
 later_of s [] final is = tt
 later_of s (r ∷ rest) final (is, more) = more
 
-statements_then : (s : Statement) (ss : List Statement) (final : Text) → statements_text (s ∷ ss) ++ final ≡ statement_text s
+pub statements_then : (s : Statement) (ss : List Statement) (final : Text) → statements_text (s ∷ ss) ++ final ≡ statement_text s
     ++ (statements_text ss ++ final)
 statements_then s ss final = append_assoc (statement_text s) (statements_text ss) final
 

@@ -102,7 +102,7 @@ one_trivia w u r q is also stop halt e =
     (fronts w u r q rest e, rest)
 
 -- what ends a scalar may have trivia before it
-ends_pieces : (ps : List Piece) (rest : Text) → AllByRecursion IsPiece ps → ends_scalar rest ≡ true
+pub ends_pieces : (ps : List Piece) (rest : Text) → AllByRecursion IsPiece ps → ends_scalar rest ≡ true
     → ends_scalar (flat_map piece_text ps ++ rest) ≡ true
 ends_pieces [] rest each h = h
 ends_pieces (blank c ∷ ps) rest (white, each) h = rw white (ends_pieces ps rest each h)
@@ -176,13 +176,13 @@ abbrev pub tail_text : Segment → List Segment → Text → Text
 tail_text s [] rest = s.spelled ++ rest
 tail_text s (r ∷ p) rest = s.spelled ++ (s.after ++ (46 ∷ (r.before ++ tail_text r p rest)))
 
-regroup : (a b c d rest : Text) → a ++ (b ++ (c ++ (46 ∷ (d ++ rest)))) ≡ ((a ++ (b ++ c)) ++ (46 ∷ d)) ++ rest
+pub regroup : (a b c d rest : Text) → a ++ (b ++ (c ++ (46 ∷ (d ++ rest)))) ≡ ((a ++ (b ++ c)) ++ (46 ∷ d)) ++ rest
 regroup a b c d rest = simp append_assoc
 
-regroup_last : (a b rest : Text) → (a ++ (b ++ [])) ++ rest ≡ a ++ (b ++ rest)
+pub regroup_last : (a b rest : Text) → (a ++ (b ++ [])) ++ rest ≡ a ++ (b ++ rest)
 regroup_last a b rest = simp append_assoc
 
-path_tail : (s : Segment) (p : List Segment) (rest : Text) → ends_unspaced (s ∷ p) ≡ true → path_text (s ∷ p) ++ rest ≡ s.before
+pub path_tail : (s : Segment) (p : List Segment) (rest : Text) → ends_unspaced (s ∷ p) ≡ true → path_text (s ∷ p) ++ rest ≡ s.before
     ++ tail_text s p rest
 path_tail s [] rest ends = ap (λ (x : Text). (s.before ++ (s.spelled ++ x)) ++ rest) (empty_nil s.after ends)
     ∙ regroup_last s.before s.spelled rest

@@ -22,12 +22,12 @@ use Rattle.toml_edit_laws.proofs.one_cut.Values.{behind_trivia, same_frame, one_
 abbrev pub IsEnding : Text → Text → Type 0
 IsEnding t rest = IsNewline t ⊎ ((t ≡ []) × (rest ≡ []))
 
-ending_first : (t rest : Text) → IsEnding t rest → is_visible (first (t ++ rest)) ≡ false
+pub ending_first : (t rest : Text) → IsEnding t rest → is_visible (first (t ++ rest)) ≡ false
 ending_first t rest (inl (lf, same)) = rw same refl
 ending_first t rest (inl (crlf, same)) = rw same refl
 ending_first t rest (inr (nothing, ended)) = rw (nothing, ended) refl
 
-ending_ends : (t rest : Text) → IsEnding t rest → ends_scalar (t ++ rest) ≡ true
+pub ending_ends : (t rest : Text) → IsEnding t rest → ends_scalar (t ++ rest) ≡ true
 ending_ends t rest (inl (lf, same)) = rw same refl
 ending_ends t rest (inl (crlf, same)) = rw same refl
 ending_ends t rest (inr (nothing, ended)) = rw (nothing, ended) refl
@@ -47,13 +47,13 @@ line_end_visible t (white, last, each, inr (body, visible, is), whole) =
     let same : t ≡ white ++ comment body = whole ∙ ap (λ (x : Text). white ++ x) is in
     rw same (visible_append white (comment body) (white_visible white each) visible)
 
-blank_ends : (b rest : Text) → IsWhiteSpace b → ends_scalar rest ≡ true → ends_scalar (b ++ rest) ≡ true
+pub blank_ends : (b rest : Text) → IsWhiteSpace b → ends_scalar rest ≡ true → ends_scalar (b ++ rest) ≡ true
 blank_ends [] rest each h = h
 blank_ends (c ∷ cs) rest each h =
     let (white, more) = and_parts (is_blank c) (list_all is_blank cs) each in
     rw white (blank_ends cs rest more h)
 
-line_end_ends : (t rest : Text) → IsLineEnd t → ends_scalar rest ≡ true → ends_scalar (t ++ rest) ≡ true
+pub line_end_ends : (t rest : Text) → IsLineEnd t → ends_scalar rest ≡ true → ends_scalar (t ++ rest) ≡ true
 line_end_ends t rest (white, none, each, inl empty, whole) stop =
     let same : t ++ rest ≡ white ++ rest = ap (λ (x : Text). x ++ rest) (whole ∙ ap (λ (x : Text). white ++ x) empty ∙ append-nil white) in
     ap ends_scalar same ∙ blank_ends white rest each stop
@@ -186,7 +186,7 @@ closing_ends : (i : Bool) (rest : Text) → (cs : Text) × (closing_brackets i +
 closing_ends true rest = (93 ∷ rest, refl)
 closing_ends false rest = (rest, refl)
 
-opening_opens : (i : Bool) (rest : Text) → Opens (opening_brackets i ++ rest)
+pub opening_opens : (i : Bool) (rest : Text) → Opens (opening_brackets i ++ rest)
 opening_opens true rest = (91, 91 ∷ rest, refl, refl)
 opening_opens false rest = (91, rest, refl, refl)
 

@@ -1,13 +1,13 @@
 -- The texts of dotted keys, key by key.
-use Rattle.std.proofs.Common.{◌≡◌, refl, sym, ap, ◌∙◌, true, false, Bool, List, [], ◌∷◌, ◌++◌, Option, None, Some, append_assoc}
+use Rattle.std.proofs.Common.{◌≡◌, refl, sym, ap, ◌∙◌, true, false, List, [], ◌∷◌, ◌++◌, append_assoc}
 use Rattle.std.specs.Prelude.{codes}
 use Rattle.toml_edit_model.specs.Mode.{Mode}
 use Rattle.toml_edit_model.specs.Text.{Text}
 use Rattle.toml_edit_model.specs.Syntax.{path_text, value_text}
-use Rattle.toml_edit_model.specs.Tree.{Decor, unset, Key, Node, key_text, node_decor, shown_prefix, shown_suffix}
-use Rattle.toml_edit_model.specs.Print.{Line, one_space, dot_prefix, dot_suffix, last_leaf, segments, segments_after, value_of}
+use Rattle.toml_edit_model.specs.Tree.{Decor, Key, Node, key_text, node_decor, shown_prefix, shown_suffix}
+use Rattle.toml_edit_model.specs.Print.{one_space, dot_prefix, dot_suffix, last_leaf, segments, segments_after, value_of}
 use Rattle.toml_edit_laws.proofs.common.Tests.{append-nil}
-use Rattle.toml_edit_laws.specs.PrintByVisits.{Headed, before_key, dotted_keys, header_parts, header_text, pair_start, written_path}
+use Rattle.toml_edit_laws.specs.PrintByVisits.{before_key, dotted_keys, line_start, pair_start}
 use Rattle.toml_edit_laws.proofs.common.Lists.{append-six}
 
 five : (a b c d e f : Text) → (a ++ (b ++ (c ++ (d ++ e)))) ++ f ≡ a ++ (b ++ (c ++ (d ++ (e ++ f))))
@@ -18,26 +18,10 @@ last_leaf-end [] k = refl
 last_leaf-end (j ∷ []) k = refl
 last_leaf-end (j ∷ l ∷ ks) k = last_leaf-end (l ∷ ks) k
 
-ends : (s d p t : Text) → s ++ (d ++ (p ++ (t ++ []))) ≡ (s ++ (d ++ p)) ++ (t ++ [])
-ends s d p t = simp append_assoc
-
-goes_on : (s d p t u e r : Text) → s ++ (d ++ ((p ++ (t ++ u)) ++ (e ++ r))) ≡ (s ++ (d ++ p)) ++ (t ++ (u ++ (e ++ r)))
-goes_on s d p t u e r = simp append_assoc
-
--- the leaf decor of the last key, as `last` finds it
-abbrev pub leaf_of : {A : Type 0} → (A → Key) → Option A → Decor
-leaf_of view None = unset
-leaf_of view (Some k) = (view k).leaf
-
 in_order : (a d b t s e v n : Text) → a ++ ((d ++ (b ++ t)) ++ (s ++ (e ++ (v ++ n)))) ≡ (a ++ (d ++ (b ++ (t ++ (s ++ e))))) ++ (v ++ n)
 in_order a d b t s e v n = simp append_assoc
 
 module _ (mode : Mode) where
-  -- what stands before a key behind one more
-  pub before_key-behind : (ks : List Key) (j k : Key) → before_key mode (ks ++ (j ∷ [])) k ≡ dot_prefix mode k
-  before_key-behind [] j k = refl
-  before_key-behind (i ∷ ks) j k = refl
-
   -- ---- keys before dots
 
   dotted_keys-after : (ks : List Key) (k : Key)
@@ -103,44 +87,11 @@ module _ (mode : Mode) where
       ∙ ap (λ t. (key_text j ++ dot_suffix mode j) ++ (codes "." ++ t)) (path-after ks k)
       ∙ append-six [] (key_text j) (dot_suffix mode j) (codes ".") (dotted_keys mode false ks) (dot_prefix mode k ++ key_text k)
 
-  -- ---- key by key
-
-  behind : (j k : Key) (ks : List Key) → dot_suffix mode j ++ (codes "." ++ path_text (segments_after mode (k ∷ ks)))
-      ≡ written_path mode (Some j) (k ∷ ks)
-  behind j k [] = ends (dot_suffix mode j) (codes ".") (dot_prefix mode k) (key_text k)
-  behind j k (l ∷ rest) =
-      ap (λ t. dot_suffix mode j ++ (codes "." ++ t)) (step-after k l rest)
-      ∙ goes_on (dot_suffix mode j) (codes ".") (dot_prefix mode k) (key_text k) (dot_suffix mode k) (codes ".")
-      (path_text (segments_after mode (l ∷ rest)))
-      ∙ ap (λ t. (dot_suffix mode j ++ (codes "." ++ dot_prefix mode k)) ++ (key_text k ++ t)) (behind k l rest)
-
-  -- the keys of a path one by one
-  pub path-written : (ks : List Key) → path_text (segments mode ks) ≡ written_path mode None ks
-  path-written [] = refl
-  path-written (k ∷ []) = refl
-  path-written (k ∷ l ∷ rest) =
-      step-first k l rest ∙ append_assoc (key_text k) (dot_suffix mode k) (codes "." ++ path_text (segments_after mode (l ∷ rest)))
-      ∙ ap (λ t. key_text k ++ t) (behind k l rest)
-
-  -- a header whose keys end in this one
-  pub header-keys : (is_first : Bool) (h : Headed) (ks : List Key) (k : Key) → h.keys ≡ ks ++ (k ∷ [])
-      → header_text mode is_first h ≡ header_parts mode is_first h.is_element k.leaf (written_path mode None h.keys) h.fields
-  header-keys is_first h ks k e =
-      ap (λ d. header_parts mode is_first h.is_element d (path_text (segments mode h.keys)) h.fields) (ap last_leaf e ∙ last_leaf-end ks k)
-      ∙ ap (λ t. header_parts mode is_first h.is_element k.leaf t h.fields) (path-written h.keys)
-
   -- ---- lines
 
-  -- a line or a pair up to the end of its value
-  abbrev pub line_start : Text → Line → Text
-  line_start default l =
-      shown_prefix mode default (last_leaf l.keys) ++ (path_text (segments mode l.keys)
-      ++ (shown_suffix mode one_space (last_leaf l.keys) ++ (codes "=" ++
-      (shown_prefix mode one_space (node_decor l.item) ++ value_text l.value))))
-
-  -- the same in the parts that are written
+  -- a line or a pair up to the end of its value, in the parts that are written
   pub line_start-is : (default : Text) (ks : List Key) (k : Key) (n : Node)
-      → line_start default (record { keys = ks ++ (k ∷ []); item = n; value = value_of mode n })
+      → line_start mode default (record { keys = ks ++ (k ∷ []); item = n; value = value_of mode n })
       ≡ pair_start mode default ks k n (value_text (value_of mode n))
   line_start-is default ks k n =
       ap (λ (d : Decor). shown_prefix mode default d ++ (path_text (segments mode (ks ++ (k ∷ [])))

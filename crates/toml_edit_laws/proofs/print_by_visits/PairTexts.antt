@@ -1,22 +1,17 @@
 -- The text of an inline table, pair by pair, and of lines.
 use Rattle.std.proofs.Common.{◌≡◌, refl, sym, ap, ◌∙◌, Bool, true, false, List, [], ◌∷◌, ◌++◌, Option, None, Some, append_assoc}
-use Rattle.std.specs.Prelude.{codes, map}
+use Rattle.std.specs.Prelude.{codes}
 use Rattle.toml_edit_laws.proofs.common.LineEnds.{end-and-newline}
 use Rattle.toml_edit_model.specs.Mode.{Mode, line_end, line_newline}
-use Rattle.toml_edit_model.specs.Text.{Text, newline, joined}
+use Rattle.toml_edit_model.specs.Text.{Text, newline}
 use Rattle.toml_edit_model.specs.Syntax.{Frame, Value, Pairs, no_pairs, pair, comma_text, frame_text, pairs_text, path_text, statement_text}
 use Rattle.toml_edit_model.specs.Syntax.{value_text}
 use Rattle.toml_edit_model.specs.Tree.{Decor, node_decor, shown_prefix, shown_suffix}
 use Rattle.toml_edit_model.specs.Print.{Line, add_after_pairs, one_space, close_inline, frame_of, last_leaf, line_statement, pairs_of_lines}
 use Rattle.toml_edit_model.specs.Print.{segments}
 use Rattle.toml_edit_laws.proofs.common.Tests.{append-nil}
-use Rattle.toml_edit_laws.specs.PrintByVisits.{after_pairs, between_pairs}
-use Rattle.toml_edit_laws.proofs.print_by_visits.KeyTexts.{line_start}
-
--- the decor of the value of the last of them
-abbrev pub last_shown : Option Decor → List Line → Option Decor
-last_shown before [] = before
-last_shown before (l ∷ ls) = last_shown (Some (node_decor l.item)) ls
+use Rattle.toml_edit_laws.specs.PrintByVisits.{after_pairs, between_pairs, last_shown, line_start, lines_text, pairs_shown}
+use Rattle.toml_edit_laws.proofs.common.Lists.{append-four}
 
 pub last_shown-append : (before : Option Decor) (xs ys : List Line) → last_shown before (xs ++ ys) ≡ last_shown (last_shown before xs) ys
 last_shown-append before [] ys = refl
@@ -46,9 +41,6 @@ pairs-after t f v g w (pair e u ps) = refl
 frame-after : (a p s e v x r t : Text) → a ++ (p ++ (s ++ (e ++ (v ++ (x ++ (r ++ t)))))) ≡ (a ++ (p ++ (s ++ (e ++ (v ++ (x ++ r)))))) ++ t
 frame-after a p s e v x r t = simp append_assoc
 
-three : (a b c d : Text) → a ++ (b ++ (c ++ d)) ≡ (a ++ (b ++ c)) ++ d
-three a b c d = simp append_assoc
-
 add-after-pairs : (t : Text) (f : Frame) (v : Value) (ps : Pairs)
     → pairs_text (add_after_pairs t (pair f v ps)) ≡ pairs_text (pair f v ps) ++ t
 add-after-pairs t f v no_pairs =
@@ -56,7 +48,7 @@ add-after-pairs t f v no_pairs =
 add-after-pairs t f v (pair g w ps) =
     pairs-after t f v g w ps
     ∙ ap (λ x. frame_text f (value_text v) ++ (codes "," ++ x)) (add-after-pairs t g w ps)
-    ∙ three (frame_text f (value_text v)) (codes ",") (pairs_text (pair g w ps)) t
+    ∙ sym (append-four (frame_text f (value_text v)) (codes ",") (pairs_text (pair g w ps)) t)
 
 -- the trailing text stands behind the pairs and their comma
 inline-closed : (comma : Bool) (t : Text) (f : Frame) (v : Value) (ps : Pairs)
@@ -70,32 +62,21 @@ end-order : (p z c w : Text) → (p ++ z) ++ (c ++ w) ≡ p ++ ((z ++ c) ++ w)
 end-order p z c w = simp append_assoc
 
 module _ (mode : Mode) where
-  -- the pairs behind one whose value has this decor, up to the end of the last value
-  abbrev pub pairs_shown : Option Decor → List Line → Text
-  pairs_shown before [] = []
-  pairs_shown before (l ∷ ls) = between_pairs mode before ++ (line_start mode one_space l ++ pairs_shown (Some (node_decor l.item)) ls)
-
-  abbrev pub lines_text : List Line → Text
-  lines_text ls = joined (map (λ l. statement_text (line_statement mode l)) ls)
-
   -- ---- one after another
 
   pub pairs_shown-append : (before : Option Decor) (xs ys : List Line)
-      → pairs_shown before (xs ++ ys) ≡ pairs_shown before xs ++ pairs_shown (last_shown before xs) ys
+      → pairs_shown mode before (xs ++ ys) ≡ pairs_shown mode before xs ++ pairs_shown mode (last_shown before xs) ys
   pairs_shown-append before [] ys = refl
   pairs_shown-append before (l ∷ xs) ys =
       ap (λ t. between_pairs mode before ++ (line_start mode one_space l ++ t)) (pairs_shown-append (Some (node_decor l.item)) xs ys)
-      ∙ sym (three (between_pairs mode before) (line_start mode one_space l) (pairs_shown (Some (node_decor l.item)) xs)
-      (pairs_shown (last_shown (Some (node_decor l.item)) xs) ys))
-    where
-      three : (a b c d : Text) → (a ++ (b ++ c)) ++ d ≡ a ++ (b ++ (c ++ d))
-      three a b c d = simp append_assoc
+      ∙ sym (append-four (between_pairs mode before) (line_start mode one_space l) (pairs_shown mode (Some (node_decor l.item)) xs)
+      (pairs_shown mode (last_shown (Some (node_decor l.item)) xs) ys))
 
-  pub lines_text-append : (xs ys : List Line) → lines_text (xs ++ ys) ≡ lines_text xs ++ lines_text ys
+  pub lines_text-append : (xs ys : List Line) → lines_text mode (xs ++ ys) ≡ lines_text mode xs ++ lines_text mode ys
   lines_text-append [] ys = refl
   lines_text-append (l ∷ xs) ys =
       ap (λ t. statement_text (line_statement mode l) ++ t) (lines_text-append xs ys)
-      ∙ sym (append_assoc (statement_text (line_statement mode l)) (lines_text xs) (lines_text ys))
+      ∙ sym (append_assoc (statement_text (line_statement mode l)) (lines_text mode xs) (lines_text mode ys))
 
   -- ---- a line
 
@@ -128,7 +109,7 @@ module _ (mode : Mode) where
 
   pairs-are : (l : Line) (ls : List Line)
       → pairs_text (pairs_of_lines mode (l ∷ ls))
-      ≡ (line_start mode one_space l ++ pairs_shown (Some (node_decor l.item)) ls)
+      ≡ (line_start mode one_space l ++ pairs_shown mode (Some (node_decor l.item)) ls)
       ++ shown_suffix mode one_space (last_decor (node_decor l.item) ls)
   pairs-are l [] =
       frame-text one_space one_space l
@@ -138,7 +119,7 @@ module _ (mode : Mode) where
       ∙ ap (λ t. t ++ (codes "," ++ pairs_text (pairs_of_lines mode (m ∷ rest)))) (frame-text one_space [] l)
       ∙ ap (λ t. (line_start mode one_space l ++ shown_suffix mode [] (node_decor l.item)) ++ (codes "," ++ t)) (pairs-are m rest)
       ∙ pairs-order (line_start mode one_space l) (shown_suffix mode [] (node_decor l.item)) (codes ",") (line_start mode one_space m)
-      (pairs_shown (Some (node_decor m.item)) rest) (shown_suffix mode one_space (last_decor (node_decor m.item) rest))
+      (pairs_shown mode (Some (node_decor m.item)) rest) (shown_suffix mode one_space (last_decor (node_decor m.item) rest))
 
   -- ---- the end
 
@@ -150,14 +131,15 @@ module _ (mode : Mode) where
 
   pub pairs-closed : (comma : Bool) (t : Text) (ls : List Line)
       → value_text (close_inline comma t (pairs_of_lines mode ls))
-      ≡ codes "{" ++ (pairs_shown None ls ++ (after_pairs mode comma (last_shown None ls) ++ (t ++ codes "}")))
+      ≡ codes "{" ++ (pairs_shown mode None ls ++ (after_pairs mode comma (last_shown None ls) ++ (t ++ codes "}")))
   pairs-closed true t [] = refl
   pairs-closed false t [] = refl
   pairs-closed comma t (l ∷ ls) =
       lines-closed comma t l ls
       ∙ ap (λ x. codes "{" ++ (x ++ (comma_text comma ++ (t ++ codes "}")))) (pairs-are l ls)
       ∙ ap (λ x. codes "{" ++ x) (end-order (line_start mode one_space l
-      ++ pairs_shown (Some (node_decor l.item)) ls) (shown_suffix mode one_space (last_decor (node_decor l.item) ls)) (comma_text comma)
+      ++ pairs_shown mode (Some (node_decor l.item)) ls) (shown_suffix mode one_space (last_decor (node_decor l.item) ls))
+      (comma_text comma)
       (t ++ codes "}"))
-      ∙ ap (λ (d : Option Decor). codes "{" ++ ((line_start mode one_space l ++ pairs_shown (Some (node_decor l.item)) ls)
+      ∙ ap (λ (d : Option Decor). codes "{" ++ ((line_start mode one_space l ++ pairs_shown mode (Some (node_decor l.item)) ls)
       ++ (after_pairs mode comma d ++ (t ++ codes "}")))) (sym (last-decor (node_decor l.item) ls))

@@ -12,13 +12,12 @@ use Rattle.toml_edit_model.specs.Syntax.{closing_brackets, opening_brackets, pat
 use Rattle.toml_edit_model.specs.Tree.{TableFields, Slots, Tree, shown_prefix, shown_raw, shown_suffix}
 use Rattle.toml_edit_model.specs.HeaderOrder.{PlacedVisit, Visit, comes_before, in_header_order, is_root, place_of, places_from, slots_walk}
 use Rattle.toml_edit_model.specs.HeaderOrder.{visit_of}
-use Rattle.toml_edit_model.specs.Print.{Line, Printed, has_header, header_default, last_leaf, line_statement, lines_of, print_in}
+use Rattle.toml_edit_model.specs.Print.{Line, Printed, has_header, header_default, last_leaf, line_statement, lines_of}
 use Rattle.toml_edit_model.specs.Print.{printed_line, printed_table, printed_tables, segments, table_lines, header_statement}
 use Rattle.toml_edit_laws.specs.PrintByVisits.{PrintByVisits, begins, by_place, has_lines, headed_tables, header_text, headers_text}
-use Rattle.toml_edit_laws.specs.PrintByVisits.{holds_newline, root_lines, root_place, written_lines, inside_brackets}
+use Rattle.toml_edit_laws.specs.PrintByVisits.{holds_newline, inside_brackets, lines_text, root_lines, root_place, written_lines}
 use Rattle.toml_edit_laws.proofs.common.Tests.{and-true}
 use Rattle.toml_edit_laws.proofs.common.OrderLaws.{all-sorted, sorted-alike, sorted-image, int_le-total, int_le-trans}
-use Rattle.toml_edit_laws.proofs.print_by_visits.PairTexts.{lines_text}
 use Rattle.toml_edit_laws.proofs.print_by_visits.ValueTexts.{lines-are, lines-some}
 use Rattle.toml_edit_laws.proofs.print_by_visits.WalkOnce.{head_of, shown_heads, shows_header, walked-tables}
 use Rattle.toml_edit_laws.proofs.common.Visits.{IsBelowRoot, root-first, slots-below}
@@ -57,10 +56,10 @@ and-false : (b : Bool) → (b && false) ≡ false
 and-false true = refl
 and-false false = refl
 
-abbrev IsBelow : PlacedVisit → Type 0
+abbrev pub IsBelow : PlacedVisit → Type 0
 IsBelow v = is_root v.1 ≡ false
 
-abbrev placed_before : PlacedVisit → PlacedVisit → Bool
+abbrev pub placed_before : PlacedVisit → PlacedVisit → Bool
 placed_before g h = int_le g.0 h.0
 
 -- Leaving out those without headers, and then sorting by place, is sorting and then leaving out.
@@ -71,7 +70,7 @@ shown-sorted vs =
     ∙ sym (sorted-image head_of by_place (filter shows_header vs))
 
 -- below the root the place decides
-same-order : (a b : PlacedVisit) → IsBelow a → IsBelow b → comes_before a b ≡ placed_before a b
+pub same-order : (a b : PlacedVisit) → IsBelow a → IsBelow b → comes_before a b ≡ placed_before a b
 same-order a b p q =
     ap (λ (r : Bool). r || (not (is_root b.1) && int_le a.0 b.0)) p ∙ ap (λ (r : Bool). not r && int_le a.0 b.0) q
 
@@ -226,18 +225,3 @@ module _ (mode : Mode) where
       (append_assoc (root_lines mode t.root t.slots) (headers_text mode (begins t.root t.slots)
       (sorted_by by_place (headed_tables t.root t.slots)))
       (shown_suffix mode [] t.root.decor ++ shown_raw mode t.trailing))
-
-  -- the same where the root's lines are as the definition has them
-  pub print-parts : (t : Tree)
-      → print_in mode false t
-      ≡ shown_prefix mode [] t.root.decor
-      ++ ((if t.root.is_dotted then [] else lines_text mode (table_lines mode t.slots []))
-      ++ (headers_text mode (begins t.root t.slots) (sorted_by by_place (headed_tables t.root t.slots))
-      ++ (shown_suffix mode [] t.root.decor ++ shown_raw mode t.trailing)))
-  print-parts t =
-      print-by-visits t
-      ∙ ap (λ (x : Text). shown_prefix mode [] t.root.decor
-      ++ ((if t.root.is_dotted then [] else x)
-      ++ (headers_text mode (begins t.root t.slots) (sorted_by by_place (headed_tables t.root t.slots))
-      ++ (shown_suffix mode [] t.root.decor ++ shown_raw mode t.trailing))))
-      (sym (lines-are mode t.slots []))

@@ -1,16 +1,13 @@
 -- The turns of the loops that write headers and paths: what is done and the text of what is left stay the whole text.
-use Rattle.std.proofs.Common.{◌≡◌, ℕ, ◌+◌, ◌<◌, Bool, false, List, [], ◌∷◌, ◌++◌, length, get_or, drop, Option, Some, sym, ap, ◌∙◌}
+use Rattle.std.proofs.Common.{◌≡◌, ℕ, ◌+◌, ◌<◌, Bool, false, List, [], ◌∷◌, ◌++◌, length, get_or, drop, sym, ap, ◌∙◌}
 use Rattle.std.proofs.Common.{append_assoc}
 use Rattle.std.specs.Prelude.{map}
 use Rattle.std.proofs.lemmas.List.{drop_more}
 use Rattle.toml_edit_model.specs.Mode.{Mode}
 use Rattle.toml_edit_model.specs.Text.{Text}
-use Rattle.toml_edit_model.specs.Tree.{Key, key_text}
 use Rattle.toml_edit_model.specs.Print.{table_lines}
-use Rattle.toml_edit_laws.specs.PrintByVisits.{Headed, between_keys, header_text, headers_text, written_lines, written_path}
-use Rattle.toml_edit_laws.proofs.print_by_visits.PairTexts.{lines_text}
+use Rattle.toml_edit_laws.specs.PrintByVisits.{Headed, header_text, headers_text, lines_text, written_lines}
 use Rattle.toml_edit_laws.proofs.print_by_visits.ValueTexts.{lines-are}
-use Rattle.toml_edit_laws.proofs.common.Lists.{append-four}
 
 module _ {A B : Type 0} (view : A → B) (T : List B → Text) where
   -- the text of what is left, at a turn
@@ -44,14 +41,3 @@ module _ (mode : Mode) where
       ap (λ t. ((done ++ header_text mode b (view x)) ++ t)
       ++ headers_text mode false (map view (drop (i + 1) hs))) (lines-are mode (view x).slots [])
       ∙ headers-turn view hs i x h is b done all e
-
-  -- a key of a path is written
-  pub path-turn : {A : Type 0} (view : A → Key) (ks : List A) (i : ℕ) (x d : A) → i < length ks → x ≡ get_or ks i d
-      → (before : Option Key) (done all : Text)
-      → done ++ written_path mode before (map view (drop i ks)) ≡ all
-      → (done ++ (between_keys mode before (view x) ++ key_text (view x))) ++ written_path mode (Some (view x)) (map view (drop (i + 1) ks))
-      ≡ all
-  path-turn view ks i x d h is before done all e =
-      append-four done (between_keys mode before (view x)) (key_text (view x))
-      (written_path mode (Some (view x)) (map view (drop (i + 1) ks)))
-      ∙ ap (λ t. done ++ t) (sym (here view (written_path mode before) ks i x d h is)) ∙ e

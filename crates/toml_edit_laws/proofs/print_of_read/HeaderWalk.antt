@@ -17,7 +17,7 @@ use Rattle.toml_edit_laws.proofs.clashes.ClashMentions.{is_table_role}
 use Rattle.toml_edit_laws.proofs.clashes.ClashKept.{kept-is-lead}
 use Rattle.toml_edit_laws.proofs.clashes.ClashCounts.{count_at, count-none}
 use Rattle.toml_edit_laws.proofs.clashes.BlockClash.{IsBlockOf}
-use Rattle.toml_edit_laws.proofs.clashes.ClashRoles.{standing, is_array_node, is_table_node}
+use Rattle.toml_edit_laws.proofs.clashes.ClashRoles.{standing}
 use Rattle.toml_edit_laws.proofs.print_of_read.BlockLines.{IsSlot}
 use Rattle.toml_edit_laws.proofs.print_of_read.Blocks.{nth, arrays_at, same-ends, no-path, no-element, one-header}
 use Rattle.toml_edit_laws.proofs.print_of_read.ChunkFacts.{is_heading, OpensAt, opens_table, opens_element}
@@ -34,6 +34,8 @@ use Rattle.toml_edit_laws.proofs.mentions.Named.{EndsIn}
 use Rattle.toml_edit_laws.specs.KeptKeys.{under_path}
 use Rattle.toml_edit_model.specs.Roles.{Role, header_role, array_role, value_role, is_header_role, is_array_role}
 use Rattle.toml_edit_model.specs.TableMentions.{under, array_headers, some_at, kept}
+use Rattle.toml_edit_model.specs.Lists.{is_tables_node}
+use Rattle.toml_edit_model.specs.Shown.{is_table_node}
 
 -- ---- a header at its key
 
@@ -201,7 +203,7 @@ module _ (mode : Mode) where
               ∙ map-nth (λ (x : Mention Source). moved x []) i (arrays_at (one (at_key m.segment.key)) ms) h
               (ap (λ t. nth i (arrays_at (one (at_key t)) ms)) (sym same) ∙ place)
 
-          by_node : (node : Node) → IsNodeOf (owned_in mode) (under (at_key m.segment.key) ms) m node → is_array_node node ≡ true
+          by_node : (node : Node) → IsNodeOf (owned_in mode) (under (at_key m.segment.key) ms) m node → is_tables_node node ≡ true
               → (v : Visit) × (filter (numbered n) (node_walk node (to_key q m.segment.key) (ks ++ one key) false) ≡ one v) × P v
           by_node nothing g e = absurd cc
           by_node (leaf s r d) g e = absurd cc
@@ -306,7 +308,7 @@ module _ (mode : Mode) where
 
       by_node : (m : Mention Source) (key : Key) (node : Node) → IsSlot ms m → k ≡ m.segment.key → key ≡ key_at (owned_in mode) m
           → IsNodeOf (owned_in mode) (under (at_key m.segment.key) ms) m node
-          → is_array_node node ≡ true → (v : Visit) × (filter (numbered n) (node_walk node (to_key q m.segment.key) (ks ++ one key) false)
+          → is_tables_node node ≡ true → (v : Visit) × (filter (numbered n) (node_walk node (to_key q m.segment.key) (ks ++ one key) false)
           ≡ one v) × P v
       by_node m key nothing slot_is same key_is g e = absurd cc
       by_node m key (leaf t x d) slot_is same key_is g e = absurd cc

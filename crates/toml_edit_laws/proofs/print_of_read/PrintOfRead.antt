@@ -325,5 +325,3 @@ module _ (mode : Mode) where
       → print_in mode (has_open_end d.statements) t ≡ normal_text_in mode d
   print_normal d is_document accepted t is =
       sym (document-text mode (has_open_end d.statements) t) ∙ ap document_text (printed_normal d is_document accepted t is)
-
--- ---- in the plain mode

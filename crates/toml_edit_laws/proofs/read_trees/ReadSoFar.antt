@@ -23,15 +23,11 @@ use Rattle.toml_edit_laws.proofs.mentions.Placed.{mentions_in, right-agrees}
 use Rattle.toml_edit_laws.proofs.common.PathLaws.{same_path-refl}
 use Rattle.toml_edit_laws.proofs.mentions.SomeAt.{among-test}
 use Rattle.toml_edit_laws.proofs.one_by_one.Together.{accepted-right}
-use Rattle.toml_edit_model.specs.Roles.{Role, dotted_role, implied_role, header_role, array_role, continued_role, may_meet, is_array_role}
+use Rattle.toml_edit_model.specs.Roles.{Role, header_role, array_role, continued_role, may_meet, is_array_role}
 use Rattle.toml_edit_model.specs.TableMentions.{under, some_at}
+use Rattle.toml_edit_model.specs.Roles.{extends}
 
 -- ---- what is made by keys on a path has something below it
-
-abbrev pub is_made_role : Role → Bool
-is_made_role dotted_role = true
-is_made_role implied_role = true
-is_made_role _ = false
 
 pub record More (ms : List (Mention Source)) (m : Mention Source) : Type 0 where
   pub mention : Mention Source
@@ -41,12 +37,12 @@ pub record More (ms : List (Mention Source)) (m : Mention Source) : Type 0 where
   pub path : mention.path ≡ m.path ++ (step ∷ rest)
 
 abbrev pub HaveMore : List (Mention Source) → Type 0
-HaveMore ms = (m : Mention Source) → Among m ms → is_made_role m.role ≡ true → More ms m
+HaveMore ms = (m : Mention Source) → Among m ms → extends m.role ≡ true → More ms m
 
 pub more-under : (s : Step) (ms : List (Mention Source)) → HaveMore ms → HaveMore (under s ms)
 more-under s ms h m a made =
     let up = under-is s m ms a in
-    let more = h up.mention up.among (ap (λ (n : Mention Source). is_made_role n.role) (sym up.same) ∙ made) in
+    let more = h up.mention up.among (ap (λ (n : Mention Source). extends n.role) (sym up.same) ∙ made) in
     let path = more.path ∙ ap (λ p. p ++ (more.step ∷ more.rest)) up.path in
     record {
       mention = moved more.mention (m.path ++ (more.step ∷ more.rest));
@@ -62,7 +58,7 @@ line-more source start p ss m a made =
       | inl d ↦
           let found = line-shows source start p ss m a d in
           record { mention = found.0; among = found.3; step = found.1; rest = found.2; path = found.4 }
-      | inr v ↦ let clash : false ≡ true = sym (ap is_made_role v) ∙ made in absurd cc
+      | inr v ↦ let clash : false ≡ true = sym (ap extends v) ∙ made in absurd cc
     ]
 
 header-first : (source : Source) (arrays : List Path) (role : Role) (start : ℕ) (p : Path) (r : Segment) (rest : List Segment)
@@ -70,11 +66,11 @@ header-first : (source : Source) (arrays : List Path) (role : Role) (start : ℕ
 header-first source arrays role start p r [] = (_, inl refl, refl)
 header-first source arrays role start p r (s ∷ rest) = (_, inl refl, refl)
 
-header-more : (source : Source) (arrays : List Path) (role : Role) (start : ℕ) (p : Path) (ss : List Segment) → is_made_role role ≡ false
+header-more : (source : Source) (arrays : List Path) (role : Role) (start : ℕ) (p : Path) (ss : List Segment) → extends role ≡ false
     → HaveMore (header_mentions source arrays role start p ss)
 header-more source arrays role start p [] plain m a made = elim a [ ]
 header-more source arrays role start p (s ∷ []) plain m (inl e) made =
-    true-false (is_made_role m.role) made (ap (λ (n : Mention Source). is_made_role n.role) e ∙ plain)
+    true-false (extends m.role) made (ap (λ (n : Mention Source). extends n.role) e ∙ plain)
 header-more source arrays role start p (s ∷ []) plain m (inr a) made = elim a [ ]
 header-more source arrays role start p (s ∷ r ∷ rest) plain m (inl e) made = by_count (elements_at arrays (to_key p s.key)) refl
   where
@@ -93,7 +89,7 @@ header-more source arrays role start p (s ∷ r ∷ rest) plain m (inl e) made =
         }
     by_count (suc n) g =
         let role : m.role ≡ continued_role = ap (λ (k : Mention Source). k.role) e ∙ ap passing_role g in
-        true-false (is_made_role m.role) made (ap is_made_role role)
+        true-false (extends m.role) made (ap extends role)
 header-more source arrays role start p (s ∷ r ∷ rest) plain m (inr a) made =
     let here : Path = to_key p s.key in
     let more = header-more source arrays role (next_start start s) (in_last (elements_at arrays here) here) (r ∷ rest) plain m a made in
@@ -173,10 +169,10 @@ read_next c (header g end) ms h keyed agreed =
     counted : (p : Path) → elements_at c.arrays p ≤ count_at is_array_role p (ms ++ ns)
     counted p = let both = count-both is_array_role p ms ns in let old = h.before.counted p in omega arith
 
-    plain : is_made_role role ≡ false
+    plain : extends role ≡ false
     plain = by_brackets g.is_array
       where
-        by_brackets : (b : Bool) → is_made_role (if b then array_role else header_role) ≡ false
+        by_brackets : (b : Bool) → extends (if b then array_role else header_role) ≡ false
         by_brackets true = refl
         by_brackets false = refl
 

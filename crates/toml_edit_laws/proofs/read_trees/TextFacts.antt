@@ -96,12 +96,6 @@ array-base st p k = ap (λ q. tables_along [] q ++ (fact (to_key p k) an_array �
 
 -- What a header tells: of the tables along its path; in double brackets of the array, and of the element.
 module _ (c : Context) (h : Header) (end : Text) (keyed : is_empty h.path ≡ false) where
-  here_path : Path
-  here_path = header_path c.arrays [] h.path
-
-  own_told : List Fact
-  own_told = all_told (mentions_of c (header h end))
-
   plain-facts : h.is_array ≡ false → all_told (mentions_of c (header h end)) ≡ tables_along [] (header_path c.arrays [] h.path)
   plain-facts e =
       let source = source_of c (header h end) in

@@ -19,14 +19,13 @@ use Rattle.toml_edit_laws.proofs.clashes.ClashMentions.{is_table_role}
 use Rattle.toml_edit_laws.proofs.clashes.ClashCounts.{count_at, count-under, count-own, count-zero}
 use Rattle.toml_edit_laws.proofs.read_trees.StatementsRight.{HasRightValue}
 use Rattle.toml_edit_laws.proofs.read_trees.FactsTold.{role_told, Tells, count-some}
-use Rattle.toml_edit_laws.proofs.read_trees.ReadSoFar.{is_made_role}
 use Rattle.toml_edit_laws.proofs.read_trees.BelowKeys.{Readable, StandsAt, apart-at, numbered-among, way-begins, table-below, element-below}
 use Rattle.toml_edit_laws.proofs.read_trees.BelowKeys.{value-below, own-apart, kept-in, kept-path, kept-stands, kept-table, kept-under}
 use Rattle.toml_edit_laws.proofs.read_trees.BelowKeys.{slot-for}
 use Rattle.toml_edit_laws.proofs.mentions.Placed.{is_header}
 use Rattle.toml_edit_laws.proofs.read_trees.ToldBelowKeys.{Below, KeptBelow, below-kept, below-tells, strict-below, ElementTells}
 use Rattle.toml_edit_laws.proofs.read_trees.ToldBelowKeys.{table-split, array-split, element-rise, value-one}
-use Rattle.toml_edit_model.specs.Roles.{Role, dotted_role, implied_role, header_role, array_role, value_role, continued_role}
+use Rattle.toml_edit_model.specs.Roles.{Role, dotted_role, implied_role, header_role, array_role, value_role, continued_role, extends}
 use Rattle.toml_edit_model.specs.Roles.{is_header_role, is_value_role, is_array_role}
 use Rattle.toml_edit_model.specs.TableMentions.{under, kept, array_headers, some_at}
 
@@ -183,7 +182,7 @@ plain-fields form s (header g end) h = refl
 table-shown : (form : Form) (ns : List (Mention Source)) (j : Mention Source) (f : TableFields) (ss : Slots) (r : Role) → is_table_role r
     ≡ true
     → (is_header_role r ≡ true → is_header j.source.statement ≡ true) → f ≡ fields_of form ns j r
-    → (is_made_role r ≡ true → shows ss ≡ true)
+    → (extends r ≡ true → shows ss ≡ true)
     → is_shown (table f ss) ≡ true
 table-shown form ns j f ss header_role is headed e made =
     ap (λ (g : TableFields). not (g.is_dotted || g.is_implicit) || shows ss) e
@@ -198,7 +197,7 @@ table-shown form ns j f ss continued_role is headed e made = absurd cc
 
 -- a table that keys on a path made has a slot
 made-slot : (ms : List (Mention Source)) (h : Readable ms) (j : Mention Source) (a : Among j (kept ms)) → is_table_role j.role ≡ true
-    → is_made_role j.role ≡ true
+    → extends j.role ≡ true
     → (k : Mention Source) × Among k (kept (under (at_key j.segment.key) ms))
 made-slot ms h j a is made =
     let stands = kept-stands ms h j a is_table_role is in

@@ -1,7 +1,6 @@
 -- Sorts that go into tables, where the tables inside come in turn, place by place.
-use Rattle.std.proofs.Common.{◌≡◌, ℕ, zero, suc, ◌<◌, ◌≤◌, Bool, true, false, List, [], ◌∷◌, length, get_or, set, refl, sym, ap, subst, inl}
-use Rattle.std.proofs.Common.{inr, arith}
-use Rattle.std.proofs.lemmas.Bool.{cases_Bool}
+use Rattle.std.proofs.Common.{◌≡◌, ℕ, zero, suc, ◌<◌, ◌≤◌, Bool, true, false, List, [], ◌∷◌, length, get_or, set, refl, sym, subst}
+use Rattle.std.proofs.Common.{arith}
 use Rattle.toml_edit_model.specs.Tree.{InlineFields, TableFields, Node, nothing, leaf, list, inline, table, tables, Slots, no_slots, slot}
 use Rattle.toml_edit_model.specs.Slots.{Slot}
 use Rattle.toml_edit_model.specs.Lists.{slot_list, slots_from}
@@ -37,33 +36,6 @@ module _ (enters : Node → Bool) (R : List (Slot Node) → List (Slot Node) →
   list-stays [] = refl
   list-stays (s ∷ es) = (s, es, refl, refl, item-stays s.item, list-stays es)
 
--- ---- one relation for another that follows from it
-
-module _ (enters : Node → Bool) (R S : List (Slot Node) → List (Slot Node) → Type 0) (follows : (es fs : List (Slot Node)) → R es fs
-    → S es fs) where
-  mutual
-    pub item-weaker : (before n : Node) → ReordersItem enters R before n → ReordersItem enters S before n
-    item-weaker before (table f ss) r =
-        elim (cases_Bool (enters before)) [
-          | inl yes_in ↦ let (old, mid, is, s, items) = rw yes_in at r in
-              rw yes_in (old, mid, is, follows (slot_list old) mid s, items-weaker mid ss items)
-          | inr not_in ↦ let is = rw not_in at r in rw not_in is
-        ]
-    item-weaker before (inline f ss) r =
-        elim (cases_Bool (enters before)) [
-          | inl yes_in ↦ let (old, mid, is, s, items) = rw yes_in at r in
-              rw yes_in (old, mid, is, follows (slot_list old) mid s, items-weaker mid ss items)
-          | inr not_in ↦ let is = rw not_in at r in rw not_in is
-        ]
-    item-weaker before (leaf s spelling d) r = r
-    item-weaker before (list f xs) r = r
-    item-weaker before (tables e xs) r = r
-    item-weaker before nothing r = r
-
-    items-weaker : (mid : List (Slot Node)) (ss : Slots) → ReordersItems enters R mid ss → ReordersItems enters S mid ss
-    items-weaker mid no_slots r = r
-    items-weaker mid (slot k n ss) r = (r.0, r.1, r.2, r.3, item-weaker r.0.item n r.4, items-weaker r.1 ss r.5)
-
 -- ---- the items before a place have been changed, by Q, and the others are as they were
 
 abbrev pub Turned : (Node → Node → Type 0) → ℕ → List (Slot Node) → List (Slot Node) → Type 0
@@ -89,29 +61,6 @@ module _ (Q : Node → Node → Type 0) where
   turn (suc n) (s ∷ mid) [] t l d y q = absurd t
   turn (suc n) (s ∷ mid) (e ∷ es) t l d y q = (t.0, t.1, turn n mid es t.2 (omega (arith, l)) d y q)
 
-  pub turned-long : (n : ℕ) (mid es : List (Slot Node)) → Turned Q n mid es → length es ≡ length mid
-  turned-long zero mid es t = ap length (sym t)
-  turned-long (suc n) [] [] t = refl
-  turned-long (suc n) [] (e ∷ es) t = absurd t
-  turned-long (suc n) (s ∷ mid) [] t = absurd t
-  turned-long (suc n) (s ∷ mid) (e ∷ es) t = ap suc (turned-long n mid es t.2)
-
-  -- an item that is still to come is as it was
-  pub turned-same : (n : ℕ) (mid es : List (Slot Node)) → Turned Q n mid es → (d : Slot Node) → get_or es n d ≡ get_or mid n d
-  turned-same zero mid es t d = ap (λ l. get_or l 0 d) (sym t)
-  turned-same (suc n) [] [] t d = refl
-  turned-same (suc n) [] (e ∷ es) t d = absurd t
-  turned-same (suc n) (s ∷ mid) [] t d = absurd t
-  turned-same (suc n) (s ∷ mid) (e ∷ es) t d = turned-same n mid es t.2 d
-
-turned-weaker : (P Q : Node → Node → Type 0) → ((x y : Node) → Q x y → P x y) → (n : ℕ) (mid es : List (Slot Node)) → Turned Q n mid es
-    → Turned P n mid es
-turned-weaker P Q w zero mid es t = t
-turned-weaker P Q w (suc n) [] [] t = tt
-turned-weaker P Q w (suc n) [] (e ∷ es) t = t
-turned-weaker P Q w (suc n) (s ∷ mid) [] t = t
-turned-weaker P Q w (suc n) (s ∷ mid) (e ∷ es) t = (t.0, w s.item e.item t.1, turned-weaker P Q w n mid es t.2)
-
 module _ (enters : Node → Bool) (R : List (Slot Node) → List (Slot Node) → Type 0) where
   -- past the last place all are changed
   pub all-turned : (n : ℕ) (mid es : List (Slot Node)) → Turned (ReordersItem enters R) n mid es → length es ≤ n
@@ -131,14 +80,3 @@ module _ (enters : Node → Bool) (R : List (Slot Node) → List (Slot Node) →
   some-turned rests (suc n) [] (e ∷ es) t = absurd t
   some-turned rests (suc n) (s ∷ mid) [] t = absurd t
   some-turned rests (suc n) (s ∷ mid) (e ∷ es) t = (s, mid, refl, t.0, t.1, some-turned rests n mid es t.2)
-
--- a sort that stopped at a place leaves the same slots at every level
-pub stopped : (enters : Node → Bool) (R S : List (Slot Node) → List (Slot Node) → Type 0) → ((es fs : List (Slot Node)) → R es fs → S es fs)
-    → ((es : List (Slot Node)) → S es es)
-    → (n : ℕ) (mid es : List (Slot Node)) → Turned (ReordersItem enters R) n mid es → n < length es → (d : Slot Node) (y : Node)
-    → ReordersItem enters S (get_or es n d).item y
-    → ReordersItems enters S mid (slots_from (set es n (record { key = (get_or es n d).key; item = y })))
-stopped enters R S follows rests n mid es t l d y q =
-    some-turned enters S rests (suc n) mid (set es n (record { key = (get_or es n d).key; item = y }))
-    (turn (ReordersItem enters S) n mid es (turned-weaker (ReordersItem enters S) (ReordersItem enters R) (item-weaker enters R S follows) n
-    mid es t) l d y q)

@@ -1,48 +1,23 @@
--- The orders of sorts are lawful, and the sort by key text as a function is one by the relation.
+-- The order of keys is lawful, and a sort by insertion is stable.
 use Rattle.std.proofs.Common.{◌≡◌, ◌⊎◌, ℕ, zero, suc, ◌+◌, Bool, true, false, not, ◌&&◌, cond, if◌then◌else◌, List, [], ◌∷◌, map, filter}
 use Rattle.std.proofs.Common.{length, get_or, inl, inr, ◌<◌, IsPermutation, IsSortedBy, refl, sym, ap, ◌∙◌, arith}
 use Rattle.std.proofs.lemmas.Bool.{cases_Bool, false≢true}
 use Rattle.std.proofs.lemmas.List.MinMax.{ranks_by}
 use Rattle.std.proofs.lemmas.List.Sorted.{IsPermutation-refl, IsPermutation-trans, IsPermutation-cons, IsPermutation-swap}
 use Rattle.std.proofs.lemmas.List.Sorted.{IsPermutation-map}
-use Rattle.std.specs.List.{AllByRecursion}
 use Rattle.std.specs.List.Sorted.{IsStableBy, ties}
 use Rattle.std.specs.Cmp.{IsStrictWeakOrder}
 use Rattle.std.specs.Cmp.Lexicographic.{nat_list_cmp_total}
 use Rattle.toml_edit_model.specs.Order.{insert_by, sorted_by}
-use Rattle.toml_edit_model.specs.Tree.{InlineFields, TableFields, Node, nothing, leaf, list, inline, table, tables, Slots, no_slots, slot}
+use Rattle.toml_edit_model.specs.Tree.{Node, Slots, no_slots, slot}
 use Rattle.toml_edit_model.specs.Slots.{Slot, on_item}
-use Rattle.toml_edit_model.specs.Lists.{slot_list, slots_from}
-use Rattle.toml_edit_model.specs.Sorting.{IsSortOf, others_first, name_lt, ReordersItem, ReordersItems, IsDeepSort, sorted_item}
+use Rattle.toml_edit_model.specs.Lists.{slot_list}
+use Rattle.toml_edit_model.specs.Sorting.{IsSortOf, name_lt, sorted_item}
 use Rattle.toml_edit_model.specs.Sorting.{sorted_slots}
 
 -- the order of keys
 pub name_lt-lawful : {T : Type 0} → IsStrictWeakOrder (name_lt {T = T})
 name_lt-lawful = ranks_by nat_list_cmp_total (λ s. s.key.name)
-
--- what fails the test comes first: lawful where the order is
-module _ {X : Type 0} (test : X → Bool) (lt : X → X → Bool) (o : IsStrictWeakOrder lt) where
-  both_way : (b c : Bool) (m n : Bool) → (m ≡ true → n ≡ false) → (if b then c && m else c) ≡ true → (if c then b && n else b) ≡ false
-  both_way true true m n h e = h e
-  both_way true false m n h e = absurd (false≢true e)
-  both_way false true m n h e = refl
-  both_way false false m n h e = refl
-
-  all_way : (b c d : Bool) (m n k : Bool) → (m ≡ false → n ≡ false → k ≡ false) → (if b then c && m else c) ≡ false
-      → (if c then d && n else d) ≡ false
-      → (if b then d && k else d) ≡ false
-  all_way true true true m n k h e f = h e f
-  all_way true c false m n k h e f = refl
-  all_way true false true m n k h e f = absurd (false≢true (sym f))
-  all_way false true d m n k h e f = absurd (false≢true (sym e))
-  all_way false false d m n k h e f = f
-
-  pub others_first-lawful : IsStrictWeakOrder (others_first test lt)
-  others_first-lawful =
-      record {
-        one_way = λ x y e. both_way (test x) (test y) (lt x y) (lt y x) (o.one_way x y) e;
-        chain = λ x y z e f. all_way (test x) (test y) (test z) (lt x y) (lt y z) (lt x z) (o.chain x y z) e f;
-      }
 
 -- ---- a sort by insertion
 
@@ -270,56 +245,3 @@ module _ (enters : Node → Bool) where
   sorted_slots-map (slot k n ss) =
       ap (insert_by (fits name_lt) (record { key = k; item = sorted_item enters n })) (sorted_slots-map ss)
       ∙ insert-settled (record { key = k; item = n }) (in_order (slot_list ss))
-
-  -- each item becomes its sorted one
-  abbrev Settles : List (Slot Node) → Type 0
-  Settles es = AllByRecursion (λ s. ReordersItem enters (IsSortOf name_lt) s.item (sorted_item enters s.item)) es
-
-  insert-settles : (s : Slot Node) (es : List (Slot Node)) → ReordersItem enters (IsSortOf name_lt) s.item (sorted_item enters s.item)
-      → Settles es → Settles (insert_by (fits name_lt) s es)
-  insert-settles s [] p q = (p, tt)
-  insert-settles s (r ∷ es) p q = either (fits name_lt s r) (insert-settles s es p q.1)
-    where
-      either : (b : Bool) → Settles (insert_by (fits name_lt) s es) → Settles (if b then s ∷ r ∷ es else r ∷ insert_by (fits name_lt) s es)
-      either true h = (p, q)
-      either false h = (q.0, h)
-
-  in_order-settles : (es : List (Slot Node)) → Settles es → Settles (in_order es)
-  in_order-settles [] q = tt
-  in_order-settles (s ∷ es) q = insert-settles s (in_order es) q.0 (in_order-settles es q.1)
-
-  settles-items : (es : List (Slot Node)) → Settles es → ReordersItems enters (IsSortOf name_lt) es (slots_from (map settled es))
-  settles-items [] q = refl
-  settles-items (s ∷ es) q = (s, es, refl, refl, q.0, settles-items es q.1)
-
-  -- the slots sorted are in order, and their items settled
-  sorted-items : (ss : Slots) → Settles (slot_list ss)
-      → ReordersItems enters (IsSortOf name_lt) (in_order (slot_list ss)) (slots_from (sorted_slots enters ss))
-  sorted-items ss q = rw (sorted_slots-map ss) (settles-items (in_order (slot_list ss)) (in_order-settles (slot_list ss) q))
-
-  table_either : (b : Bool) (f : TableFields) (ss : Slots) → b ≡ enters (table f ss) → Settles (slot_list ss)
-      → ReordersItem enters (IsSortOf name_lt) (table f ss) (if b then table f (slots_from (sorted_slots enters ss)) else table f ss)
-  table_either true f ss e q = rw (← e) (ss, in_order (slot_list ss), refl, sorted-sorts name_lt (slot_list ss), sorted-items ss q)
-  table_either false f ss e q = rw (← e) refl
-
-  inline_either : (b : Bool) (f : InlineFields) (ss : Slots) → b ≡ enters (inline f ss) → Settles (slot_list ss)
-      → ReordersItem enters (IsSortOf name_lt) (inline f ss) (if b then inline f (slots_from (sorted_slots enters ss)) else inline f ss)
-  inline_either true f ss e q = rw (← e) (ss, in_order (slot_list ss), refl, sorted-sorts name_lt (slot_list ss), sorted-items ss q)
-  inline_either false f ss e q = rw (← e) refl
-
-  mutual
-    item-settles : (n : Node) → ReordersItem enters (IsSortOf name_lt) n (sorted_item enters n)
-    item-settles (table f ss) = table_either (enters (table f ss)) f ss refl (slots-settle ss)
-    item-settles (inline f ss) = inline_either (enters (inline f ss)) f ss refl (slots-settle ss)
-    item-settles (leaf s spelling d) = refl
-    item-settles (list f xs) = refl
-    item-settles (tables e xs) = refl
-    item-settles nothing = refl
-
-    slots-settle : (ss : Slots) → Settles (slot_list ss)
-    slots-settle no_slots = tt
-    slots-settle (slot k n ss) = (item-settles n, slots-settle ss)
-
-  -- the function is a sort by the relation
-  pub sorted_slots-sorts : (ss : Slots) → IsDeepSort enters name_lt (slot_list ss) (sorted_slots enters ss)
-  sorted_slots-sorts ss = (in_order (slot_list ss), sorted-sorts name_lt (slot_list ss), sorted-items ss (slots-settle ss))

@@ -16,11 +16,11 @@ use Rattle.toml_edit_model.specs.Paths.{to_key, Path, same_path, Mention, PairSo
 use Rattle.toml_edit_model.specs.Accepted.{agree, all_agree, has_agreeing_pairs, elements_have_agreeing_pairs, pairs_have_agreeing_pairs}
 use Rattle.toml_edit_model.specs.Faults.{Fault, fault, recursion_limit, range_message, clash, first_clash, pair_clash, pair_clashes}
 use Rattle.toml_edit_model.specs.Faults.{long_path, deep_bracket, value_faults, elements_faults, pairs_faults}
-use Rattle.toml_edit_laws.specs.FlatTree.{is_right_value}
 use Rattle.toml_edit_laws.proofs.common.Tests.{and_left, and_right, and_both, and-assoc, true-false}
 use Rattle.toml_edit_laws.proofs.common.Cores.{Core, core, cores}
 use Rattle.toml_edit_laws.proofs.common.Agreement.{and-swap-inner, agree-all}
 use Rattle.toml_edit_model.specs.Roles.{Role, dotted_role, may_meet_inline}
+use Rattle.toml_edit_model.specs.Lone.{is_accepted_value}
 
 -- ---- lists that are empty
 
@@ -328,7 +328,7 @@ value_faults_right v start level h = (
         (and_both (has_short_keys v) (keeps_ranges v && has_agreeing_pairs v) k (and_both (keeps_ranges v) (has_agreeing_pairs v) r p))
 
 -- The value of a line is right exactly where it has no faults.
-pub is_right_value-faults : (v : Value) (start : ℕ) → is_empty (value_faults v start 0) ≡ is_right_value v
+pub is_right_value-faults : (v : Value) (start : ℕ) → is_empty (value_faults v start 0) ≡ is_accepted_value v
 is_right_value-faults v start =
     right-value v start 0 (omega arith)
     ∙ ap (λ n. nat_le n nesting_limit && (has_short_keys v && (keeps_ranges v && has_agreeing_pairs v))) (let here : 0 + depth v ≡ depth v =
@@ -337,7 +337,7 @@ is_right_value-faults v start =
     ∙ sym (and-assoc (nat_le (depth v) nesting_limit && has_short_keys v) (keeps_ranges v) (has_agreeing_pairs v))
 
 -- A value with a fault is not.
-pub wrong_by-fault : (v : Value) (start : ℕ) (f : Fault) → Contains (value_faults v start 0) f → is_right_value v ≡ false
+pub wrong_by-fault : (v : Value) (start : ℕ) (f : Fault) → Contains (value_faults v start 0) f → is_accepted_value v ≡ false
 wrong_by-fault v start f h = sym (is_right_value-faults v start) ∙ some (value_faults v start 0) h
   where
     some : (fs : List Fault) → Contains fs f → is_empty fs ≡ false

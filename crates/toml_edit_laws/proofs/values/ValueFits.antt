@@ -8,12 +8,11 @@ use Rattle.toml_edit_model.specs.Mode.{Mode}
 use Rattle.toml_edit_model.specs.Text.{Text}
 use Rattle.toml_edit_model.specs.Trivia.{IsWhiteSpace, IsWholeTrivia}
 use Rattle.toml_edit_model.specs.Syntax.{Frame, Value, scalar, array, inline_table, Elements, no_elements, element, Pairs, no_pairs, pair}
-use Rattle.toml_edit_model.specs.Syntax.{IsFrame, IsValue, AreElements, ArePairs, keeps_ranges, value_text, elements_text, pairs_text}
+use Rattle.toml_edit_model.specs.Syntax.{IsFrame, IsValue, AreElements, ArePairs, value_text, elements_text, pairs_text}
 use Rattle.toml_edit_model.specs.Syntax.{frame_text, path_text, comma_text}
 use Rattle.toml_edit_model.specs.Paths.{at_key, Mention, line_mentions}
-use Rattle.toml_edit_model.specs.Accepted.{has_agreeing_pairs}
 use Rattle.toml_edit_model.specs.Tree.{Decor, unset, Node, nothing, leaf, list, inline, table, tables, Items, no_items, item, Slots}
-use Rattle.toml_edit_model.specs.Tree.{no_slots, slot, IsWellMade}
+use Rattle.toml_edit_model.specs.Tree.{no_slots, slot}
 use Rattle.toml_edit_model.specs.TreeOf.{spanned_in, span_of, Entry, entry_of, entries, value_start, key_of, IsValueNode, AreElementNodes}
 use Rattle.toml_edit_model.specs.TreeOf.{AreEntrySlots}
 use Rattle.toml_edit_laws.specs.Standing.{Stands}
@@ -23,8 +22,7 @@ use Rattle.toml_edit_laws.proofs.mentions.KeyMentions.{line-source}
 use Rattle.toml_edit_laws.proofs.mentions.KeptMentions.{under-is, kept-is}
 use Rattle.toml_edit_laws.proofs.inline_tables.SlotsOfEntries.{IsMadeByKey, slot-key, slot-node, slot-rest, either-way}
 use Rattle.toml_edit_laws.proofs.values.ValueOwned.{ValueStands, pair-stands, first-stands, later-stand, around-stands, element-stands}
-use Rattle.toml_edit_laws.proofs.values.ValueOwned.{elements-after, value_owned}
-use Rattle.toml_edit_laws.proofs.values.ValueMade.{made_well}
+use Rattle.toml_edit_laws.proofs.values.ValueOwned.{elements-after}
 use Rattle.toml_edit_laws.proofs.common.Edges.{edge-before, edge-after, StartsAscii, EndsAscii, start-edge, end-edge, white-ends}
 use Rattle.toml_edit_laws.proofs.common.Edges.{trivia-starts, trivia-ends}
 use Rattle.toml_edit_laws.proofs.common.Trivia.{close-trivia}
@@ -32,7 +30,7 @@ use Rattle.toml_edit_laws.proofs.values.TextsLie.{frame-fits, SegmentFits, Lies,
 use Rattle.toml_edit_laws.proofs.values.ValueKinds.{not-value}
 use Rattle.toml_edit_model.specs.Roles.{ends_path}
 use Rattle.toml_edit_model.specs.TableMentions.{under, kept}
-use Rattle.toml_edit_model.specs.OwnedForm.{RawFits, OptionFits, DecorFits, KeyFits, NodeFits, ItemsFit, SlotsFit, owned_node}
+use Rattle.toml_edit_model.specs.OwnedForm.{RawFits, OptionFits, DecorFits, KeyFits, NodeFits, ItemsFit, SlotsFit}
 
 -- at both ends of a value and of the texts around it
 pub record AroundFits (source : Text) (i : ℕ) (before value after : Text) : Type 0 where
@@ -325,12 +323,3 @@ module _ (mode : Mode) where
       → AroundFits source i before (value_text v) after
       → NodeFits source n
   value_fits source v i before after n utf8 grammar is h fits = node-fits source utf8 n v i before after grammar h fits is
-
-  -- What they cut makes a node that is well made.
-  pub value_well_made : (source : Text) (v : Value) (i : ℕ) (before after : Text) (n : Node) → IsValue v → has_agreeing_pairs v ≡ true
-      → keeps_ranges v ≡ true
-      → IsValueNode (spanned_in mode) v i before after n → Stands source i (before ++ (value_text v ++ after))
-      → IsWellMade (owned_node source n)
-  value_well_made source v i before after n grammar agrees ranged is h =
-      made_well mode (owned_node source n) v i before after (record { grammar = grammar; agrees = agrees; ranged = ranged })
-      (value_owned mode source v i before after n is h)

@@ -11,7 +11,7 @@ use Rattle.toml_edit_model.specs.Lists.{is_item}
 use Rattle.toml_edit_model.specs.Iterating.{filled, filled_pairs, value_pairs}
 use Rattle.toml_edit_model.specs.Conversions.{new_inline, formatted}
 use Rattle.toml_edit_model.specs.TableCalls.{get, get_slot, contains_key, contains_value, contains_table, contains_tables, with_place}
-use Rattle.toml_edit_model.specs.InlineCalls.{get_value, contains_value_key, old_value, old_slot, or_inserted_value, entered}
+use Rattle.toml_edit_model.specs.InlineCalls.{get_value, old_value, old_slot, or_inserted_value, entered}
 use Rattle.toml_edit_model.specs.InlineCalls.{retained_values}
 use Rattle.toml_edit_model.specs.TableLike.{of_table, of_inline_table, like_inserted, like_old, like_contains_key, like_get_values}
 use Rattle.toml_edit_model.specs.examples.Parts.{plain_int, owned_decor, table_at}
@@ -229,7 +229,7 @@ made_inline = inline new_inline (slot (new_key a) (plain_int 1) no_slots)
 get_no_value : get_value c of_each ≡ None
 get_no_value = refl
 
-no_value_contained : contains_value_key c of_each ≡ false
+no_value_contained : contains_value c of_each ≡ false
 no_value_contained = refl
 
 values_iterated : map (λ p. p.0) (value_pairs of_each) ≡ one a

@@ -1,5 +1,5 @@
 -- Worked texts with trivia and spellings of all kinds, with their trees by hand.
-use Rattle.std.specs.Prelude.{refl, pos, true, false, [], ◌++◌, codes, Some}
+use Rattle.std.specs.Prelude.{refl, pos, true, false, ◌++◌, codes, Some}
 use Rattle.toml_edit_model.specs.Text.{byte_order_mark}
 use Rattle.toml_edit_model.specs.Scalars.{string}
 use Rattle.toml_edit_model.specs.Tree.{span, leaf, table}

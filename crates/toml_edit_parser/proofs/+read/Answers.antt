@@ -29,13 +29,13 @@ use Rattle.toml_edit_model.specs.OwnedForm.{NodeFits, SlotsFit}
 
 -- ---- a value
 
-pub reader::read_value-returns-in_default-clause-value : goal.reader::read_value-returns-in_default-clause-value
-reader::read_value-returns-in_default-clause-value t c =
+pub value::read_value-returns-in_default-clause-value : goal.value::read_value-returns-in_default-clause-value
+value::read_value-returns-in_default-clause-value t c =
     λ v start level more is stands below e. no_event v start level more c.args.events.now _ below e c.in_default.ensures
 
-pub reader::read_value-returns-in_err-read_scalar-in-Scalar-clause-value :
-    goal.reader::read_value-returns-in_err-read_scalar-in-Scalar-clause-value
-reader::read_value-returns-in_err-read_scalar-in-Scalar-clause-value t c =
+pub value::read_value-returns-in_err-read_scalar-in-Scalar-clause-value :
+    goal.value::read_value-returns-in_err-read_scalar-in-Scalar-clause-value
+value::read_value-returns-in_err-read_scalar-in-Scalar-clause-value t c =
     λ v start level more is stands below e.
     let first = c.in-Some.first in
     let rest = c.in-Some.rest.now in
@@ -43,32 +43,32 @@ reader::read_value-returns-in_err-read_scalar-in-Scalar-clause-value t c =
     let head = head_of v start level more c.args.events.now first rest below e c.in-Some.ensures in
     let p = err_from_is_err_and c.from_residual.result c.from_residual.ensures.1 in
     rw (p.1, p.2)
-    (scalar_refused c.args.source.now v start level more first rest failed.field-0.0 c.in-Scalar.is head is stands failed.ensures.value)
+    (scalar_refused c.args.reader.now.source.now v start level more first rest failed.field-0.0 c.in-Scalar.is head is stands failed.ensures.value)
 
-pub reader::read_value-returns-in_ok-read_scalar-in-Scalar-clause-value :
-    goal.reader::read_value-returns-in_ok-read_scalar-in-Scalar-clause-value
-reader::read_value-returns-in_ok-read_scalar-in-Scalar-clause-value t c =
+pub value::read_value-returns-in_ok-read_scalar-in-Scalar-clause-value :
+    goal.value::read_value-returns-in_ok-read_scalar-in-Scalar-clause-value
+value::read_value-returns-in_ok-read_scalar-in-Scalar-clause-value t c =
     λ v start level more is stands below e.
     let first = c.in-Some.first in
     let rest = c.in-Some.rest.now in
     let read = c.in_ok-read_scalar-in-Scalar in
     let head = head_of v start level more c.args.events.now first rest below e c.in-Some.ensures in
-    scalar_read c.args.source.now v start level more first rest (value_view read.field-0) c.in-Scalar.is head is stands read.ensures.value
+    scalar_read c.args.reader.now.source.now v start level more first rest (value_view read.field-0) c.in-Scalar.is head is stands read.ensures.value
 
-pub reader::read_value-returns-in-ArrayOpen-clause-value : goal.reader::read_value-returns-in-ArrayOpen-clause-value
-reader::read_value-returns-in-ArrayOpen-clause-value t c =
+pub value::read_value-returns-in-ArrayOpen-clause-value : goal.value::read_value-returns-in-ArrayOpen-clause-value
+value::read_value-returns-in-ArrayOpen-clause-value t c =
     λ v start level more is stands below e.
-    let s = c.args.source.now in
+    let s = c.args.reader.now.source.now in
     let first = c.in-Some.first in
     let rest = c.in-Some.rest.now in
     let head = head_of v start level more c.args.events.now first rest below e c.in-Some.ensures in
     array_opened s v start level more first rest (λ w. ReadsValue s w start level more c.read_array.result) c.in-ArrayOpen.is head is stands
     (λ es comma t are whole room at inner. c.read_array.ensures.value es comma t start level more are whole room at inner)
 
-pub reader::read_value-returns-in-InlineTableOpen-clause-value : goal.reader::read_value-returns-in-InlineTableOpen-clause-value
-reader::read_value-returns-in-InlineTableOpen-clause-value t c =
+pub value::read_value-returns-in-InlineTableOpen-clause-value : goal.value::read_value-returns-in-InlineTableOpen-clause-value
+value::read_value-returns-in-InlineTableOpen-clause-value t c =
     λ v start level more is stands below e.
-    let s = c.args.source.now in
+    let s = c.args.reader.now.source.now in
     let first = c.in-Some.first in
     let rest = c.in-Some.rest.now in
     let head = head_of v start level more c.args.events.now first rest below e c.in-Some.ensures in
@@ -76,29 +76,28 @@ reader::read_value-returns-in-InlineTableOpen-clause-value t c =
     is stands
     (λ ps comma t are whole room at inner. c.read_inline.ensures.value ps comma t start level more are whole room at inner)
 
-pub reader::read_value-returns-in_default-kind : goal.reader::read_value-returns-in_default-kind
-reader::read_value-returns-in_default-kind t c =
+pub value::read_value-returns-in_default-kind : goal.value::read_value-returns-in_default-kind
+value::read_value-returns-in_default-kind t c =
     record {
       value = λ v start level more is stands below e.
           let first = c.in-Some.first in
           let rest = c.in-Some.rest.now in
           let head = head_of v start level more c.args.events.now first rest below e c.in-Some.ensures in
           let other = c.in_default-kind in
-          too_deep c.args.source.now v start level more first rest c.refusal.result other.not-Scalar other.not-ArrayOpen
+          too_deep c.args.reader.now.source.now v start level more first rest c.refusal.result other.not-Scalar other.not-ArrayOpen
           other.not-InlineTableOpen
           head c.refusal.ensures.report;
-      input = mapped c.refusal.result _ _ (λ r is. ap (λ (x : Report). x.input) is) c.refusal.ensures.report;
-      listed = c.refusal.ensures.listed v1_1 (inr (3, lit< tt, refl));
+      refused = c.refusal.ensures.refused v1_1 (inr (3, lit< tt, refl));
       fits = tt;
       rest = tt;
     }
 
 -- ---- an array
 
-pub reader::read_array-returns-in_err-rest-clause-value : goal.reader::read_array-returns-in_err-rest-clause-value
-reader::read_array-returns-in_err-rest-clause-value t c =
+pub array::read_array-returns-in_err-rest-clause-value : goal.array::read_array-returns-in_err-rest-clause-value
+array::read_array-returns-in_err-rest-clause-value t c =
     λ es comma t start level more are whole room at inner.
-    let s = c.args.source.now in
+    let s = c.args.reader.now.source.now in
     let at = start + length (value_text (array es comma t)) - 1 in
     let ending = close_events ArrayClose (codes "]") at comma t ++ more in
     let p = err_from_is_err_and c.from_residual-in_err-rest.result c.from_residual-in_err-rest.ensures.1 in
@@ -106,10 +105,10 @@ reader::read_array-returns-in_err-rest-clause-value t c =
     (c.in_err-rest.ensures.elements es (start + 1) (suc level) ending are (elements_stand s es comma t start whole) (omega arith)
     (array_ends (suc level) at comma t more) inner))
 
-pub reader::read_array-returns-clause-value : goal.reader::read_array-returns-clause-value
-reader::read_array-returns-clause-value t c =
+pub array::read_array-returns-clause-value : goal.array::read_array-returns-clause-value
+array::read_array-returns-clause-value t c =
     λ es comma t start level more are whole room opened inner.
-    let s = c.args.source.now in
+    let s = c.args.reader.now.source.now in
     let at = start + length (value_text (array es comma t)) - 1 in
     let ending = close_events ArrayClose (codes "]") at comma t ++ more in
     let items = c.read_elements.new.values.items in
@@ -123,10 +122,10 @@ reader::read_array-returns-clause-value t c =
 
 -- ---- the elements
 
-pub reader::read_elements-elements-preserved-in_ok-rest-in-Some-split_scalar :
-    goal.reader::read_elements-elements-preserved-in_ok-rest-in-Some-split_scalar
-reader::read_elements-elements-preserved-in_ok-rest-in-Some-split_scalar t c =
-    let s = c.args.source.now in
+pub array::read_elements-elements-preserved-in_ok-rest-in-Some-split_scalar :
+    goal.array::read_elements-elements-preserved-in_ok-rest-in-Some-split_scalar
+array::read_elements-elements-preserved-in_ok-rest-in-Some-split_scalar t c =
+    let s = c.args.reader.now.source.now in
     let l = c.elements in
     let before = c.in-Some.before in
     let tail = c.in-Some.tail.now in
@@ -154,9 +153,9 @@ reader::read_elements-elements-preserved-in_ok-rest-in-Some-split_scalar t c =
           (λ x u spells stands at rest_is. read.element n.around x u n.place level later spells stands n.before_is at rest_is));
     }
 
-pub reader::read_elements-elements-preserved : goal.reader::read_elements-elements-preserved
-reader::read_elements-elements-preserved t c =
-    let s = c.args.source.now in
+pub array::read_elements-elements-preserved : goal.array::read_elements-elements-preserved
+array::read_elements-elements-preserved t c =
+    let s = c.args.reader.now.source.now in
     let l = c.elements in
     let before = c.in-Some.before in
     let tail = c.in-Some.tail.now in
@@ -173,11 +172,11 @@ reader::read_elements-elements-preserved t c =
           (read.element n.around n.value n.place level _ n.grammar n.stands n.below n.before_is n.tail_is);
     }
 
-pub reader::read_elements-returns-in_err-rest-in-Some-split_scalar-clause-elements :
-    goal.reader::read_elements-returns-in_err-rest-in-Some-split_scalar-clause-elements
-reader::read_elements-returns-in_err-rest-in-Some-split_scalar-clause-elements t c =
+pub array::read_elements-returns-in_err-rest-in-Some-split_scalar-clause-elements :
+    goal.array::read_elements-returns-in_err-rest-in-Some-split_scalar-clause-elements
+array::read_elements-returns-in_err-rest-in-Some-split_scalar-clause-elements t c =
     λ es start level more are stand below ends inner.
-    let s = c.args.source.now in
+    let s = c.args.reader.now.source.now in
     let l = c.elements in
     let place = c.in-Some-split_scalar.scalar in
     let behind = c.in-Some-split_scalar.behind.now in
@@ -194,11 +193,11 @@ reader::read_elements-returns-in_err-rest-in-Some-split_scalar-clause-elements t
     n.tail_is n.grammar n.stands
     (λ x u spells stands at rest_is. failed.ensures.element n.around x u n.place level later spells stands n.before_is at rest_is)))
 
-pub reader::read_elements-returns-in_err-rest-in-None-clause-elements :
-    goal.reader::read_elements-returns-in_err-rest-in-None-clause-elements
-reader::read_elements-returns-in_err-rest-in-None-clause-elements t c =
+pub array::read_elements-returns-in_err-rest-in-None-clause-elements :
+    goal.array::read_elements-returns-in_err-rest-in-None-clause-elements
+array::read_elements-returns-in_err-rest-in-None-clause-elements t c =
     λ es start level more are stand below ends inner.
-    let s = c.args.source.now in
+    let s = c.args.reader.now.source.now in
     let l = c.elements in
     let failed = c.in_err-rest-in-None in
     let left = l.invariant.progress es start level more
@@ -209,85 +208,85 @@ reader::read_elements-returns-in_err-rest-in-None-clause-elements t c =
     (named s (value_faults n.value (n.place + length n.around.before) level) (elements_faults es start level) failed.field-0.0 n.fault
     (failed.ensures.element n.around n.value n.place level _ n.grammar n.stands n.below n.before_is n.tail_is))
 
-pub reader::read_elements-returns-clause-elements : goal.reader::read_elements-returns-clause-elements
-reader::read_elements-returns-clause-elements t c =
+pub array::read_elements-returns-clause-elements : goal.array::read_elements-returns-clause-elements
+array::read_elements-returns-clause-elements t c =
     λ es start level more are stand below ends inner.
     let l = c.elements in
     let left = l.invariant.progress es start level more
     (record { grammar = are; stand = stand; below = below; ends = ends; events_are = inner }) in
-    elements.ended c.args.source.now es start level more l.rest.now l.values.items left c.in_default.ensures
+    elements.ended c.args.reader.now.source.now es start level more l.rest.now l.values.items left c.in_default.ensures
 
 -- ---- an element
 
-pub reader::read_element-returns-in_err-value-clause-element : goal.reader::read_element-returns-in_err-value-clause-element
-reader::read_element-returns-in_err-value-clause-element t c =
+pub array::read_element-returns-in_err-value-clause-element : goal.array::read_element-returns-in_err-value-clause-element
+array::read_element-returns-in_err-value-clause-element t c =
     λ a v start level more is stands below place inner.
     let p = err_from_is_err_and c.from_residual.result c.from_residual.ensures.1 in
     rw (p.1, p.2) (c.in_err-value.ensures.value v (start + length a.before) level
     (event After (start + length a.before + length (value_text v)) a.after ∷ more) is stands below inner)
 
-pub reader::read_element-returns-clause-element : goal.reader::read_element-returns-clause-element
-reader::read_element-returns-clause-element t c =
+pub array::read_element-returns-clause-element : goal.array::read_element-returns-clause-element
+array::read_element-returns-clause-element t c =
     λ a v start level more is stands below place inner.
     let end = start + length a.before + length (value_text v) in
     let h = c.in_ok-value.ensures.value v (start + length a.before) level (event After end a.after ∷ more) is stands below inner in
-    element_read c.args.source.now a v start level more c.args.values.now.items c.end_element.new.values.items
+    element_read c.args.reader.now.source.now a v start level more c.args.values.now.items c.end_element.new.values.items
     (value_view c.in_ok-value.value) c.in_ok-value.rest.now c.end_element.result h
     (c.end_element.ensures.element a.before a.after start end (shortened level more) place h.rest_is)
 
 -- ---- inline tables
 
-pub pairs::read_inline-returns-in_err-rest-clause-value : goal.pairs::read_inline-returns-in_err-rest-clause-value
-pairs::read_inline-returns-in_err-rest-clause-value t c =
+pub inline_table::read_inline-returns-in_err-rest-clause-value : goal.inline_table::read_inline-returns-in_err-rest-clause-value
+inline_table::read_inline-returns-in_err-rest-clause-value t c =
     λ ps comma u start level more are stands below at e.
     let p = err_from_is_err_and c.from_residual.result c.from_residual.ensures.1 in
     let end = start + length (value_text (inline_table ps comma u)) - 1 in
-    rw (p.1, p.2) (inline-refused c.args.source.now ps comma u start level c.in_err-rest.field-0.0 below
+    rw (p.1, p.2) (inline-refused c.args.reader.now.source.now ps comma u start level c.in_err-rest.field-0.0 below
     (c.in_err-rest.ensures.pairs ps (start + 1) (suc level) (close_events InlineTableClose (codes "}") end comma u ++ more) are
-    (pairs_stand c.args.source.now ps comma u start stands) (omega (arith, below)) (inline_ends (suc level) end comma u more) e))
+    (pairs_stand c.args.reader.now.source.now ps comma u start stands) (omega (arith, below)) (inline_ends (suc level) end comma u more) e))
 
-pub pairs::read_inline-returns-clause-value : goal.pairs::read_inline-returns-clause-value
-pairs::read_inline-returns-clause-value t c =
+pub inline_table::read_inline-returns-clause-value : goal.inline_table::read_inline-returns-clause-value
+inline_table::read_inline-returns-clause-value t c =
     λ ps comma u start level more are stands below at e.
     let end = start + length (value_text (inline_table ps comma u)) - 1 in
-    inline-closed c.args.source.now ps comma u start level more (slots_view c.read_pairs.new.slots) c.in_ok-rest.rest.now
+    inline-closed c.args.reader.now.source.now ps comma u start level more (slots_view c.read_pairs.new.slots) c.in_ok-rest.rest.now
     c.args.opening.start c.close_inline.result below at
     (c.in_ok-rest.ensures.pairs ps (start + 1) (suc level) (close_events InlineTableClose (codes "}") end comma u ++ more) are
-    (pairs_stand c.args.source.now ps comma u start stands) (omega (arith, below)) (inline_ends (suc level) end comma u more) e)
+    (pairs_stand c.args.reader.now.source.now ps comma u start stands) (omega (arith, below)) (inline_ends (suc level) end comma u more) e)
     c.close_inline.ensures.value
 
 -- ---- pairs
 
-pub pairs::read_pairs-pairs-init : goal.pairs::read_pairs-pairs-init
-pairs::read_pairs-pairs-init t c =
+pub inline_table::read_pairs-pairs-init : goal.inline_table::read_pairs-pairs-init
+inline_table::read_pairs-pairs-init t c =
     record {
-      spans = c.requires.1.1.0;
-      fits = subst (λ xs. SlotsFit c.args.source.now (slots_view xs)) (sym c.requires.1.1.1) tt;
+      spans = c.requires.spans;
+      fits = subst (λ xs. SlotsFit c.args.reader.now.source.now (slots_view xs)) (sym c.requires.first) tt;
       fewer = omega arith;
-      progress = λ ps start level more h. pairs.at_start c.args.source.now ps start level more c.args.events.now
-          (slots_view c.args.slots.now) (ap slots_view c.requires.1.1.1) h;
+      progress = λ ps start level more h. pairs.at_start c.args.reader.now.source.now ps start level more c.args.events.now
+          (slots_view c.args.slots.now) (ap slots_view c.requires.first) h;
     }
 
-pub pairs::read_pairs-pairs-preserved : goal.pairs::read_pairs-pairs-preserved
-pairs::read_pairs-pairs-preserved t c =
+pub inline_table::read_pairs-pairs-preserved : goal.inline_table::read_pairs-pairs-preserved
+inline_table::read_pairs-pairs-preserved t c =
     record {
       spans = c.in_ok-rest.ensures.rest.0;
       fits = c.in_ok-rest.ensures.fits c.pairs.invariant.fits;
       fewer = let shorter =
-          (leading-in c.args.source.now c.pairs.rest.now c.in-Some.leading c.in-Some.tail.now c.in-Some.ensures
+          (leading-in c.args.reader.now.source.now c.pairs.rest.now c.in-Some.leading c.in-Some.tail.now c.in-Some.ensures
           c.pairs.invariant.spans).2 in
           omega (arith, c.in_ok-rest.ensures.rest.1, c.pairs.invariant.fewer);
       progress = λ ps start level more h.
-          let n = pairs.next c.args.source.now ps start level more c.pairs.rest.now c.in-Some.leading c.in-Some.tail.now
+          let n = pairs.next c.args.reader.now.source.now ps start level more c.pairs.rest.now c.in-Some.leading c.in-Some.tail.now
           (slots_view c.pairs.slots)
           (c.pairs.invariant.progress ps start level more h) c.in-Some.ensures in
-          pairs.added c.args.source.now ps start level more c.in-Some.leading c.in-Some.tail.now (slots_view c.pairs.slots)
+          pairs.added c.args.reader.now.source.now ps start level more c.in-Some.leading c.in-Some.tail.now (slots_view c.pairs.slots)
           (slots_view c.read_pair.new.slots) _ n
           (c.in_ok-rest.ensures.pair n.frame n.value n.place level _ n.grammar n.value_grammar n.stands n.below n.leading_is n.tail_is);
     }
 
-pub pairs::read_pairs-returns-in_err-rest-clause-pairs : goal.pairs::read_pairs-returns-in_err-rest-clause-pairs
-pairs::read_pairs-returns-in_err-rest-clause-pairs t c =
+pub inline_table::read_pairs-returns-in_err-rest-clause-pairs : goal.inline_table::read_pairs-returns-in_err-rest-clause-pairs
+inline_table::read_pairs-returns-in_err-rest-clause-pairs t c =
     λ ps start level more are stand below ends e.
     let p = err_from_is_err_and c.from_residual.result c.from_residual.ensures.1 in
     let h = c.pairs.invariant.progress ps start level more (record {
@@ -298,49 +297,49 @@ pairs::read_pairs-returns-in_err-rest-clause-pairs t c =
       events_are =
           e;
     }) in
-    let n = pairs.next c.args.source.now ps start level more c.pairs.rest.now c.in-Some.leading c.in-Some.tail.now
+    let n = pairs.next c.args.reader.now.source.now ps start level more c.pairs.rest.now c.in-Some.leading c.in-Some.tail.now
     (slots_view c.pairs.slots) h c.in-Some.ensures in
-    rw (p.1, p.2) (pairs.refused c.args.source.now ps start level more c.in-Some.leading c.in-Some.tail.now (slots_view c.pairs.slots)
+    rw (p.1, p.2) (pairs.refused c.args.reader.now.source.now ps start level more c.in-Some.leading c.in-Some.tail.now (slots_view c.pairs.slots)
     c.in_err-rest.field-0.0 n
     (c.in_err-rest.ensures.pair n.frame n.value n.place level _ n.grammar n.value_grammar n.stands n.below n.leading_is n.tail_is))
 
-pub pairs::read_pairs-returns-clause-pairs : goal.pairs::read_pairs-returns-clause-pairs
-pairs::read_pairs-returns-clause-pairs t c =
+pub inline_table::read_pairs-returns-clause-pairs : goal.inline_table::read_pairs-returns-clause-pairs
+inline_table::read_pairs-returns-clause-pairs t c =
     λ ps start level more are stand below ends e.
-    pairs.ended c.args.source.now ps start level more c.pairs.rest.now (slots_view c.pairs.slots)
+    pairs.ended c.args.reader.now.source.now ps start level more c.pairs.rest.now (slots_view c.pairs.slots)
     (c.pairs.invariant.progress ps start level more (record { grammar = are; stand = stand; below = below; ends = ends; events_are = e }))
     c.in_default.ensures
 
 -- ---- one pair
 
-pub pairs::read_pair-returns-in_default-clause-pair : goal.pairs::read_pair-returns-in_default-clause-pair
-pairs::read_pair-returns-in_default-clause-pair t c =
+pub inline_table::read_pair-returns-in_default-clause-pair : goal.inline_table::read_pair-returns-in_default-clause-pair
+inline_table::read_pair-returns-in_default-clause-pair t c =
     λ f v start level more is value stands below same e. no-frame start f v level _ c.args.leading c.args.events.now _ is.1 same e
     c.in_default.ensures
 
-pub pairs::read_pair-returns-in_err-value-clause-pair : goal.pairs::read_pair-returns-in_err-value-clause-pair
-pairs::read_pair-returns-in_err-value-clause-pair t c =
+pub inline_table::read_pair-returns-in_err-value-clause-pair : goal.inline_table::read_pair-returns-in_err-value-clause-pair
+inline_table::read_pair-returns-in_err-value-clause-pair t c =
     λ f v start level more is value stands below same e.
     let p = err_from_is_err_and c.from_residual.result c.from_residual.ensures.1 in
     let parts = the-frame start f v level _ c.args.leading c.args.events.now (parts_of c.in-Some.frame) c.in-Some.rest.now is.1 same e
     c.in-Some.ensures in
-    rw (p.1, p.2) (value-refused c.args.source.now f v start level (slots_view c.args.slots.now) c.in_err-value.field-0.0
-    (c.in_err-value.ensures.value v (value_at_byte start f) level _ value (value-stands c.args.source.now start f (value_text v) stands)
+    rw (p.1, p.2) (value-refused c.args.reader.now.source.now f v start level (slots_view c.args.slots.now) c.in_err-value.field-0.0
+    (c.in_err-value.ensures.value v (value_at_byte start f) level _ value (value-stands c.args.reader.now.source.now start f (value_text v) stands)
     below parts.1))
 
-pub pairs::read_pair-returns-then-frame-gt-MOST_PATH_EVENTS-clause-pair :
-    goal.pairs::read_pair-returns-then-frame-gt-MOST_PATH_EVENTS-clause-pair
-pairs::read_pair-returns-then-frame-gt-MOST_PATH_EVENTS-clause-pair t c =
+pub inline_table::read_pair-returns-then-frame-gt-MOST_PATH_EVENTS-clause-pair :
+    goal.inline_table::read_pair-returns-then-frame-gt-MOST_PATH_EVENTS-clause-pair
+inline_table::read_pair-returns-then-frame-gt-MOST_PATH_EVENTS-clause-pair t c =
     λ f v start level more is value stands below same e.
     let parts = the-frame start f v level _ c.args.leading c.args.events.now (parts_of c.in-Some.frame) c.in-Some.rest.now is.1 same e
     c.in-Some.ensures in
-    too-long c.args.source.now f v start level (slots_view c.args.slots.now) c.refusal_of_all.result is.1
+    too-long c.args.reader.now.source.now f v start level (slots_view c.args.slots.now) c.refusal_of_all.result is.1
     (subst (λ (q : FrameParts). 238 < length q.path) parts.0 c.if-frame-gt-MOST_PATH_EVENTS.true) c.refusal_of_all.ensures.report
 
-pub pairs::read_pair-returns-clause-pair : goal.pairs::read_pair-returns-clause-pair
-pairs::read_pair-returns-clause-pair t c =
+pub inline_table::read_pair-returns-clause-pair : goal.inline_table::read_pair-returns-clause-pair
+inline_table::read_pair-returns-clause-pair t c =
     λ f v start level more is value stands below same e.
-    let s = c.args.source.now in
+    let s = c.args.reader.now.source.now in
     let end = value_at_byte start f + length (value_text v) in
     let parts = the-frame start f v level _ c.args.leading c.args.events.now (parts_of c.in-Some.frame) c.in-Some.rest.now is.1 same e
     c.in-Some.ensures in
@@ -353,44 +352,39 @@ pairs::read_pair-returns-clause-pair t c =
     c.end_pair-ended.result short (subst P (sym (view-Value c.in_ok-value.value)) h)
     (c.end_pair-ended.ensures.pair f v start end (shortened level more) is (path-stands s start f (value_text v) stands) parts.0 h.rest_is)
 
-pub pairs::read_pair-read_value-requires : goal.pairs::read_pair-read_value-requires
-pairs::read_pair-read_value-requires t c =
-    let parts = frame-in c.args.source.now c.args.leading c.args.events.now (parts_of c.in-Some.frame) c.in-Some.rest.now c.in-Some.ensures
-    c.requires.1.1.1 in
-    let at : 4 * length c.args.events.now + 1 ≡ t = c.requires.1.0 in
+pub inline_table::read_pair-read_value-requires : goal.inline_table::read_pair-read_value-requires
+inline_table::read_pair-read_value-requires t c =
+    let parts = frame-in c.args.reader.now.source.now c.args.leading c.args.events.now (parts_of c.in-Some.frame) c.in-Some.rest.now c.in-Some.ensures
+    c.requires.spans in
+    let at : 4 * length c.args.events.now + 1 ≡ t = c.decreases in
     let fewer = parts.fewer in
     let less : 4 * length c.in-Some.rest.now < t = omega (arith, at, fewer) in
     (less, parts.others)
 
-pub pairs::read_pair-end_pair-ended-requires-clause-before_equals : goal.pairs::read_pair-end_pair-ended-requires-clause-before_equals
-pairs::read_pair-end_pair-ended-requires-clause-before_equals t c =
-    (frame-in c.args.source.now c.args.leading c.args.events.now (parts_of c.in-Some.frame) c.in-Some.rest.now c.in-Some.ensures
-    c.requires.1.1.1).before_equals
+pub inline_table::read_pair-end_pair-ended-requires-clause-before_equals : goal.inline_table::read_pair-end_pair-ended-requires-clause-before_equals
+inline_table::read_pair-end_pair-ended-requires-clause-before_equals t c =
+    (frame-in c.args.reader.now.source.now c.args.leading c.args.events.now (parts_of c.in-Some.frame) c.in-Some.rest.now c.in-Some.ensures
+    c.requires.spans).before_equals
 
-pub pairs::read_pair-end_pair-ended-requires-clause-after_equals : goal.pairs::read_pair-end_pair-ended-requires-clause-after_equals
-pairs::read_pair-end_pair-ended-requires-clause-after_equals t c =
-    (frame-in c.args.source.now c.args.leading c.args.events.now (parts_of c.in-Some.frame) c.in-Some.rest.now c.in-Some.ensures
-    c.requires.1.1.1).after_equals
+pub inline_table::read_pair-end_pair-ended-requires-clause-after_equals : goal.inline_table::read_pair-end_pair-ended-requires-clause-after_equals
+inline_table::read_pair-end_pair-ended-requires-clause-after_equals t c =
+    (frame-in c.args.reader.now.source.now c.args.leading c.args.events.now (parts_of c.in-Some.frame) c.in-Some.rest.now c.in-Some.ensures
+    c.requires.spans).after_equals
 
-pub pairs::read_pair-returns-clause-fits : goal.pairs::read_pair-returns-clause-fits
-pairs::read_pair-returns-clause-fits t c =
+pub inline_table::read_pair-returns-clause-fits : goal.inline_table::read_pair-returns-clause-fits
+inline_table::read_pair-returns-clause-fits t c =
     λ slots.
-    let P : Node → Type 0 = λ n. NodeFits c.args.source.now n in
+    let P : Node → Type 0 = λ n. NodeFits c.args.reader.now.source.now n in
     c.end_pair-ended.ensures.fits (subst P (sym (view-Value c.in_ok-value.value)) c.in_ok-value.ensures.fits) slots
 
-pub pairs::read_pair-returns-clause-rest : goal.pairs::read_pair-returns-clause-rest
-pairs::read_pair-returns-clause-rest t c =
-    let s = c.args.source.now in
+pub inline_table::read_pair-returns-clause-rest : goal.inline_table::read_pair-returns-clause-rest
+inline_table::read_pair-returns-clause-rest t c =
+    let s = c.args.reader.now.source.now in
     let parts = frame-in s c.args.leading c.args.events.now (parts_of c.in-Some.frame) c.in-Some.rest.now c.in-Some.ensures
-    c.requires.1.1.1 in
+    c.requires.spans in
     fewer-still s c.in-Some.rest.now c.in_ok-value.rest.now c.args.events.now c.end_pair-ended.result parts.fewer
     c.in_ok-value.ensures.rest.1 c.end_pair-ended.ensures.rest
 
-pub pairs::read_pair-returns-then-frame-gt-MOST_PATH_EVENTS-clause-listed :
-    goal.pairs::read_pair-returns-then-frame-gt-MOST_PATH_EVENTS-clause-listed
-pairs::read_pair-returns-then-frame-gt-MOST_PATH_EVENTS-clause-listed t c = c.refusal_of_all.ensures.listed v1_1
-
-pub pairs::read_pair-returns-then-frame-gt-MOST_PATH_EVENTS-clause-input :
-    goal.pairs::read_pair-returns-then-frame-gt-MOST_PATH_EVENTS-clause-input
-pairs::read_pair-returns-then-frame-gt-MOST_PATH_EVENTS-clause-input t c =
-    mapped c.refusal_of_all.result _ _ (λ r known. ap (λ (x : Report). x.input) known) c.refusal_of_all.ensures.report
+pub inline_table::read_pair-returns-then-frame-gt-MOST_PATH_EVENTS-clause-refused :
+    goal.inline_table::read_pair-returns-then-frame-gt-MOST_PATH_EVENTS-clause-refused
+inline_table::read_pair-returns-then-frame-gt-MOST_PATH_EVENTS-clause-refused t c = c.refusal_of_all.ensures.refused v1_1

@@ -1,4 +1,4 @@
-//! Calls that concern all slots.
+//! Calls that keep, sort or add many slots.
 ghost use Rattle.std.specs.Prelude.{◌≡◌, List, [], IsPermutation, IfOk, OnOk, OnErr};
 ghost use Rattle.std.specs.Iterator.{Drains, ExtendsWithItems, IsFinite};
 ghost use Rattle.toml_edit_model.specs.Retaining.{RetainsBy};
@@ -48,16 +48,6 @@ impl<T> Slots<T> {
         sorted
     }
 
-    /// Removes all slots.
-    pub fn clear(&mut self)
-    where
-        T: Drop,
-        ensures { self.new ≡ [] }
-    {
-        self.entries.clear();
-        self.index = None;
-    }
-
     /// Inserts pairs of keys and items one after another, as [`extend_one`](Slots::extend_one)
     /// does.
     ///
@@ -100,15 +90,6 @@ impl<T> Slots<T> {
         let mut slots = Slots::new(alloc);
         slots.extend(pairs)?;
         Ok(slots)
-    }
-
-    /// Returns the slots in order as a vector.
-    pub fn into_vec(self) -> Vec<Slot<T>>
-        ensures { result.items ≡ self }
-    {
-        let Slots { entries, index } = self;
-        drop(index);
-        entries
     }
 }
 

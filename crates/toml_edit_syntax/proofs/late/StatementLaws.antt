@@ -4,6 +4,7 @@ use Rattle.std.proofs.Common.{drop, codes, arith, Option, Some, None}
 use Rattle.std.specs.Prelude.{IfSome, IsNone}
 use Rattle.std.specs.Option.{option_or}
 use Rattle.std.proofs.Math.Seq.{take-length}
+use Rattle.std.proofs.lemmas.Bool.Decides.{nat_tests}
 use Rattle.toml_edit_model.specs.Text.{Text}
 use Rattle.toml_edit_model.specs.Paths.{path_start}
 use Rattle.toml_edit_model.specs.Syntax.{Header, Value, Statement, key_line, header, path_text, frame_text, value_text, opening_brackets}
@@ -20,7 +21,8 @@ use Rattle.toml_edit_syntax.specs.ValueEvents.{event, path_events, value_at_byte
 use Rattle.toml_edit_syntax.specs.LateEvents.{NamesLate, late_in_events}
 use Rattle.toml_edit_syntax.proofs.late.Places.{first_of, first_named, first_none}
 use Rattle.toml_edit_syntax.proofs.late.EventLaws.{chain, path_first, value_first, path_stands, line_value_stands, regrouped}
-use Rattle.toml_edit_syntax.proofs.late.DepthLaws.{statement_passes}
+use Rattle.toml_edit_syntax.proofs.ShortenedLaws.{Fits}
+use Rattle.toml_edit_syntax.proofs.StatementLaws.{depth_of, statement_stays}
 use Rattle.toml_edit_syntax.proofs.late.ShortenedLaws.{found_whole, shallow_stays}
 
 or_none : (o : Option Span) → option_or o None ≡ o
@@ -134,6 +136,10 @@ statement_none source start s events more None h e is shallow none =
     (sym (h.found (shortened stays.behind more)) ∙ ap (late_in_events source) (sym stays.same
     ∙ sym (tail_cut source start s events more h e)) ∙ sym is)
 
+shallow_fits : (s : Statement) → has_deep_value s ≡ false → Fits 0 (depth_of s)
+shallow_fits (key_line f v end) shallow = λ _. grind (arith, nat_tests)
+shallow_fits (header h end) shallow = λ _. omega arith
+
 -- the same where the value is not too deep
 pub shallow_none : (source : Text) (start : ℕ) (s : Statement) (events more : List Event) (o : Option Span) → IsFound source start s
     → events ≡ shortened 0 (statement_events start s ++ more) → o ≡ late_in_events source (behind events)
@@ -141,7 +147,7 @@ pub shallow_none : (source : Text) (start : ℕ) (s : Statement) (events more : 
 shallow_none source start s events more (Some x) h e is shallow none = absurd (let clash : true ≡ false = none in cc)
 shallow_none source start s events more None h e is shallow none =
     let whole : events ≡ event Leading start h.leading ∷ (h.rest ++ shortened 0 more) =
-    e ∙ statement_passes s start shallow more ∙ ap (λ (es : List Event). es ++ shortened 0 more) h.parts in
+    e ∙ statement_stays 0 start s (shallow_fits s shallow) more ∙ ap (λ (es : List Event). es ++ shortened 0 more) h.parts in
     first_none (late_places start s)
     (sym (h.found (shortened 0 more)) ∙ ap (late_in_events source)
     (sym (tail_is events (event Leading start h.leading) (h.rest ++ shortened 0 more) whole)) ∙ sym is)

@@ -57,10 +57,6 @@ open_to j (c ∷ body) n t each k =
       | inr other ↦ rw (not_feed c both.0, not_return c both.0, other) later
     ]
 
-line_stops : (n : Newline) (t : Text) → prefix_len is_in_line (newline_text n ++ t) ≡ 0
-line_stops lf t = refl
-line_stops crlf t = refl
-
 body_len : (body : Text) (n : Newline) (t : Text) → Each is_visible body → prefix_len is_in_line (body ++ (newline_text n ++ t))
     ≡ length body
 body_len body lf t each = prefix_len-run is_in_line body (newline_text lf ++ t) (all_in_line body each) refl
@@ -73,9 +69,6 @@ comment_on body n t each i =
     ap (λ (m : ℕ). Some (span_from i m)) size ∙ sym (open_to i body n t each (suc i))
 
 -- ---- pieces
-
-again : (a b t : Text) → Agrees (a ++ (b ++ t)) → Agrees ((a ++ b) ++ t)
-again a b t h = subst Agrees (sym (append_assoc a b t)) h
 
 blank_feed : (c : ℕ) → is_blank c ≡ true → (c == line_feed) ≡ false
 blank_feed c is = grind (arith, nat_tests)

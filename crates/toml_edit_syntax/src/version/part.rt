@@ -3,7 +3,7 @@ ghost use Rattle.std.specs.Prelude.{◌≡◌, IfSome};
 ghost use Rattle.toml_edit_syntax.specs.Events.{IsSpanOf};
 ghost use Rattle.toml_edit_syntax.specs.LateEvents as spec;
 
-use crate::event::{Event, EventKind, Span, cut};
+use crate::event::{Event, EventKind, Span, text_at};
 use crate::version::spelling::{late_escape, late_in_scalar};
 use crate::version::trivia::late_in_trivia;
 
@@ -29,7 +29,7 @@ pub(crate) fn late_in_event(source: &str, event: Event, behind: &[Event]) -> Opt
     ensures span { IfSome result (λ span. IsSpanOf source.now span) }
 {
     let span = event.span;
-    let text = cut(source, span);
+    let text = text_at(source, span);
     match event.kind {
         EventKind::Key => late_escape(span.start, text),
         EventKind::Scalar => late_in_scalar(span.start, text),

@@ -6,7 +6,7 @@ ghost use Rattle.toml_edit_table_like.specs.Refs.{ref_node, ref_slots};
 use super::TableRefMut;
 use super::change::{format_in, insert_in, remove_in, set_dotted_in, sort_in};
 use super::made_of::own_slots_mut;
-use crate::put::{place_for, place_for_key};
+use crate::put::{find_or_add, find_or_add_key};
 use crate::{AnyTable, AsTableLike, HasSlots, TableRef};
 use std::alloc::Global;
 use toml_edit_key::Key;
@@ -40,7 +40,7 @@ impl<'a> AnyTable for TableRefMut<'a> {
 
     fn or_insert(&mut self, key: &str, item: Item) -> Result<&mut Item, NoMemory<Item>> {
         let slots = own_slots_mut(self.item);
-        match place_for(slots, key, item) {
+        match find_or_add(slots, key, item) {
             Ok(at) => Ok(slots.item_mut(at)),
             Err(refused) => Err(refused),
         }
@@ -48,7 +48,7 @@ impl<'a> AnyTable for TableRefMut<'a> {
 
     fn or_insert_format(&mut self, key: &Key, item: Item) -> Result<&mut Item, NoMemory<Item>> {
         let slots = own_slots_mut(self.item);
-        match place_for_key(slots, key, item) {
+        match find_or_add_key(slots, key, item) {
             Ok(at) => Ok(slots.item_mut(at)),
             Err(refused) => Err(refused),
         }

@@ -28,9 +28,9 @@ pub(crate) fn gaps_of_line(
     ensures after { IfOk result (λ gaps. gaps.1 ≡ owned (after.now ++ after_first_line gap.now)) }
 {
     let (line, next) = split_first_line(gap);
-    let start = joined(alloc, above, newline, indent)?;
-    let before = joined(alloc, line, start.as_str(), "")?;
-    let after = joined(alloc, after, next, "")?;
+    let start = join_three(alloc, above, newline, indent)?;
+    let before = join_three(alloc, line, start.as_str(), "")?;
+    let after = join_three(alloc, after, next, "")?;
     Ok((RawString::from(before), RawString::from(after)))
 }
 
@@ -42,7 +42,7 @@ pub(crate) fn broken_gap(alloc: Global, gap: &str, newline: &str, indent: &str) 
     if is_broken(gap) {
         String::from_str(alloc, gap)
     } else {
-        joined(alloc, newline, indent, "")
+        join_three(alloc, newline, indent, "")
     }
 }
 
@@ -160,7 +160,7 @@ pub(crate) fn left_of(alloc: Global, before: &str, after: &str, is_last: bool) -
 {
     if is_broken(before) && is_broken(after) {
         let (line, _) = split_first_line(before);
-        return joined(alloc, line, split_first_line(after).1, "");
+        return join_three(alloc, line, split_first_line(after).1, "");
     }
     if is_broken(after) || is_last {
         return after_comment(alloc, before, after);
@@ -181,7 +181,7 @@ pub(crate) fn decor_taken(
         return Ok(None);
     }
     let (line, _) = split_first_line(after);
-    let suffix = joined(alloc, suffix, line, "")?;
+    let suffix = join_three(alloc, suffix, line, "")?;
     let prefix = RawString::from_text(alloc, split_first_line(before).1)?;
     Ok(Some(Decor::new(prefix, RawString::from(suffix))))
 }
@@ -192,7 +192,7 @@ fn after_comment(alloc: Global, before: &str, text: &str) -> Mem<String>
         ≡ commented_line before.now ++ text.now) }
 {
     match first_comment(before) {
-        Some(_) => joined(
+        Some(_) => join_three(
             alloc,
             split_first_line(before).0,
             first_newline(before),
@@ -203,7 +203,7 @@ fn after_comment(alloc: Global, before: &str, text: &str) -> Mem<String>
 }
 
 /// Returns the three texts, one after another.
-pub(crate) fn joined<'a>(
+pub(crate) fn join_three<'a>(
     alloc: Global,
     first: &'a str,
     second: &'a str,

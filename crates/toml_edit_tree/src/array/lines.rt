@@ -12,7 +12,7 @@ ghost use Rattle.toml_edit_tree.specs.View.{array_view, value_view};
 
 use super::line_texts::{
     after_newline, broken_gap, decor_taken, default_before, first_newline, gaps_of_line, is_broken,
-    is_white, joined, left_of, takes_lines, text_above, text_after, text_of, text_or,
+    is_white, join_three, left_of, takes_lines, text_above, text_after, text_of, text_or,
 };
 use crate::array::Array;
 use crate::value::Value;
@@ -114,7 +114,7 @@ impl Array {
             ≡ comment_behind at (array_fields self.now) (items_of self.now) }
     {
         if at < self.len() {
-            first_comment(behind(self, at))
+            first_comment(text_behind(self, at))
         } else {
             None
         }
@@ -129,7 +129,7 @@ fn gaps_around(array: &Array, at: usize, decor: &Decor) -> Mem<(RawString, RawSt
         ≡ owned (gaps_around at decor.now (array_fields array.now) (items_of array.now)).1) }
 {
     let alloc = *array.values.allocator();
-    let gap = gap_at(array, at)?;
+    let gap = gap_text(array, at)?;
     let newline = newline_at(array, gap.as_str());
     let indent = indent_at(array, at);
     let above = text_above(alloc, decor, newline, indent)?;
@@ -147,7 +147,7 @@ fn gaps_around(array: &Array, at: usize, decor: &Decor) -> Mem<(RawString, RawSt
         )?;
         return Ok(gaps);
     }
-    let start = joined(alloc, newline, indent, "")?;
+    let start = join_three(alloc, newline, indent, "")?;
     let gaps = gaps_on_line(array, at, gap.as_str(), start.as_str())?;
     Ok(gaps)
 }
@@ -185,7 +185,7 @@ fn end_start<'a>(array: &Array, at: usize, start: &'a str) -> &'a str
         ≡ (if is_broken (side_text (prefix_at (beside at (items_of array.now)) (items_of array.now)))
         then start.entry.now else element_default (at == 0)) }
 {
-    if is_broken(text_of(prefix_at(array, beside(array, at)))) {
+    if is_broken(text_of(prefix_at(array, place_beside(array, at)))) {
         start
     } else {
         default_before(at)
@@ -193,7 +193,7 @@ fn end_start<'a>(array: &Array, at: usize, start: &'a str) -> &'a str
 }
 
 /// Returns the place of the value there, or else that of the last one.
-fn beside(array: &Array, at: usize) -> usize
+fn place_beside(array: &Array, at: usize) -> usize
     ensures { result ≡ beside at (items_of array.now) }
 {
     let count = array.len();
@@ -241,7 +241,7 @@ fn newline_at_end(array: &Array) -> &'static str
 fn indent_at(array: &Array, at: usize) -> &str
     ensures { result.now ≡ indent_at at (items_of array.now) }
 {
-    match line_begun(array, beside(array, at)) {
+    match line_begun(array, place_beside(array, at)) {
         Some(line) => split_white(line).0,
         None => "    ",
     }
@@ -286,7 +286,7 @@ fn insert_between(
 {
     array.insert(at, value)?;
     follow(array, at);
-    place(array, at, before);
+    set_prefix_only(array, at, before);
     put_gap_after(array, at, after);
     Ok(())
 }
@@ -378,11 +378,11 @@ fn parts_removed(array: &Array, at: usize) -> Mem<(RawString, Option<Decor>)>
     let alloc = *array.values.allocator();
     let count = array.len();
     let is_last = at + 1 >= count;
-    let before = gap_at(array, at)?;
-    let after = gap_at(array, at + 1)?;
+    let before = gap_text(array, at)?;
+    let after = gap_text(array, at + 1)?;
     let suffix = before_comma(array, at, is_last);
     let rest = left_of(alloc, before.as_str(), after.as_str(), is_last)?;
-    let left = joined(alloc, suffix_left(array, at), rest.as_str(), "")?;
+    let left = join_three(alloc, suffix_left(array, at), rest.as_str(), "")?;
     let decor = decor_taken(alloc, before.as_str(), suffix, after.as_str())?;
     Ok((RawString::from(left), decor))
 }
@@ -463,7 +463,7 @@ fn set_suffix(array: &mut Array, at: usize, suffix: RawString)
 }
 
 /// Sets the decor of the value at the place, if there is one: this prefix, and no suffix.
-fn place(array: &mut Array, at: usize, prefix: RawString)
+fn set_prefix_only(array: &mut Array, at: usize, prefix: RawString)
     ensures items { items_of array.new ≡ changed_at at (placed prefix) (items_of array.old) }
     ensures fields { array_fields array.new ≡ array_fields array.old }
 {
@@ -475,7 +475,7 @@ fn place(array: &mut Array, at: usize, prefix: RawString)
 }
 
 /// Returns the gap at the place.
-fn gap_at(array: &Array, at: usize) -> Mem<String>
+fn gap_text(array: &Array, at: usize) -> Mem<String>
     ensures { IfOk result (λ text. string_bytes text
         ≡ gap at (array_fields array.now) (items_of array.now)) }
 {
@@ -484,7 +484,7 @@ fn gap_at(array: &Array, at: usize) -> Mem<String>
         let prefix = text_or(prefix_at(array, at), default_before(at));
         return String::from_str(alloc, prefix);
     }
-    joined(
+    join_three(
         alloc,
         last_suffix(array),
         text_of(Some(array.trailing())),
@@ -503,7 +503,7 @@ fn last_suffix(array: &Array) -> &str
 }
 
 /// Returns what is after the value at the place and its comma.
-fn behind(array: &Array, at: usize) -> &str
+fn text_behind(array: &Array, at: usize) -> &str
     requires { at < length (items_of array.now) }
     ensures { result.now ≡ behind at (array_fields array.now) (items_of array.now) }
 {

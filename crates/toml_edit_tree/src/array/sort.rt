@@ -9,6 +9,7 @@ use crate::item::Item;
 use crate::value::Value;
 use std::cmp::Ordering;
 use toml_edit_repr::Mem;
+use toml_edit_slots::list;
 
 impl Array {
     /// Sorts the values by `compare`. The sort is stable.
@@ -73,7 +74,7 @@ where
         (SortsValuesAs F.FnMut compare (listed items.old.items) (listed items.new.items)) }
     ensures err { OnErr result (items_view items.new.items ≡ items_view items.old.items) }
 {
-    toml_edit_lists::sort_by(items, compare)
+    list::sort_by(items, compare)
 }
 
 /// Sorts items by keys of their values. Those without one come first.
@@ -87,5 +88,5 @@ where
         (SortsValuesByKey F.FnMut K.cmp key (listed items.old.items) (listed items.new.items)) }
     ensures err { OnErr result (items_view items.new.items ≡ items_view items.old.items) }
 {
-    toml_edit_lists::sort_by_key(items, key)
+    list::sort_by_key(items, key)
 }

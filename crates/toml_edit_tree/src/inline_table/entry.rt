@@ -447,7 +447,8 @@ impl InlineTable {
         ensures within { IfSome result (λ at. at < length (out-InlineTable self.now).items) }
         ensures apart { AreApart (inline_slots_of self.now) }
     {
-        let _entries = self.items.as_slice();
+        // No two keys have one name, says its contract.
+        let _ = self.items.as_slice();
         self.items.find(key)
     }
 

@@ -537,7 +537,8 @@ impl Table {
         ensures within { IfSome result (λ at. at < length (out-Table self.now).slots) }
         ensures apart { AreApart (slots_of self.now) }
     {
-        let _entries = self.slots.as_slice();
+        // No two keys have one name, says its contract.
+        let _ = self.slots.as_slice();
         self.slots.find(key)
     }
 

@@ -34,7 +34,7 @@ impl Table {
     /// Makes the table that a path implies: below a dotted key, or below a key of a header before
     /// the last. The key spans the bytes from `start` to `end` of the source.
     #[doc(hidden)]
-    pub fn passed(slots: Slots<Item>, dotted: bool, start: usize, end: usize) -> Table
+    pub fn new_implied(slots: Slots<Item>, dotted: bool, start: usize, end: usize) -> Table
         ensures { table_view result
             ≡ record { fields = implied dotted start end; slots = slots_view slots } }
     {

@@ -1,11 +1,10 @@
 -- Each turn puts a header and its table's lines.
 use Rattle.std.proofs.Common.{◌<◌, [], ◌++◌, length, refl, arith}
 use Rattle.toml_edit_model.specs.Print.{table_lines}
-use Rattle.toml_edit_laws.specs.PrintByVisits.{header_text}
+use Rattle.toml_edit_laws.specs.PrintByVisits.{header_text, lines_text}
 use Rattle.toml_edit_laws.proofs.print_by_visits.Turns.{headers-turn-lines}
 use Rattle.toml_edit_repr.specs.Modes.{mode_of}
 use Rattle.toml_edit_io.proofs.Puts.{put_none, put_two}
-use Rattle.toml_edit_tree.specs.Printing.{lines_text}
 use Rattle.toml_edit_tree.specs.View.{table_slots}
 use Rattle.toml_edit.specs.HeadersView.{header_view}
 use Rattle.toml_edit.proofs.encode.put_headers.Goals as goal

@@ -1,5 +1,5 @@
 -- What is held in the end is put but for the newline.
-use Rattle.std.proofs.Common.{◌≡◌, ◌++◌, ◌∙◌, ap, rules}
+use Rattle.std.proofs.Common.{◌++◌, ◌∙◌, ap, rules}
 use Rattle.toml_edit_io.proofs.Puts.{put_two, put_whole}
 use Rattle.toml_edit.proofs.HoldLaws.{held-cut, holds_none, holds_both}
 use Rattle.toml_edit.proofs.tail.put_but_newline.Goals as goal

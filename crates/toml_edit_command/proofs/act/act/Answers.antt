@@ -1,13 +1,13 @@
 -- A command is done as its action, along the texts of its keys.
 use Rattle.std.proofs.Common.{◌≡◌, sym, ap, subst, ◌∙◌, Result, OnOk, IfErr}
 use Rattle.toml_edit_tree.specs.View.{value_view}
-use Rattle.toml_edit_paths.specs.Changes.{names}
 use Rattle.toml_edit_command.specs.Run.{OutputChange, written}
 use Rattle.toml_edit_command.specs.Steps.{StopsActing, Wrote, action_of}
 use Rattle.toml_edit_command.specs.Words.{Action, getting, setting, removing}
 use Rattle.toml_edit_command.specs.Written.{Held, held}
 use Rattle.toml_edit_command.specs.declared.error.RunError.{RunError}
 use Rattle.toml_edit_command.proofs.act.act.Goals as goal
+use Rattle.toml_edit_model.specs.Keys.{names}
 
 wrote-as : {A : Type 0} (r : Result A RunError) (a b : Action) (h : Held) (s : OutputChange) → a ≡ b → OnOk r (Wrote a h s)
     → OnOk r (Wrote b h s)

@@ -12,19 +12,19 @@ pub returns-in-Err-clause-wrong_words : goal.returns-in-Err-clause-wrong_words
 returns-in-Err-clause-wrong_words g c =
     λ wrong.
     let x = wrong-words (request c.args.words.now) c.in-Err.error
-    (written g.E.Output.contents g.E.Output.has_failed c.args.errors.now c.end.new.errors)
-    c.in-Err.ensures.stops wrong c.end.ensures.told in
-    (c.end.ensures.status ∙ x.0, x.1)
+    (written g.E.Output.contents g.E.Output.has_failed c.args.errors.now c.report_error.new.errors)
+    c.in-Err.ensures.stops wrong c.report_error.ensures.told in
+    (c.report_error.ensures.status ∙ x.0, x.1)
 
 pub returns-in-Err-clause-end : goal.returns-in-Err-clause-end
 returns-in-Err-clause-end g c =
     λ status.
     words-refuse-none (g.I.Input.remaining c.args.input.now) (request c.args.words.now) c.in-Err.error c.in-Err.ensures.stops
-    (subst (λ n. (n ≡ 0) ⊎ (n ≡ 1)) c.end.ensures.status status)
+    (subst (λ n. (n ≡ 0) ⊎ (n ≡ 1)) c.report_error.ensures.status status)
 
 pub returns-in-Err-clause-mistaken_end : goal.returns-in-Err-clause-mistaken_end
 returns-in-Err-clause-mistaken_end g c =
-    λ two. inl (words-mistaken (request c.args.words.now) c.in-Err.error c.in-Err.ensures.stops (sym c.end.ensures.status ∙ two))
+    λ two. inl (words-mistaken (request c.args.words.now) c.in-Err.error c.in-Err.ensures.stops (sym c.report_error.ensures.status ∙ two))
 
 pub returns-in-Ok-perform-clause-done : goal.returns-in-Ok-perform-clause-done
 returns-in-Ok-perform-clause-done g c =
@@ -47,8 +47,9 @@ returns-in-Err-perform-clause-refused g c =
     tells-refusal (request c.args.words.now) (action_of c.in-Ok.read.0) c.in-Ok.ensures.said (mode_of c.in-Ok.read.1) c.in-Ok.ensures.mode
     (version_of c.in-Ok.read.1) c.in-Ok.ensures.version (g.I.Input.remaining c.args.input.now) (g.I.Input.has_failed c.perform.new.input) _
     c.in-Err-perform.error
-    (written g.E.Output.contents g.E.Output.has_failed c.args.errors.now c.end-in-Err-perform.new.errors) c.in-Err-perform.ensures.err
-    (sym c.end-in-Err-perform.ensures.status ∙ one) c.end-in-Err-perform.ensures.told
+    (written g.E.Output.contents g.E.Output.has_failed c.args.errors.now c.report_error-in-Err-perform.new.errors)
+    c.in-Err-perform.ensures.err
+    (sym c.report_error-in-Err-perform.ensures.status ∙ one) c.report_error-in-Err-perform.ensures.told
 
 pub returns-in-Err-perform-clause-mistaken : goal.returns-in-Err-perform-clause-mistaken
 returns-in-Err-perform-clause-mistaken g c =
@@ -56,21 +57,22 @@ returns-in-Err-perform-clause-mistaken g c =
     tells-mistake (request c.args.words.now) (action_of c.in-Ok.read.0) c.in-Ok.ensures.said (mode_of c.in-Ok.read.1) c.in-Ok.ensures.mode
     (version_of c.in-Ok.read.1) c.in-Ok.ensures.version (g.I.Input.remaining c.args.input.now) (g.I.Input.has_failed c.perform.new.input) _
     c.in-Err-perform.error
-    (written g.E.Output.contents g.E.Output.has_failed c.args.errors.now c.end-in-Err-perform.new.errors) c.in-Err-perform.ensures.err
-    (sym c.end-in-Err-perform.ensures.status ∙ two) c.end-in-Err-perform.ensures.told
+    (written g.E.Output.contents g.E.Output.has_failed c.args.errors.now c.report_error-in-Err-perform.new.errors)
+    c.in-Err-perform.ensures.err
+    (sym c.report_error-in-Err-perform.ensures.status ∙ two) c.report_error-in-Err-perform.ensures.told
 
 pub returns-in-Err-perform-clause-end : goal.returns-in-Err-perform-clause-end
 returns-in-Err-perform-clause-end g c =
     λ status.
     refused-at-end (g.I.Input.remaining c.perform.new.input) c.in-Err-perform.error c.in-Err-perform.ensures.err_end
-    (subst (λ n. (n ≡ 0) ⊎ (n ≡ 1)) c.end-in-Err-perform.ensures.status status)
+    (subst (λ n. (n ≡ 0) ⊎ (n ≡ 1)) c.report_error-in-Err-perform.ensures.status status)
 
 pub returns-in-Err-perform-clause-mistaken_end : goal.returns-in-Err-perform-clause-mistaken_end
 returns-in-Err-perform-clause-mistaken_end g c =
     λ two.
     inr
     (mistaken-at-end (g.I.Input.remaining c.perform.new.input) c.in-Err-perform.error c.in-Err-perform.ensures.err_end
-    (sym c.end-in-Err-perform.ensures.status ∙ two))
+    (sym c.report_error-in-Err-perform.ensures.status ∙ two))
 
 pub returns-in-Err-perform-clause-wrong_words : goal.returns-in-Err-perform-clause-wrong_words
 returns-in-Err-perform-clause-wrong_words g c =

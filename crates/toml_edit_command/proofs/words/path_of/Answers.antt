@@ -1,8 +1,8 @@
 -- The keys of a path have the texts of its segments.
 use Rattle.std.proofs.Common.{ap, ◌∙◌}
-use Rattle.toml_edit_paths.specs.Changes.{names}
 use Rattle.toml_edit_command.proofs.Spelled.{lone-names}
 use Rattle.toml_edit_command.proofs.words.path_of.Goals as goal
+use Rattle.toml_edit_model.specs.Keys.{names}
 
 pub returns-in-Ok-clause-spelled : goal.returns-in-Ok-clause-spelled
 returns-in-Ok-clause-spelled c =

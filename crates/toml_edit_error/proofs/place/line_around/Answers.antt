@@ -10,7 +10,7 @@ returns c =
     let t = c.args.text.now in
     let k = cut_of t c.args.byte in
     let from : c.line_start-start.result ≡ k - last_line_size (take k t) =
-    c.line_start-start.ensures.start ∙ ap (λ n. n - last_line_size (take n t)) c.cut.ensures.cut in
+    c.line_start-start.ensures.start ∙ ap (λ n. n - last_line_size (take n t)) c.byte_within.ensures.cut in
     c.first_line.ensures
     ∙ ap first_line (c.range_from.ensures.value ∙ ap (λ n. drop n t) from)
     ∙ line_from t c.args.byte

@@ -25,7 +25,7 @@ order_slots-returns-in-None g t c =
     c.as_slice-entries.result.now c.slots.slot-index c.slot-item.result c.slots-test.true c.slot-item.is g.R.Report.tells _ None None _ _ _
     _
     (c.slots.invariant.first ∙ ap (λ es. slice_get (early_slots low c.args.marks (slots_view es)) 0) c.as_slice-entries.ensures.slots)
-    (λ e. absurd cc) here c.under.ensures
+    (λ e. absurd cc) here c.report_key.ensures
 
 pub order_slots-slots-preserved : goal.order_slots-slots-preserved
 order_slots-slots-preserved g t c =
@@ -48,7 +48,7 @@ order_items-returns-in-None g t c =
     (λ i x. decimal i) (λ i x xs. refl)
     c.deref-item-items.result.now c.items.number c.item-item.result c.items-test.true c.item-item.is g.R.Report.tells _ None None _ _ _ _
     (c.items.invariant.first ∙ ap (λ xs. slice_get (early_items low c.args.marks 0 (items_view xs)) 0) c.deref-item-items.ensures.value)
-    (λ e. absurd cc) here c.in_item.ensures
+    (λ e. absurd cc) here c.report_element.ensures
 
 pub order_items-items-preserved : goal.order_items-items-preserved
 order_items-items-preserved g t c =

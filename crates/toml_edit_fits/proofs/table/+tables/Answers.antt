@@ -24,7 +24,7 @@ tables_fit-returns-then-not-node_fits g t c =
     c.as_slice-entries.result.now c.slots.slot-index c.slot-item.result c.slots-test.true c.slot-item.is g.R.Report.tells true false end
     true _ _ _
     (c.slots.invariant ∙ ap (λ es. slice_get (all 0 es) 0) c.as_slice-entries.ensures.slots) (λ e. true-false end e c.if-not-node_fits.true)
-    c.node_fits.ensures c.under.ensures
+    c.node_fits.ensures c.report_key.ensures
 
 pub tables_fit-slots-preserved : goal.tables_fit-slots-preserved
 tables_fit-slots-preserved g t c =
@@ -47,7 +47,7 @@ elements_fit-returns-then-not-as_element_fits g t c =
     c.deref-item-items.result.now c.items.number c.item-item.result c.items-test.true c.item-item.is g.R.Report.tells true false end true _
     _ _
     (c.items.invariant ∙ ap (λ xs. slice_get (all 0 xs) 0) c.deref-item-items.ensures.value)
-    (λ e. true-false end e c.if-not-as_element_fits.true) c.as_element_fits.ensures c.in_item.ensures
+    (λ e. true-false end e c.if-not-as_element_fits.true) c.as_element_fits.ensures c.report_element.ensures
 
 pub elements_fit-items-preserved : goal.elements_fit-items-preserved
 elements_fit-items-preserved g t c =
@@ -61,8 +61,8 @@ elements_fit-items-preserved g t c =
     turn-passed all (λ x. element_misfits mode r k (item_view x)) (λ x. all) (λ i x. decimal i) (λ i x xs. refl)
     c.deref-item-items.result.now c.items.number c.item-item.result c.items-test.true c.item-item.is none.0 ∙ c.items.invariant
 
-pub entered_fits-returns-else-table_fits : goal.entered_fits-returns-else-table_fits
-entered_fits-returns-else-table_fits g t c =
+pub subtree_fits-returns-else-table_fits : goal.subtree_fits-returns-else-table_fits
+subtree_fits-returns-else-table_fits g t c =
     let mode = mode_of c.args.mode in
     let k = c.args.key.now in
     let ss = table_slots c.args.table.now in
@@ -74,8 +74,8 @@ entered_fits-returns-else-table_fits g t c =
     (ended tells true false end true false (λ e. true-false end e c.if-table_fits.false) own inside c.table_fits.new.report
     c.table_fits.ensures)
 
-pub entered_fits-returns-then-table_fits : goal.entered_fits-returns-then-table_fits
-entered_fits-returns-then-table_fits g t c =
+pub subtree_fits-returns-then-table_fits : goal.subtree_fits-returns-then-table_fits
+subtree_fits-returns-then-table_fits g t c =
     let mode = mode_of c.args.mode in
     let k = c.args.key.now in
     let ss = table_slots c.args.table.now in

@@ -28,7 +28,7 @@ lines_fit-returns-then-not-slot_fits g t c =
     c.as_slice-entries.result.now c.slots.slot-index c.slot-item.result c.slots-test.true c.slot-item.is g.R.Report.tells true false end
     true _ _ _
     (c.slots.invariant ∙ ap (λ es. slice_get (all 0 es) 0) c.as_slice-entries.ensures.slots) (λ e. true-false end e c.if-not-slot_fits.true)
-    c.slot_fits.ensures c.under.ensures
+    c.slot_fits.ensures c.report_key.ensures
 
 pub lines_fit-slots-preserved : goal.lines_fit-slots-preserved
 lines_fit-slots-preserved g t c =

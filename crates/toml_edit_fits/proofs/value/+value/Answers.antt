@@ -32,7 +32,7 @@ items_fit-returns-then-not-item_fits g t c =
     c.deref-item-items.result.now c.items.number c.item-item.result c.items-test.true c.item-item.is g.R.Report.tells true false end true _
     _ _
     (c.items.invariant ∙ ap (λ xs. slice_get (all 0 xs) 0) c.deref-item-items.ensures.value) (λ e. true-false end e c.if-not-item_fits.true)
-    c.item_fits.ensures c.in_item.ensures
+    c.item_fits.ensures c.report_element.ensures
 
 pub items_fit-items-preserved : goal.items_fit-items-preserved
 items_fit-items-preserved g t c =
@@ -50,7 +50,7 @@ inside_fits-returns-then-not-pair_slot_fits g t c =
     c.as_slice-entries.result.now c.slots.slot-index c.slot-item.result c.slots-test.true c.slot-item.is g.R.Report.tells true false end
     true _ _ _
     (c.slots.invariant ∙ ap (λ es. slice_get (all 0 es) 0) c.as_slice-entries.ensures.slots)
-    (λ e. true-false end e c.if-not-pair_slot_fits.true) c.pair_slot_fits.ensures c.under.ensures
+    (λ e. true-false end e c.if-not-pair_slot_fits.true) c.pair_slot_fits.ensures c.report_key.ensures
 
 pub inside_fits-slots-preserved : goal.inside_fits-slots-preserved
 inside_fits-slots-preserved g t c =

@@ -1,16 +1,15 @@
 -- What is inserted is a new inline table of the version and of the array that the loop has filled.
-use Rattle.std.proofs.Common.{◌≡◌, ◌≤◌, [], Bor, List, ℕ, ap, codes, length, map, ◌∙◌, rules, arith}
+use Rattle.std.proofs.Common.{◌≡◌, ◌≤◌, [], Bor, List, ap, codes, length, map, ◌∙◌, rules, arith}
 use Rattle.std.proofs.lemmas.List.{take_all}
 use Rattle.toml_edit.specs.model.Conversions.{new_inline}
 use Rattle.toml_edit.specs.model.Lists.{item_list, slot_list}
 use Rattle.toml_edit.specs.model.Slots.{inserted}
 use Rattle.toml_edit.specs.model.Text.{Text}
-use Rattle.toml_edit.specs.tree.Containers.{inline_node}
 use Rattle.toml_edit.specs.tree.InlineSlots.{inline_fields}
 use Rattle.toml_edit.specs.tree.SlotsOf.{inline_slots_of, slots_of}
 use Rattle.toml_edit.specs.tree.View.{array_view, inline_view, item_view, value_view}
 use Rattle.toml_edit.specs.tree.declared.item.Item.TheVariants as items
-use Rattle.toml_edit_guide.specs.Adds.{array_of, dependency, string_value}
+use Rattle.toml_edit_guide.specs.Adds.{array_of, string_value}
 use Rattle.toml_edit_guide.proofs.AddLaws.{array-all, two-slots, view-Value}
 use Rattle.toml_edit_guide.proofs.adding.add_dependency.Goals as goal
 

@@ -7,8 +7,8 @@ use Rattle.toml_edit.specs.tree.Casts.{decorated}
 use Rattle.toml_edit.specs.tree.Elements.{items_of}
 use Rattle.toml_edit.specs.tree.View.{value_view}
 use Rattle.toml_edit_guide.proofs.LineLaws.{suffix-none, suffix-written}
-use Rattle.toml_edit_guide.proofs.SlotLaws.{decorated-view}
 use Rattle.toml_edit_guide.proofs.adding.clear_suffix.Goals as goal
+use Rattle.toml_edit_guide.proofs.ViewLaws.{decorated-view}
 
 pub returns-in-Some-clause-items : goal.returns-in-Some-clause-items
 returns-in-Some-clause-items c =

@@ -9,9 +9,9 @@ pub returns-clause-report : goal.returns-clause-report
 returns-clause-report c =
     subst
     (λ (m : Text). IfToml c.refusal_with.result
-    (λ r. r ≡ record { message = m; span = Some (c.args.span.start, c.args.span.end); input = c.args.source.now }))
+    (λ r. r ≡ record { message = m; span = Some (c.args.span.start, c.args.span.end); input = c.args.reader.now.source.now }))
     c.message.ensures.message c.refusal_with.ensures.report
 
-pub returns-clause-listed : goal.returns-clause-listed
-returns-clause-listed c =
-    λ version is. c.refusal_with.ensures.listed version (subst (IsMessageIn version) (sym c.message.ensures.message) is)
+pub returns-clause-refused : goal.returns-clause-refused
+returns-clause-refused c =
+    λ version is. c.refusal_with.ensures.refused version (subst (IsMessageIn version) (sym c.message.ensures.message) is)

@@ -11,32 +11,31 @@ use Rattle.toml_edit_model.specs.OwnedForm.{NodeFits, owned_node}
 pub returns-then-are_cut_short-clause-every : goal.returns-then-are_cut_short-clause-every
 returns-then-are_cut_short-clause-every c =
     λ v lone ok.
-    absurd (no_value c.args.text.now c.args.events.now c.requires.cut (value_view c.args.value.now) c.requires.read.0 c.requires.read.1
+    absurd (no_value c.args.reader.now.source.now c.args.events.now c.requires.cut (value_view c.args.value.now) c.requires.read.0 c.requires.read.1
     (sym c.are_cut_short.ensures ∙ c.if-are_cut_short.true) v lone)
 
 pub returns-then-are_cut_short-clause-refused : goal.returns-then-are_cut_short-clause-refused
 returns-then-are_cut_short-clause-refused c =
-    refused_whole c.args.text.now _ _ c.refusal_of_all.result
-    (no_value c.args.text.now c.args.events.now c.requires.cut (value_view c.args.value.now) c.requires.read.0 c.requires.read.1
-    (sym c.are_cut_short.ensures ∙ c.if-are_cut_short.true)) c.refusal_of_all.ensures.report
-    (c.refusal_of_all.ensures.listed v1_1)
-    (brackets_refused c.args.text.now c.args.events.now c.refusal_of_all.result c.requires.cut (sym c.are_cut_short.ensures
+    refused_whole c.args.reader.now.source.now c.refusal_of_all.result
+    (no_value c.args.reader.now.source.now c.args.events.now c.requires.cut (value_view c.args.value.now) c.requires.read.0 c.requires.read.1
+    (sym c.are_cut_short.ensures ∙ c.if-are_cut_short.true)) (c.refusal_of_all.ensures.refused v1_1)
+    (brackets_refused c.args.reader.now.source.now c.args.events.now c.refusal_of_all.result c.requires.cut (sym c.are_cut_short.ensures
     ∙ c.if-are_cut_short.true))
 
 pub despan-requires-clause-fits : goal.despan-requires-clause-fits
 despan-requires-clause-fits c =
-    let P : Node → Type 0 = λ n. NodeFits c.args.text.now n in
-    subst P (sym c.undecorate.ensures) (fits-with_decor c.args.text.now (value_view c.args.value.now) unset c.requires.fits (tt, tt))
+    let P : Node → Type 0 = λ n. NodeFits c.args.reader.now.source.now n in
+    subst P (sym c.undecorate.ensures) (fits-with_decor c.args.reader.now.source.now (value_view c.args.value.now) unset c.requires.fits (tt, tt))
 
 pub despan-requires-clause-spelled : goal.despan-requires-clause-spelled
 despan-requires-clause-spelled c =
-    let P : Node → Type 0 = λ n. IsWellMade (owned_node c.args.text.now n) in
-    ∣ subst P (sym c.undecorate.ensures) (lone_made c.args.text.now c.args.events.now c.requires.cut (value_view c.args.value.now)
+    let P : Node → Type 0 = λ n. IsWellMade (owned_node c.args.reader.now.source.now n) in
+    ∣ subst P (sym c.undecorate.ensures) (lone_made c.args.reader.now.source.now c.args.events.now c.requires.cut (value_view c.args.value.now)
     c.requires.read.0 c.requires.read.1
     (sym c.are_cut_short.ensures ∙ c.if-are_cut_short.false)) ∣₁
 
 pub returns-clause-read : goal.returns-clause-read
 returns-clause-read c =
-    lone_read c.args.text.now c.args.events.now c.requires.cut (value_view c.args.value.now) _ c.requires.read.0 c.requires.read.1
+    lone_read c.args.reader.now.source.now c.args.events.now c.requires.cut (value_view c.args.value.now) _ c.requires.read.0 c.requires.read.1
     (sym c.are_cut_short.ensures ∙ c.if-are_cut_short.false)
-    (c.in_ok-despan.ensures ∙ ap (owned_node c.args.text.now) c.undecorate.ensures)
+    (c.in_ok-despan.ensures ∙ ap (owned_node c.args.reader.now.source.now) c.undecorate.ensures)

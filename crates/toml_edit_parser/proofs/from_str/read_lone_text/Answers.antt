@@ -4,7 +4,7 @@ use Rattle.toml_edit_model.specs.Version.{v1_1}
 use Rattle.toml_edit_syntax.specs.LoneEvents.{AreLoneEvents}
 use Rattle.toml_edit_syntax.specs.Grammar.{grammar}
 use Rattle.toml_edit_parser.proofs.LoneValueLaws.{not_text, refused_whole, syntax_refused}
-use Rattle.toml_edit_parser.proofs.VersionLaws.{accepted_of_all, fault_in, read_in, refused_in}
+use Rattle.toml_edit_parser.proofs.LoneVersionLaws.{accepted_of_all, fault_in, read_in, refused_in}
 use Rattle.toml_edit_parser.proofs.from_str.read_lone_text.Goals as goal
 
 pub returns-in-Err-Text-clause-every : goal.returns-in-Err-Text-clause-every
@@ -15,10 +15,10 @@ returns-in-Err-Text-clause-every c =
 pub returns-in-Err-Text-clause-refused : goal.returns-in-Err-Text-clause-refused
 returns-in-Err-Text-clause-refused c =
     fault_in (grammar c.args.version) c.args.text.now c.refusal_with.result
-    (refused_whole c.args.text.now _ _ c.refusal_with.result
+    (refused_whole c.args.text.now c.refusal_with.result
     (λ v lone. not_text _ c.in-Err-Text.field-0 c.in-Err-Text.mistake c.in-Err-Text.span refl c.in-Err-Text.field-0-is
-    (c.in-Err-Text.ensures.every v lone)) c.refusal_with.ensures.report
-    (c.refusal_with.ensures.listed v1_1 (inl c.message.ensures.listed))
+    (c.in-Err-Text.ensures.every v lone))
+    (c.refusal_with.ensures.refused v1_1 (inl c.message.ensures.listed))
     (syntax_refused _ _ _ c.refusal_with.result c.message.ensures.listed c.refusal_with.ensures.report))
 
 pub returns-in_ok-refuse_late-in-Ok-clause-read : goal.returns-in_ok-refuse_late-in-Ok-clause-read

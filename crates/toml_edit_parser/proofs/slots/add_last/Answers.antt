@@ -16,7 +16,7 @@ returns-in-Ok-clause-last c =
 pub returns-in-Ok-clause-fits : goal.returns-in-Ok-clause-fits
 returns-in-Ok-clause-fits c =
     λ key item slots.
-    let t = c.args.source.now in
+    let t = c.args.reader.now.source.now in
     subst (λ (ss : Slots). SlotsFit t ss)
     (sym (ap slots_view c.in-Ok.ensures.slots ∙ slots_view-append c.args.slots.now _))
     (fits-with_slot t (slots_view c.args.slots.now) c.args.key (item_view c.args.item.now) slots key item)
@@ -24,9 +24,9 @@ returns-in-Ok-clause-fits c =
 pub returns-in-Some-clause-last : goal.returns-in-Some-clause-last
 returns-in-Some-clause-last c =
     let there = rw c.in-Err.is at c.add-added.ensures.refused in
-    last-refused c.args.source.now c.args.span c.args.key (item_view c.args.item.now) c.args.slots.now c.in-Err.there c.args.key.name
+    last-refused c.args.reader.now.source.now c.args.span c.args.key (item_view c.args.item.now) c.args.slots.now c.in-Err.there c.args.key.name
     c.refusal.result
     there refl (sym (ap is_some c.in-Some.is)) c.refusal.ensures.report
 
-pub returns-in-Some-clause-listed : goal.returns-in-Some-clause-listed
-returns-in-Some-clause-listed c = c.refusal.ensures.listed v1_1 (inr (0, lit< tt, refl))
+pub returns-in-Some-clause-refused : goal.returns-in-Some-clause-refused
+returns-in-Some-clause-refused c = c.refusal.ensures.refused v1_1 (inr (0, lit< tt, refl))

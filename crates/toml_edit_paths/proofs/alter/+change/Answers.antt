@@ -5,14 +5,15 @@ use Rattle.toml_edit_model.specs.Lists.{is_item, items_in, only, slots_in}
 use Rattle.toml_edit_model.specs.Slots.{lookup_slot}
 use Rattle.toml_edit_model.specs.Text.{Text}
 use Rattle.toml_edit_model.specs.Tree.{nothing, is_value_node}
+use Rattle.toml_edit_model.specs.Keys.{names}
 use Rattle.toml_edit_laws.specs.Commands.{and_then, element_of, item_below, present, second}
 use Rattle.toml_edit_slots.specs.Slots.{place}
 use Rattle.toml_edit_tree.specs.Indexed.{shown_slots, with_slots}
 use Rattle.toml_edit_tree.specs.View.{item_view}
 use Rattle.toml_edit_tree.specs.declared.item.Item.{Item}
+use Rattle.toml_edit_tree.specs.Elements.{listed}
 use Rattle.toml_edit_paths.specs.Calls.{ChangesBelow}
-use Rattle.toml_edit_paths.specs.Changes.{names}
-use Rattle.toml_edit_paths.specs.Elements.{nodes, place_named}
+use Rattle.toml_edit_paths.specs.Elements.{place_named}
 use Rattle.toml_edit_paths.specs.Items.{kind_of, with_items}
 use Rattle.toml_edit_paths.proofs.AlterLaws.{filled-only, found-at-end, found-in-items, found-in-slots, in-element, in-items, in-slot}
 use Rattle.toml_edit_paths.proofs.AlterLaws.{in-slots, no-slot, renamed, replaced-at-end, takes}
@@ -53,7 +54,7 @@ change_in_item-returns-in_default-items_mut g t c =
     let path = names c.in-Some.rest.now in (
       ap (λ p. item_below (names p) n) c.in-Some.ensures.cases.0
           ∙ ap (and_then (item_below path)) (no-child k n (sym c.in_default-as_slots_mut.ensures.slots)
-          (sym (ap (option_map (λ (v : Vec Item Global). nodes v.items)) c.in_default-items_mut.ensures.items
+          (sym (ap (option_map (λ (v : Vec Item Global). listed v.items)) c.in_default-items_mut.ensures.items
           ∙ items-held c.args.item.now))),
       refl,
     )
@@ -66,12 +67,12 @@ change_in_item-returns-in-Some-place_named g t c =
     let kind = kind_of (is_value_node n) in
     let held = c.in-Some-items_mut.items.now in
     let xs = held.items in
-    let is : items_in n ≡ Some (nodes xs) =
-    sym (ap (option_map (λ (v : Vec Item Global). nodes v.items)) c.in-Some-items_mut.ensures.items ∙ items-held c.args.item.now) in
-    let named : Some c.in-Some-place_named.at ≡ place_named kind k (nodes xs) =
-    c.in-Some-place_named.ensures.place ∙ ap (λ (zs : List Item). place_named (kind_of c.is_value-values.result) k (nodes zs))
+    let is : items_in n ≡ Some (listed xs) =
+    sym (ap (option_map (λ (v : Vec Item Global). listed v.items)) c.in-Some-items_mut.ensures.items ∙ items-held c.args.item.now) in
+    let named : Some c.in-Some-place_named.at ≡ place_named kind k (listed xs) =
+    c.in-Some-place_named.ensures.place ∙ ap (λ (zs : List Item). place_named (kind_of c.is_value-values.result) k (listed zs))
     c.deref.ensures.value
-    ∙ ap (λ b. place_named (kind_of b) k (nodes xs)) c.is_value-values.ensures in
+    ∙ ap (λ b. place_named (kind_of b) k (listed xs)) c.is_value-values.ensures in
     let at = c.in-Some-place_named.at in
     let x = c.index_mut.result.now in
     let within : at < length xs = subst (λ (zs : List Item). at < length zs) c.deref.ensures.value c.in-Some-place_named.ensures.within in
@@ -81,7 +82,7 @@ change_in_item-returns-in-Some-place_named g t c =
     subst (λ p. ChangesBelow g.F.FnOnce c.args.change (names p) n (item_view (with_items (with_item held at y) c.args.item.now))
     c.change_in_item.result) (sym c.in-Some.ensures.cases.0)
     (renamed g.F.FnOnce c.args.change _ _ _ _ _ _ _ refl (sym (items-seen (with_item held at y) c.args.item.now))
-    (in-items g.F.FnOnce c.args.change k path n (nodes xs) _ _ is
+    (in-items g.F.FnOnce c.args.change k path n (listed xs) _ _ is
     (in-element g.F.FnOnce c.args.change kind k path xs at x y c.change_in_item.result named within told)))
 
 pub change_in_item-returns-in-None : goal.change_in_item-returns-in-None
@@ -92,14 +93,14 @@ change_in_item-returns-in-None g t c =
     let kind = kind_of (is_value_node n) in
     let held = c.in-Some-items_mut.items.now in
     let xs = held.items in
-    let is : items_in n ≡ Some (nodes xs) =
-    sym (ap (option_map (λ (v : Vec Item Global). nodes v.items)) c.in-Some-items_mut.ensures.items ∙ items-held c.args.item.now) in
-    let named : None ≡ place_named kind k (nodes xs) =
-    c.in-None.ensures.place ∙ ap (λ (zs : List Item). place_named (kind_of c.is_value-values.result) k (nodes zs)) c.deref.ensures.value
-    ∙ ap (λ b. place_named (kind_of b) k (nodes xs)) c.is_value-values.ensures in (
-      ap (λ p. item_below (names p) n) c.in-Some.ensures.cases.0 ∙ found-in-items k path n (nodes xs) is
-          ∙ ap (λ o. and_then (item_below path) (second o)) (no-element (element_of kind k (nodes xs)) named),
-      items-seen held c.args.item.now ∙ items-kept n (nodes xs) is,
+    let is : items_in n ≡ Some (listed xs) =
+    sym (ap (option_map (λ (v : Vec Item Global). listed v.items)) c.in-Some-items_mut.ensures.items ∙ items-held c.args.item.now) in
+    let named : None ≡ place_named kind k (listed xs) =
+    c.in-None.ensures.place ∙ ap (λ (zs : List Item). place_named (kind_of c.is_value-values.result) k (listed zs)) c.deref.ensures.value
+    ∙ ap (λ b. place_named (kind_of b) k (listed xs)) c.is_value-values.ensures in (
+      ap (λ p. item_below (names p) n) c.in-Some.ensures.cases.0 ∙ found-in-items k path n (listed xs) is
+          ∙ ap (λ o. and_then (item_below path) (second o)) (no-element (element_of kind k (listed xs)) named),
+      items-seen held c.args.item.now ∙ items-kept n (listed xs) is,
     )
 
 pub change_in_slots-returns-in-Some : goal.change_in_slots-returns-in-Some
@@ -139,17 +140,17 @@ change_in_item-change_in_item-requires g t c =
     let kind = kind_of (is_value_node n) in
     let held = c.in-Some-items_mut.items.now in
     let xs = held.items in
-    let is : items_in n ≡ Some (nodes xs) =
-    sym (ap (option_map (λ (v : Vec Item Global). nodes v.items)) c.in-Some-items_mut.ensures.items ∙ items-held c.args.item.now) in
-    let named : Some c.in-Some-place_named.at ≡ place_named kind k (nodes xs) =
-    c.in-Some-place_named.ensures.place ∙ ap (λ (zs : List Item). place_named (kind_of c.is_value-values.result) k (nodes zs))
+    let is : items_in n ≡ Some (listed xs) =
+    sym (ap (option_map (λ (v : Vec Item Global). listed v.items)) c.in-Some-items_mut.ensures.items ∙ items-held c.args.item.now) in
+    let named : Some c.in-Some-place_named.at ≡ place_named kind k (listed xs) =
+    c.in-Some-place_named.ensures.place ∙ ap (λ (zs : List Item). place_named (kind_of c.is_value-values.result) k (listed zs))
     c.deref.ensures.value
-    ∙ ap (λ b. place_named (kind_of b) k (nodes xs)) c.is_value-values.ensures in
+    ∙ ap (λ b. place_named (kind_of b) k (listed xs)) c.is_value-values.ensures in
     let at = c.in-Some-place_named.at in
     let x = c.index_mut.result.now in
     let within : at < length xs = subst (λ (zs : List Item). at < length zs) c.deref.ensures.value c.in-Some-place_named.ensures.within in
     let may = takes g.F.FnOnce c.args.change (item_below path (item_view x)) (item_below (names c.args.path.now) n)
-    (ap (λ p. item_below (names p) n) c.in-Some.ensures.cases.0 ∙ found-in-items k path n (nodes xs) is
+    (ap (λ p. item_below (names p) n) c.in-Some.ensures.cases.0 ∙ found-in-items k path n (listed xs) is
     ∙ ap (λ o. and_then (item_below path) (second o)) (element-is kind k xs at x named within)
     ∙ ap (λ (z : Item). item_below path (item_view z)) (sym c.index_mut.ensures.value)) c.requires in
     λ κs lives. (search rules, (search rules, (search rules, may)))

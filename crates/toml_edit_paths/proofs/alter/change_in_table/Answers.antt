@@ -1,11 +1,11 @@
 -- The slots of a table are those of an item.
 use Rattle.std.proofs.Common.{refl}
 use Rattle.toml_edit_model.specs.Slots.{lookup_slot}
+use Rattle.toml_edit_model.specs.Keys.{names}
 use Rattle.toml_edit_laws.specs.Commands.{and_then, item_below, present}
 use Rattle.toml_edit_tree.specs.Containers.{table_node}
 use Rattle.toml_edit_tree.specs.Indexed.{shown_slots}
 use Rattle.toml_edit_tree.specs.View.{table_view}
-use Rattle.toml_edit_paths.specs.Changes.{names}
 use Rattle.toml_edit_paths.proofs.AlterLaws.{found-in-slots, in-slots, renamed, takes}
 use Rattle.toml_edit_paths.proofs.StepLaws.{root-left, root-slots}
 use Rattle.toml_edit_paths.proofs.alter.change_in_table.Goals as goal

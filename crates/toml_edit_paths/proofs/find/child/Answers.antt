@@ -8,7 +8,8 @@ use Rattle.toml_edit_laws.specs.Commands.{element_of, present, second}
 use Rattle.toml_edit_tree.specs.Indexed.{shown_slots}
 use Rattle.toml_edit_tree.specs.View.{item_view}
 use Rattle.toml_edit_tree.specs.declared.item.Item.{Item}
-use Rattle.toml_edit_paths.specs.Elements.{nodes, place_named}
+use Rattle.toml_edit_tree.specs.Elements.{listed}
+use Rattle.toml_edit_paths.specs.Elements.{place_named}
 use Rattle.toml_edit_paths.specs.Items.{kind_of}
 use Rattle.toml_edit_paths.proofs.ElementLaws.{element-is, no-element}
 use Rattle.toml_edit_paths.proofs.StepLaws.{items-child, no-child, slots-child}
@@ -31,7 +32,7 @@ returns-in_err-at c =
     let n = item_view c.args.item.now in
     let k = c.args.key.now.name in
     let kind = kind_of (is_value_node n) in
-    let ns = nodes c.in_ok-items.items.now in
+    let ns = listed c.in_ok-items.items.now in
     let named : None ≡ place_named kind k ns = c.in_err-at.ensures.place ∙ ap (λ b. place_named (kind_of b) k ns) c.is_value.ensures in
     ap (option_map (λ x. item_view x.now)) c.from_residual-in_err-at.ensures
     ∙ sym (items-child k n ns (sym c.in_ok-items.ensures) ∙ ap second (no-element (element_of kind k ns) named))
@@ -43,8 +44,8 @@ returns c =
     let kind = kind_of (is_value_node n) in
     let xs = c.in_ok-items.items.now in
     let at = c.in_ok-at.at in
-    let named : Some at ≡ place_named kind k (nodes xs) = c.in_ok-at.ensures.place
-    ∙ ap (λ b. place_named (kind_of b) k (nodes xs)) c.is_value.ensures in
+    let named : Some at ≡ place_named kind k (listed xs) = c.in_ok-at.ensures.place
+    ∙ ap (λ b. place_named (kind_of b) k (listed xs)) c.is_value.ensures in
     ap (λ (x : Item). Some (item_view x)) c.index-items-at.is
-    ∙ sym (items-child k n (nodes xs) (sym c.in_ok-items.ensures)
+    ∙ sym (items-child k n (listed xs) (sym c.in_ok-items.ensures)
     ∙ ap second (element-is kind k xs at c.index-items-at.result named c.in_ok-at.ensures.within))

@@ -2,8 +2,8 @@
 use Rattle.std.proofs.Common.{◌≡◌, drop}
 use Rattle.toml_edit_laws.specs.Commands as commands
 use Rattle.toml_edit_tree.specs.View.{item_view}
-use Rattle.toml_edit_paths.specs.Changes.{names}
 use Rattle.toml_edit_paths.proofs.find.get.Given as goal
+use Rattle.toml_edit_model.specs.Keys.{names}
 
 abbrev pub invariant-keys : goal.invariant-keys
 invariant-keys l =

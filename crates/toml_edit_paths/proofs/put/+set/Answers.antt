@@ -2,7 +2,7 @@
 use Rattle.std.proofs.Common.{◌≡◌, ◌<◌, ◌++◌, [], ◌∷◌, refl, ap, subst, sym, ◌∙◌, true, rules, List, length, Some, None, Vec, Global}
 use Rattle.std.proofs.Common.{option_map}
 use Rattle.std.specs.Prelude.{Err}
-use Rattle.toml_edit_model.specs.Keys.{new_key}
+use Rattle.toml_edit_model.specs.Keys.{new_key, names}
 use Rattle.toml_edit_model.specs.Lists.{items_in, slots_in}
 use Rattle.toml_edit_model.specs.Slots.{keyed}
 use Rattle.toml_edit_model.specs.Text.{Text}
@@ -12,8 +12,9 @@ use Rattle.toml_edit_slots.specs.Slots.{place}
 use Rattle.toml_edit_tree.specs.declared.item.Item.{Item}
 use Rattle.toml_edit_tree.specs.Indexed.{shown_slots}
 use Rattle.toml_edit_tree.specs.View.{item_view}
-use Rattle.toml_edit_paths.specs.Changes.{Changes, names}
-use Rattle.toml_edit_paths.specs.Elements.{nodes, place_named}
+use Rattle.toml_edit_tree.specs.Elements.{listed}
+use Rattle.toml_edit_paths.specs.Changes.{Changes}
+use Rattle.toml_edit_paths.specs.Elements.{place_named}
 use Rattle.toml_edit_paths.specs.Items.{kind_of}
 use Rattle.toml_edit_paths.specs.Setting.{set_by}
 use Rattle.toml_edit_paths.specs.declared.fault.ChangeFault.TheVariants.{NoSuchPath}
@@ -60,21 +61,21 @@ set_in_item-returns-in-Some-place_named t c =
     let x = c.index_mut.result.now in
     let y = c.set_in_item.new.item in
     let filled : n ≡ nothing → ⊥ = search rules in
-    let is : items_in n ≡ Some (nodes xs) =
-    sym (ap (option_map (λ (v : Vec Item Global). nodes v.items)) c.in-Some-items_mut.ensures.items ∙ items-held c.args.item.now) in
-    let named : Some at ≡ place_named kind k (nodes xs) =
-    c.in-Some-place_named.ensures.place ∙ ap (λ (zs : List Item). place_named (kind_of c.is_value-values.result) k (nodes zs))
+    let is : items_in n ≡ Some (listed xs) =
+    sym (ap (option_map (λ (v : Vec Item Global). listed v.items)) c.in-Some-items_mut.ensures.items ∙ items-held c.args.item.now) in
+    let named : Some at ≡ place_named kind k (listed xs) =
+    c.in-Some-place_named.ensures.place ∙ ap (λ (zs : List Item). place_named (kind_of c.is_value-values.result) k (listed zs))
     c.deref.ensures.value
-    ∙ ap (λ b. place_named (kind_of b) k (nodes xs)) c.is_value-values.ensures in
+    ∙ ap (λ b. place_named (kind_of b) k (listed xs)) c.is_value-values.ensures in
     let within : at < length xs = subst (λ (zs : List Item). at < length zs) c.deref.ensures.value c.in-Some-place_named.ensures.within in
     let told = subst (λ (z : Item). Changes (go (item_view z)) (item_view z) (item_view y) c.set_in_item.result) c.index_mut.ensures.value
     c.set_in_item.ensures in
     renamed _ _ _ _ _ _ _
-    (items-go true k go n (nodes xs) is
+    (items-go true k go n (listed xs) is
     ∙ ap (λ h. child_changed true k (set_by h v rest) n) c.has_headers-headers.ensures ∙ set-step c.args.headers v k rest n filled
     ∙ ap (λ path. set_by c.args.headers v (names path) n) (sym c.in-Some.ensures.cases.0))
     refl (sym (items-seen _ c.args.item.now))
-    (items-change _ n (nodes xs) _ _ is (element-changes kind k go xs at x y c.set_in_item.result named within told))
+    (items-change _ n (listed xs) _ _ is (element-changes kind k go xs at x y c.set_in_item.result named within told))
 
 pub set_in_item-returns-in-None-place_named : goal.set_in_item-returns-in-None-place_named
 set_in_item-returns-in-None-place_named t c =
@@ -86,19 +87,19 @@ set_in_item-returns-in-None-place_named t c =
     let kind = kind_of (is_value_node n) in
     let xs = c.in-Some-items_mut.items.now.items in
     let filled : n ≡ nothing → ⊥ = search rules in
-    let is : items_in n ≡ Some (nodes xs) =
-    sym (ap (option_map (λ (v : Vec Item Global). nodes v.items)) c.in-Some-items_mut.ensures.items ∙ items-held c.args.item.now) in
-    let named : None ≡ place_named kind k (nodes xs) =
-    c.in-None-place_named.ensures.place ∙ ap (λ (zs : List Item). place_named (kind_of c.is_value-values.result) k (nodes zs))
+    let is : items_in n ≡ Some (listed xs) =
+    sym (ap (option_map (λ (v : Vec Item Global). listed v.items)) c.in-Some-items_mut.ensures.items ∙ items-held c.args.item.now) in
+    let named : None ≡ place_named kind k (listed xs) =
+    c.in-None-place_named.ensures.place ∙ ap (λ (zs : List Item). place_named (kind_of c.is_value-values.result) k (listed zs))
     c.deref.ensures.value
-    ∙ ap (λ b. place_named (kind_of b) k (nodes xs)) c.is_value-values.ensures in
+    ∙ ap (λ b. place_named (kind_of b) k (listed xs)) c.is_value-values.ensures in
     renamed _ _ n _ _ _ (Err NoSuchPath)
-    (items-go true k go n (nodes xs) is
+    (items-go true k go n (listed xs) is
     ∙ ap (λ h. child_changed true k (set_by h v rest) n) c.has_headers-headers.ensures ∙ set-step c.args.headers v k rest n filled
     ∙ ap (λ path. set_by c.args.headers v (names path) n) (sym c.in-Some.ensures.cases.0))
     refl (sym (items-seen c.in-Some-items_mut.items.now c.args.item.now))
-    (items-change (change_element go (nodes xs) (element_of kind k (nodes xs))) n (nodes xs) (nodes xs) (Err NoSuchPath) is
-    (ap (change_element go (nodes xs)) (no-element (element_of kind k (nodes xs)) named), refl))
+    (items-change (change_element go (listed xs) (element_of kind k (listed xs))) n (listed xs) (listed xs) (Err NoSuchPath) is
+    (ap (change_element go (listed xs)) (no-element (element_of kind k (listed xs)) named), refl))
 
 pub set_in_item-returns-in-None : goal.set_in_item-returns-in-None
 set_in_item-returns-in-None t c =
@@ -108,7 +109,7 @@ set_in_item-returns-in-None t c =
       ap (λ path. set_by c.args.headers v (names path) n) c.in-Some.ensures.cases.0
           ∙ scalar-refuses c.args.headers v c.in-Some.key.now.name (names c.in-Some.rest.now) n filled
           (sym c.in_default-as_slots_mut.ensures.slots) (sym
-          (ap (option_map (λ (v : Vec Item Global). nodes v.items)) c.in-None.ensures.items ∙ items-held c.args.item.now)),
+          (ap (option_map (λ (v : Vec Item Global). listed v.items)) c.in-None.ensures.items ∙ items-held c.args.item.now)),
       refl,
     )
 

@@ -2,10 +2,10 @@
 use Rattle.std.proofs.Common.{ap, ◌∙◌, sym}
 use Rattle.toml_edit_laws.specs.Commands.{done}
 use Rattle.toml_edit_tree.specs.View.{item_view}
-use Rattle.toml_edit_paths.specs.Changes.{names}
 use Rattle.toml_edit_paths.specs.Setting.{set_by}
 use Rattle.toml_edit_paths.proofs.SetLaws.{made-is}
 use Rattle.toml_edit_paths.proofs.put.fill_below.Goals as goal
+use Rattle.toml_edit_model.specs.Keys.{names}
 
 pub returns : goal.returns
 returns c =

@@ -3,12 +3,12 @@ use Rattle.std.proofs.Common.{ap, sym, ◌∙◌, refl, true}
 use Rattle.toml_edit_tree.specs.Containers.{table_node}
 use Rattle.toml_edit_tree.specs.Indexed.{shown_slots}
 use Rattle.toml_edit_tree.specs.View.{item_view, table_view}
-use Rattle.toml_edit_paths.specs.Changes.{names}
 use Rattle.toml_edit_paths.specs.Setting.{set_by}
 use Rattle.toml_edit_paths.proofs.ChangeLaws.{renamed}
 use Rattle.toml_edit_paths.proofs.SetLaws.{set-step}
 use Rattle.toml_edit_paths.proofs.StepLaws.{root-left, root-slots, slots-change, slots-go}
 use Rattle.toml_edit_paths.proofs.put.set_in_root.Goals as goal
+use Rattle.toml_edit_model.specs.Keys.{names}
 
 pub returns-in-Some : goal.returns-in-Some
 returns-in-Some c =

@@ -5,13 +5,15 @@ use Rattle.toml_edit_model.specs.Lists.{items_in, slots_in}
 use Rattle.toml_edit_model.specs.Slots.{lookup_slot}
 use Rattle.toml_edit_model.specs.Text.{Text}
 use Rattle.toml_edit_model.specs.Tree.{is_value_node}
+use Rattle.toml_edit_model.specs.Keys.{names}
 use Rattle.toml_edit_laws.specs.Commands.{change_slot, done, drop_slot, element_of, present, remove_below}
 use Rattle.toml_edit_slots.specs.Slots.{place}
 use Rattle.toml_edit_tree.specs.declared.item.Item.{Item}
 use Rattle.toml_edit_tree.specs.Indexed.{shown_slots}
 use Rattle.toml_edit_tree.specs.View.{item_view}
-use Rattle.toml_edit_paths.specs.Changes.{Changes, names, removed_element, removed_slot}
-use Rattle.toml_edit_paths.specs.Elements.{nodes, place_named}
+use Rattle.toml_edit_tree.specs.Elements.{listed}
+use Rattle.toml_edit_paths.specs.Changes.{Changes, removed_element, removed_slot}
+use Rattle.toml_edit_paths.specs.Elements.{place_named}
 use Rattle.toml_edit_paths.specs.Items.{kind_of}
 use Rattle.toml_edit_paths.specs.declared.fault.ChangeFault.TheVariants.{NoSuchPath}
 use Rattle.toml_edit_paths.proofs.ChangeLaws.{renamed}
@@ -39,14 +41,14 @@ remove_in_item-returns-in-Some-place_named-clause-changes t c =
     let kind = kind_of (is_value_node n) in
     let xs = c.in-Some-items_mut.items.now.items in
     let new = c.remove_in_element.new.items in
-    let is : items_in n ≡ Some (nodes xs) =
-    sym (ap (option_map (λ (v : Vec Item Global). nodes v.items)) c.in-Some-items_mut.ensures.items ∙ items-held c.args.item.now) in
-    let named : Some c.in-Some-place_named.at ≡ place_named kind k (nodes xs) =
-    c.in-Some-place_named.ensures.place ∙ ap (λ (zs : List Item). place_named (kind_of c.is_value-values.result) k (nodes zs))
+    let is : items_in n ≡ Some (listed xs) =
+    sym (ap (option_map (λ (v : Vec Item Global). listed v.items)) c.in-Some-items_mut.ensures.items ∙ items-held c.args.item.now) in
+    let named : Some c.in-Some-place_named.at ≡ place_named kind k (listed xs) =
+    c.in-Some-place_named.ensures.place ∙ ap (λ (zs : List Item). place_named (kind_of c.is_value-values.result) k (listed zs))
     c.deref.ensures.value
-    ∙ ap (λ b. place_named (kind_of b) k (nodes xs)) c.is_value-values.ensures in
-    renamed _ _ _ _ _ _ _ (items-removed k (names c.args.rest.now) n (nodes xs) is) refl (sym (items-seen new c.args.item.now))
-    (items-change _ n (nodes xs) (nodes new.items) _ is (c.remove_in_element.ensures.changes kind k named))
+    ∙ ap (λ b. place_named (kind_of b) k (listed xs)) c.is_value-values.ensures in
+    renamed _ _ _ _ _ _ _ (items-removed k (names c.args.rest.now) n (listed xs) is) refl (sym (items-seen new c.args.item.now))
+    (items-change _ n (listed xs) (listed new.items) _ is (c.remove_in_element.ensures.changes kind k named))
 
 pub remove_in_item-returns-in-None-place_named-clause-changes : goal.remove_in_item-returns-in-None-place_named-clause-changes
 remove_in_item-returns-in-None-place_named-clause-changes t c =
@@ -55,11 +57,11 @@ remove_in_item-returns-in-None-place_named-clause-changes t c =
     let path = names c.args.rest.now in
     let kind = kind_of (is_value_node n) in
     let held = c.in-Some-items_mut.items.now in
-    let ns = nodes held.items in
+    let ns = listed held.items in
     let is : items_in n ≡ Some ns =
-    sym (ap (option_map (λ (v : Vec Item Global). nodes v.items)) c.in-Some-items_mut.ensures.items ∙ items-held c.args.item.now) in
+    sym (ap (option_map (λ (v : Vec Item Global). listed v.items)) c.in-Some-items_mut.ensures.items ∙ items-held c.args.item.now) in
     let named : None ≡ place_named kind k ns =
-    c.in-None-place_named.ensures.place ∙ ap (λ (zs : List Item). place_named (kind_of c.is_value-values.result) k (nodes zs))
+    c.in-None-place_named.ensures.place ∙ ap (λ (zs : List Item). place_named (kind_of c.is_value-values.result) k (listed zs))
     c.deref.ensures.value
     ∙ ap (λ b. place_named (kind_of b) k ns) c.is_value-values.ensures in
     renamed _ _ n _ _ _ (Err NoSuchPath) (items-removed k path n ns is) refl (sym (items-seen held c.args.item.now))
@@ -69,7 +71,7 @@ remove_in_item-returns-in-None-place_named-clause-changes t c =
 pub remove_in_item-returns-in-None-clause-changes : goal.remove_in_item-returns-in-None-clause-changes
 remove_in_item-returns-in-None-clause-changes t c = (
   no-removed c.args.key.now.name (names c.args.rest.now) (item_view c.args.item.now) (sym c.in_default.ensures.slots)
-      (sym (ap (option_map (λ (v : Vec Item Global). nodes v.items)) c.in-None.ensures.items ∙ items-held c.args.item.now)),
+      (sym (ap (option_map (λ (v : Vec Item Global). listed v.items)) c.in-None.ensures.items ∙ items-held c.args.item.now)),
   refl,
 )
 
@@ -77,9 +79,9 @@ pub remove_in_element-returns-in-None-clause-changes : goal.remove_in_element-re
 remove_in_element-returns-in-None-clause-changes t c =
     λ is k named.
     let xs = c.args.items.now.items in
-    last-element is k c.args.rest.now (nodes xs) c.in-None.ensures.cases
+    last-element is k c.args.rest.now (listed xs) c.in-None.ensures.cases
     ∙ element-dropped is k xs c.args.at c.remove.result named c.requires
-    ∙ ap (λ (ys : List Item). done (nodes ys)) (sym c.remove.ensures.items)
+    ∙ ap (λ (ys : List Item). done (listed ys)) (sym c.remove.ensures.items)
 
 pub remove_in_element-returns-in-Some-clause-changes : goal.remove_in_element-returns-in-Some-clause-changes
 remove_in_element-returns-in-Some-clause-changes t c =
@@ -90,7 +92,7 @@ remove_in_element-returns-in-Some-clause-changes t c =
     let go = remove_below (c.in-Some.key.now.name ∷ names c.in-Some.rest.now) in
     let told = subst (λ (z : Item). Changes (go (item_view z)) (item_view z) (item_view y) c.remove_in_item.result)
     c.index_mut.ensures.value c.remove_in_item.ensures.changes in
-    renamed _ _ _ _ _ _ _ (ap (λ path. removed_element is k (names path) (nodes xs)) (sym c.in-Some.ensures.cases.0)) refl refl
+    renamed _ _ _ _ _ _ _ (ap (λ path. removed_element is k (names path) (listed xs)) (sym c.in-Some.ensures.cases.0)) refl refl
     (element-changes is k go xs c.args.at x y c.remove_in_item.result named c.requires told)
 
 pub remove_in_slots-returns-in_default-clause-changes : goal.remove_in_slots-returns-in_default-clause-changes

@@ -3,10 +3,10 @@ use Rattle.std.proofs.Common.{refl}
 use Rattle.toml_edit_tree.specs.Containers.{table_node}
 use Rattle.toml_edit_tree.specs.Indexed.{shown_slots}
 use Rattle.toml_edit_tree.specs.View.{table_view}
-use Rattle.toml_edit_paths.specs.Changes.{names}
 use Rattle.toml_edit_paths.proofs.ChangeLaws.{renamed}
 use Rattle.toml_edit_paths.proofs.StepLaws.{root-left, root-slots, slots-change, slots-removed}
 use Rattle.toml_edit_paths.proofs.take.remove_in_table.Goals as goal
+use Rattle.toml_edit_model.specs.Keys.{names}
 
 pub returns-clause-changes : goal.returns-clause-changes
 returns-clause-changes c =

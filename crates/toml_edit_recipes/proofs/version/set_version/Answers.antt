@@ -1,10 +1,10 @@
 -- The keys of the path are those that were parsed.
 use Rattle.std.proofs.Common.{◌≡◌, None, sym, ◌∙◌}
 use Rattle.toml_edit.specs.DocumentView.{tree_owned}
-use Rattle.toml_edit.specs.change.Changes.{names}
 use Rattle.toml_edit.specs.laws.Commands.{done, set_at}
 use Rattle.toml_edit.specs.model.Scalars.{string}
 use Rattle.toml_edit.specs.model.Tree.{leaf, unset}
+use Rattle.toml_edit.specs.model.Keys.{names}
 use Rattle.toml_edit_recipes.proofs.version.set_version.Goals as goal
 
 pub returns-clause-set : goal.returns-clause-set

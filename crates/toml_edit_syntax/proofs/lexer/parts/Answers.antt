@@ -39,7 +39,7 @@ returns-then-is_empty-clause-reads c n h =
     let whole = length c.args.source.now in
     let (k, room, read) = l.invariant.read n h in
     let nothing : length c.split_at.result.1.now ≡ 0 = grind (arith, common_steps) in
-    let pushed = added l.events.items c.push.new.self.items c.part.result _ c.in_ok-push.ensures.items c.part.ensures in
+    let pushed = added l.events.items c.push.new.self.items c.new_event.result _ c.in_ok-push.ensures.items c.new_event.ensures in
     read
     ∙ ap (preceded l.events.items) (loop.ends whole l.rest.now (fits_in c.args.source.now l.rest.now l.invariant.ends) k room
     c.trivia-len.result.1 c.trivia-len.result.0 c.split_at.result.0.now c.split_at.result.1.now c.trivia-len.ensures.value
@@ -55,7 +55,7 @@ returns-then-is_empty-clause-batch c ss final are last is =
     batch.batch_ends whole (whole - length c.args.s.now) ss final l.events.items l.rest.now g last c.split_at.result.0.now
     c.split_at.result.1.now c.trivia-len.result.0 c.trivia-len.result.1 c.trivia-len.ensures.value c.split_at.ensures.front
     c.split_at.ensures.back
-    c.part.result c.push.new.self.items l.rest.now nothing c.part.ensures c.in_ok-push.ensures.items
+    c.new_event.result c.push.new.self.items l.rest.now nothing c.new_event.ensures c.in_ok-push.ensures.items
 
 pub returns-then-is_empty-clause-spans : goal.returns-then-is_empty-clause-spans
 returns-then-is_empty-clause-spans c =
@@ -63,7 +63,8 @@ returns-then-is_empty-clause-spans c =
     let nothing : length c.split_at.result.1.now ≡ 0 = grind (arith, common_steps) in
     batch.end_spans l.rest.now c.split_at.result.0.now c.split_at.result.1.now c.trivia-len.result.0 c.trivia-len.result.1
     c.trivia-len.ensures.value c.split_at.ensures.front c.split_at.ensures.back
-    c.args.source.now c.part.result l.events.items c.push.new.self.items l.invariant.ends nothing c.part.ensures c.in_ok-push.ensures.items
+    c.args.source.now c.new_event.result l.events.items c.push.new.self.items l.invariant.ends nothing c.new_event.ensures
+    c.in_ok-push.ensures.items
     l.invariant.spans
 
 pub returns-then-len-ge-BATCH_SIZE-clause-batch : goal.returns-then-len-ge-BATCH_SIZE-clause-batch

@@ -7,7 +7,7 @@ use Rattle.toml_edit_syntax.proofs.line.trivia.Goals as goal
 
 pub returns-then-is_solid-clause-value : goal.returns-then-is_solid-clause-value
 returns-then-is_solid-clause-value c =
-    let is_none = λ (next : ℕ). subst (λ b. turn false b next ≡ None) c.first.ensures (c.is_solid.ensures next c.if-is_solid.true) in
+    let is_none = λ (next : ℕ). subst (λ b. turn false b next ≡ None) c.first_byte.ensures (c.is_solid.ensures next c.if-is_solid.true) in
     sym (solid_scan c.args.s.now is_none)
 
 pub returns-then-is_solid-clause-boundary : goal.returns-then-is_solid-clause-boundary

@@ -23,10 +23,11 @@ returns-clause-adds c =
     let rest = c.in-Some.rest.now in
     let brackets = c.split_run.result.1.now in
     let found : closing_rest c.args.is_array brackets ≡ Some rest = grind (arith, common_steps) in
-    let pushed = added_two old c.push.new.self.items c.push-2.new.self.items c.part.result c.part-2.result _ _ c.in_ok-push.ensures.items
-    c.in_ok-push-2.ensures.items c.part.ensures c.part-2.ensures in
+    let pushed = added_two old c.push.new.self.items c.push-2.new.self.items c.new_event.result c.new_event-2.result _ _
+    c.in_ok-push.ensures.items
+    c.in_ok-push-2.ensures.items c.new_event.ensures c.new_event-2.ensures in
     let all = ap (preceded old) (header_end_found c.args.whole c.args.is_array c.args.s.now c.split_run.result.0.now brackets c.requires
     c.split_run.ensures.parts rest found c.split_run.ensures.lens)
     ∙ preceded-twice old _ (end_read c.args.whole rest)
     ∙ ap (λ (es : List Event). preceded es (end_read c.args.whole rest)) (sym pushed) in
-    subst (Leaves c.end.new.events.items c.end.result) (sym all) c.end.ensures.adds
+    subst (Leaves c.push_line_end.new.events.items c.push_line_end.result) (sym all) c.push_line_end.ensures.adds

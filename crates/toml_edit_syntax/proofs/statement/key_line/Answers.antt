@@ -52,4 +52,4 @@ returns-clause-adds c =
     ∙ goes old fronted (frame_read whole c.args.leading.now c.args.s.now) text after c.in_ok-text.ensures.adds
     ∙ goes fronted valued (value_read (2 * length text + 2) 0 whole text) rest (end_read whole) (c.in_ok-rest.ensures.adds (2 * length text
     + 2) (le_refl _)) in
-    subst (Leaves c.end.new.events.items c.end.result) (sym all) c.end.ensures.adds
+    subst (Leaves c.push_line_end.new.events.items c.push_line_end.result) (sym all) c.push_line_end.ensures.adds

@@ -32,15 +32,15 @@ returns-in_default-clause-adds c =
     l.invariant.read ∙ ap (preceded l.events.items) (path_wrong l.invariant.fuel c.args.whole l.invariant.before l.rest.now
     (map_none (key_at l.rest.now) (λ (p : Text × Text). p.1) none))
 
-pub returns-then-first-ne46-clause-adds : goal.returns-then-first-ne46-clause-adds
-returns-then-first-ne46-clause-adds c =
+pub returns-then-first_byte-ne46-clause-adds : goal.returns-then-first_byte-ne46-clause-adds
+returns-then-first_byte-ne46-clause-adds c =
     let l = c.segments in
     let end = c.in-Some.end.now in
     let found : option_map (λ (p : Text × Text). p.1) (key_at l.rest.now) ≡ Some end = grind (arith, common_steps) in
     let other : first c.split_run.result.1.now ≢ 46 = grind (arith, common_steps) in
     let ended = path_ends l.invariant.fuel c.args.whole l.invariant.before l.rest.now end l.invariant.fits c.in-Some.ensures.within found
     c.split_run.result.0.now c.split_run.result.1.now c.split_run.ensures.parts l.invariant.room other in
-    let new = added l.events.items c.push.new.self.items c.part.result _ c.in_ok-push.ensures.items c.part.ensures in
+    let new = added l.events.items c.push.new.self.items c.new_event.result _ c.in_ok-push.ensures.items c.new_event.ensures in
     l.invariant.read ∙ ap (preceded l.events.items) ended ∙ ap (λ (es : List Event). got es end) (sym new)
 
 pub segments-preserved : goal.segments-preserved
@@ -59,9 +59,9 @@ segments-preserved c =
     c.split_run.result.0.now dot c.split_run.ensures.parts after next (c.split_run-in-segments.ensures.parts
     ∙ ap (split_while is_blank) c.skip.ensures.rest) lens less l.invariant.room here in
     let new = added_three l.events.items c.push.new.self.items c.push-in-segments.new.self.items c.push-in-segments-2.new.self.items
-    c.part.result c.part-in-segments.result c.part-in-segments-2.result _ _ _
-    c.in_ok-push.ensures.items c.in_ok-push-2.ensures.items c.in_ok-push-3.ensures.items c.part.ensures c.part-in-segments.ensures
-    c.part-in-segments-2.ensures in
+    c.new_event.result c.new_event-in-segments.result c.new_event-in-segments-2.result _ _ _
+    c.in_ok-push.ensures.items c.in_ok-push-2.ensures.items c.in_ok-push-3.ensures.items c.new_event.ensures c.new_event-in-segments.ensures
+    c.new_event-in-segments-2.ensures in
     record {
       utf8 = search rules;
       shorter = omega (arith, l.invariant.shorter);

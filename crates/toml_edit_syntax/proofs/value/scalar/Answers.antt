@@ -16,7 +16,7 @@ returns-clause-adds c =
     let rest = c.in-Some.rest.now in
     let old = c.args.events.now.items in
     let found : option_map (λ (p : Scalar × Text). p.1) (scalar_at c.args.s.now) ≡ Some rest = grind (arith, common_steps) in
-    let new = added old c.push.new.self.items c.part.result _ c.in_ok-push.ensures.items c.part.ensures in
+    let new = added old c.push.new.self.items c.new_event.result _ c.in_ok-push.ensures.items c.new_event.ensures in
     ap (preceded old) (scalar_found c.args.whole c.args.s.now rest c.requires c.in-Some.ensures.within found)
     ∙ ap (λ (es : List Event). got es rest) (sym new)
 

@@ -12,9 +12,9 @@ use Rattle.toml_edit_table_like.specs.Shown.{shown}
 use Rattle.toml_edit_tree.specs.SlotsOf.{slot_read}
 use Rattle.toml_edit_tree.specs.View.{item_view}
 use Rattle.toml_edit_tree.specs.declared.item.Item.{Item}
-use Rattle.toml_edit_table_like.proofs.FoundLaws.{found-those, is_item-not, passing}
 use Rattle.toml_edit_table_like.proofs.ShownLaws.{apart-shown, lookup_slot-of}
 use Rattle.toml_edit_table_like.proofs.find.filled_slot.Goals as goal
+use Rattle.toml_edit_laws.proofs.slots.Those.{is_item-not, passing, found-those}
 
 -- by the slot of any kind
 found : (k : Text) (es : List (Slot Item)) (o : Option (Bor Key × Bor Item)) → model.AreApart (seen es) → option_map pair_read o

@@ -116,8 +116,8 @@ returns-then-not-is_empty-clause-piece c n room =
     own_is c.args.form c.args.s.now n c.class.result c.split_run.result.0.now c.split_run.result.1.now room c.class.ensures
     c.split_run.ensures.parts
 
-pub returns-then-first-ne92-clause-piece : goal.returns-then-first-ne92-clause-piece
-returns-then-first-ne92-clause-piece c n room =
+pub returns-then-first_byte-ne92-clause-piece : goal.returns-then-first_byte-ne92-clause-piece
+returns-then-first_byte-ne92-clause-piece c n room =
     let f = c.args.form in
     let s = c.args.s.now in
     let own = c.split_run.result.0.now in

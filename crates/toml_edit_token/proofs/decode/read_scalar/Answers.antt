@@ -11,6 +11,6 @@ use Rattle.toml_edit_token.proofs.decode.read_scalar.Goals as goal
 pub returns-then-is_word : goal.returns-then-is_word
 returns-then-is_word c =
     let t = c.args.text.now in
-    let begins = sym (c.is_word.ensures ∙ ap is_word_byte c.first.ensures) ∙ c.if-is_word.true in
+    let begins = sym (c.is_word.ensures ∙ ap is_word_byte c.first_byte.ensures) ∙ c.if-is_word.true in
     subst (λ (o : Option scalars.Scalar). IfOk c.read_word.result (λ r. option_map scalar_view r ≡ ranged t o)) (sym (word_whole t begins))
     c.read_word.ensures

@@ -20,7 +20,7 @@ returns-then-is_empty g c =
 pub put_escape-requires : goal.put_escape-requires
 put_escape-requires g c =
     let some : 0 < length c.split_run.result.1.now = grind (arith, common_steps) in
-    rw c.first.ensures (turn_stops c.runs.rest.now c.split_run.result.0.now c.split_run.result.1.now c.split_run.ensures.parts some)
+    rw c.first_byte.ensures (turn_stops c.runs.rest.now c.split_run.result.0.now c.split_run.result.1.now c.split_run.ensures.parts some)
 
 pub after_first-rest-requires-clause-ascii : goal.after_first-rest-requires-clause-ascii
 after_first-rest-requires-clause-ascii g c =
@@ -34,7 +34,7 @@ runs-preserved g c =
     let next = turn_goes c.args.many_lines c.args.text.now done c.runs.rest.now c.split_run.result.0.now c.split_run.result.1.now more
     c.split_run.ensures.parts some in (
       search rules,
-      (done ++ c.split_run.result.0.now) ++ escaped_byte c.args.many_lines c.first.result,
+      (done ++ c.split_run.result.0.now) ++ escaped_byte c.args.many_lines c.first_byte.result,
       put_two _ _ _ _ _ _ (put_two _ _ _ _ _ _ wrote c.put.ensures refl) c.put_escape.ensures refl,
-      rw (c.first.ensures, c.after_first-rest.ensures.rest) next,
+      rw (c.first_byte.ensures, c.after_first-rest.ensures.rest) next,
     )

@@ -7,8 +7,8 @@ use Rattle.toml_edit_laws.specs.reading.Tokens.{whole}
 use Rattle.toml_edit_token.proofs.BasicLoop.{prepend-nil, turn_ends}
 use Rattle.toml_edit_token.proofs.string.plain_body.Goals as goal
 
-pub returns-then-first-eq34 : goal.returns-then-first-eq34
-returns-then-first-eq34 c n h =
+pub returns-then-first_byte-eq34 : goal.returns-then-first_byte-eq34
+returns-then-first_byte-eq34 c n h =
     let plain = c.split_run.result.0.now in
     let after = c.split_run.result.1.now in
     let quote : first after ≡ 34 = grind (arith, common_steps) in

@@ -2,12 +2,13 @@
 use Rattle.std.proofs.Common.{refl, ◌<◌, [], ◌∷◌, ◌++◌, length, sym, arith}
 use Rattle.toml_edit_repr.specs.Modes.{mode_of}
 use Rattle.toml_edit_io.proofs.Puts.{put_none, put_same, put_two}
-use Rattle.toml_edit_tree.specs.Printing.{keys_on, lines_of_item, lines_text}
+use Rattle.toml_edit_tree.specs.Printing.{keys_on, lines_of_item}
 use Rattle.toml_edit_tree.specs.View.{item_view, value_view}
 use Rattle.toml_edit_tree.proofs.PairTextLaws.{line-shown}
 use Rattle.toml_edit_tree.proofs.TurnLaws.{lines-turn}
 use Rattle.toml_edit_tree.proofs.ValueLines.{braced-line, other-line}
 use Rattle.toml_edit_tree.proofs.encode.+inside_lines.Goals as goal
+use Rattle.toml_edit_laws.specs.PrintByVisits.{lines_text}
 
 pub put_inside_lines-slots-init : goal.put_inside_lines-slots-init
 put_inside_lines-slots-init g t c = ([], put_none _ _ refl, refl)

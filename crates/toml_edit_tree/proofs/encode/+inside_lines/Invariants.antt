@@ -3,9 +3,10 @@ use Rattle.std.proofs.Common.{◌≡◌, List, ℕ, ◌++◌, drop}
 use Rattle.std.specs.Fmt.{WritesInCalls}
 use Rattle.toml_edit_model.specs.Print.{inside_lines}
 use Rattle.toml_edit_repr.specs.Modes.{mode_of}
-use Rattle.toml_edit_tree.specs.Printing.{keys_on, lines_text}
+use Rattle.toml_edit_tree.specs.Printing.{keys_on}
 use Rattle.toml_edit_tree.specs.View.{slots_view}
 use Rattle.toml_edit_tree.proofs.encode.+inside_lines.Given as goal
+use Rattle.toml_edit_laws.specs.PrintByVisits.{lines_text}
 
 abbrev pub invariant-put_inside_lines-slots : goal.invariant-put_inside_lines-slots
 invariant-put_inside_lines-slots g l =

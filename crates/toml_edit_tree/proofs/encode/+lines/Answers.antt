@@ -2,10 +2,11 @@
 use Rattle.std.proofs.Common.{refl, ◌<◌, [], ◌∷◌, ◌++◌, length, arith}
 use Rattle.toml_edit_repr.specs.Modes.{mode_of}
 use Rattle.toml_edit_io.proofs.Puts.{put_none, put_two}
-use Rattle.toml_edit_tree.specs.Printing.{keys_on, lines_in_table, lines_text}
+use Rattle.toml_edit_tree.specs.Printing.{keys_on, lines_in_table}
 use Rattle.toml_edit_tree.specs.View.{item_view}
 use Rattle.toml_edit_tree.proofs.TurnLaws.{table-turn}
 use Rattle.toml_edit_tree.proofs.encode.+lines.Goals as goal
+use Rattle.toml_edit_laws.specs.PrintByVisits.{lines_text}
 
 pub put_lines-slots-init : goal.put_lines-slots-init
 put_lines-slots-init g t c = ([], put_none _ _ refl, refl)

@@ -3,13 +3,14 @@ use Rattle.std.proofs.Common.{◌<◌, ◌≤◌, true, [], ◌∷◌, ◌++◌,
 use Rattle.std.specs.Option.{option_copied}
 use Rattle.toml_edit_repr.specs.Modes.{mode_of}
 use Rattle.toml_edit_io.proofs.Puts.{put_none, put_same, put_two, put_four, put_five}
-use Rattle.toml_edit_tree.specs.Printing.{element_text, items_text, keys_on, lines_of_item, pairs_shown}
+use Rattle.toml_edit_tree.specs.Printing.{keys_on, lines_of_item}
 use Rattle.toml_edit_tree.specs.View.{item_view, items_view, value_view}
 use Rattle.toml_edit_tree.proofs.PairTextLaws.{pair-last, pair-shown}
 use Rattle.toml_edit_tree.proofs.TurnLaws.{items-end, last-turn, other-turn, pairs-turn, value-turn}
 use Rattle.toml_edit_tree.proofs.ValueLines.{array-text, braced-line, inline-table-text, other-line}
 use Rattle.toml_edit_tree.proofs.encode.+print.Goals as goal
 use Rattle.toml_edit_tree.proofs.encode.+print.Goals.{put_items-in-Value, put_items-in_default}
+use Rattle.toml_edit_laws.specs.PrintByVisits.{element_text, pairs_shown, written_items}
 
 pub put_array_text-returns : goal.put_array_text-returns
 put_array_text-returns g t c =
@@ -27,11 +28,12 @@ put_items-items-preserved g t c =
     let i = c.items.item-index in
     let x = c.item-item.result in
     let below : i < length xs = omega arith in
-    let all = items_text (mode_of c.args.mode) c.args.comma true (items_view xs) in
+    let all = written_items (mode_of c.args.mode) c.args.comma true (items_view xs) in
     elim c.match-item.branch [
       | put_items-in-Value w ↦
           rw (w.out-is, w.is_first-is) (
-            done ++ element_text (mode_of c.args.mode) c.items.is_first (value_view w.in-Value.value),
+            done ++ element_text (mode_of c.args.mode) c.items.is_first (value_view w.in-Value.value)
+                (node_text (mode_of c.args.mode) (value_view w.in-Value.value)),
             put_two _ _ _ _ _ _ wrote w.put_element.ensures refl,
             value-turn (mode_of c.args.mode) c.args.comma c.items.is_first xs i x below c.item-item.is done all more w.in-Value.value
                 w.in-Value.is,
@@ -51,9 +53,9 @@ put_items-returns g t c =
     let xs = c.deref-item-items.result.now in
     let past : length xs ≤ c.items.item-index = omega arith in
     let all = items-end (mode_of c.args.mode) c.args.comma c.items.is_first xs c.items.item-index past done
-    (items_text (mode_of c.args.mode) c.args.comma true (items_view xs)) more in
+    (written_items (mode_of c.args.mode) c.args.comma true (items_view xs)) more in
     put_two _ _ _ _ _ _ wrote c.put_last_comma.ensures
-    (all ∙ ap (λ ys. items_text (mode_of c.args.mode) c.args.comma true (items_view ys)) c.deref-item-items.ensures.value)
+    (all ∙ ap (λ ys. written_items (mode_of c.args.mode) c.args.comma true (items_view ys)) c.deref-item-items.ensures.value)
 
 pub put_inline_text-returns : goal.put_inline_text-returns
 put_inline_text-returns g t c =

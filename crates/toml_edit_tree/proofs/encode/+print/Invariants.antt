@@ -4,15 +4,16 @@ use Rattle.std.specs.Fmt.{WritesInCalls}
 use Rattle.std.specs.Option.{option_copied}
 use Rattle.toml_edit_model.specs.Print.{inside_lines}
 use Rattle.toml_edit_repr.specs.Modes.{mode_of}
-use Rattle.toml_edit_tree.specs.Printing.{items_text, keys_on, last_shown, pairs_shown}
+use Rattle.toml_edit_tree.specs.Printing.{keys_on}
 use Rattle.toml_edit_tree.specs.View.{items_view, slots_view}
 use Rattle.toml_edit_tree.proofs.encode.+print.Given as goal
+use Rattle.toml_edit_laws.specs.PrintByVisits.{last_shown, pairs_shown, written_items}
 
 abbrev pub invariant-put_items-items : goal.invariant-put_items-items
 invariant-put_items-items g l =
     (done : List ℕ) × WritesInCalls g.S.Sink.puts l.initial.out done l.out
-    × (done ++ items_text (mode_of l.mode) l.comma l.is_first (items_view (drop l.item-index l.item-items))
-    ≡ items_text (mode_of l.mode) l.comma true (items_view l.item-items))
+    × (done ++ written_items (mode_of l.mode) l.comma l.is_first (items_view (drop l.item-index l.item-items))
+    ≡ written_items (mode_of l.mode) l.comma true (items_view l.item-items))
 
 abbrev pub invariant-put_pairs-slots : goal.invariant-put_pairs-slots
 invariant-put_pairs-slots g l =

@@ -5,9 +5,10 @@ use Rattle.toml_edit_model.specs.Tree.{Decor, key_text, shown_side, shown_suffix
 use Rattle.toml_edit_model.specs.Print.{dot_suffix}
 use Rattle.toml_edit_repr.specs.Modes.{mode_of}
 use Rattle.toml_edit_io.proofs.Puts.{put_five}
-use Rattle.toml_edit_tree.specs.Printing.{before_key, dotted_keys, keys_on}
-use Rattle.toml_edit_tree.proofs.KeyTextLaws.{dotted_keys-more}
+use Rattle.toml_edit_tree.specs.Printing.{keys_on}
+use Rattle.toml_edit_laws.proofs.print_by_visits.KeyTexts.{dotted_keys-more}
 use Rattle.toml_edit_tree.proofs.encode.+put_dotted_keys.Goals as goal
+use Rattle.toml_edit_laws.specs.PrintByVisits.{before_key, dotted_keys}
 
 pub returns-in-Under : goal.returns-in-Under
 returns-in-Under g t c =

@@ -3,7 +3,7 @@ use Rattle.std.proofs.Common.{sym}
 use Rattle.toml_edit_repr.specs.Modes.{mode_of}
 use Rattle.toml_edit_io.proofs.Puts.{put_three}
 use Rattle.toml_edit_tree.specs.Printing.{keys_on}
-use Rattle.toml_edit_tree.proofs.KeyTextLaws.{path-is}
+use Rattle.toml_edit_laws.proofs.print_by_visits.KeyTexts.{path-is}
 use Rattle.toml_edit_tree.proofs.encode.put_path.Goals as goal
 
 pub returns : goal.returns

@@ -2,8 +2,8 @@
 use Rattle.std.proofs.Common.{not, Some, None, cond, option_map, sym, ap, ◌∙◌}
 use Rattle.toml_edit_tree.specs.View.{item_view}
 use Rattle.toml_edit_tree.proofs.IndexedLaws.{get-read, held_read}
-use Rattle.toml_edit_tree.proofs.SlotsLaws.{is_item-not}
 use Rattle.toml_edit_tree.proofs.index.filled_item.Goals as goal
+use Rattle.toml_edit_laws.proofs.slots.Those.{is_item-not}
 
 pub returns-in_err-item : goal.returns-in_err-item
 returns-in_err-item c =

@@ -7,9 +7,9 @@ use Rattle.toml_edit_slots.specs.Slots.{items_of}
 use Rattle.toml_edit_tree.specs.View.{item_view}
 use Rattle.toml_edit_tree.proofs.HeldLaws.{item-at}
 use Rattle.toml_edit_tree.proofs.IndexedLaws.{get-found, held_in-full}
-use Rattle.toml_edit_tree.proofs.SlotsLaws.{is_item-not}
 use Rattle.toml_edit_tree.proofs.TableEntryLaws.{apart-first}
 use Rattle.toml_edit_tree.proofs.index.filled_place.Goals as goal
+use Rattle.toml_edit_laws.proofs.slots.Those.{is_item-not}
 
 pub returns-in_err-at : goal.returns-in_err-at
 returns-in_err-at c =

@@ -1,19 +1,19 @@
 -- Each place without positions.
 use denote.Param.Weighed.{most}
-use Rattle.std.proofs.Common.{◌≡◌, ℕ, zero, suc, ◌<◌, ◌≤◌, ◌+◌, List, [], ◌∷◌, Some, length, map, get_or, set, slice_get, arith, refl, sym}
+use Rattle.std.proofs.Common.{◌≡◌, ◌<◌, ◌≤◌, ◌+◌, List, [], ◌∷◌, length, map, get_or, set, arith, refl, sym}
 use Rattle.std.proofs.Common.{ap, subst, ◌∙◌}
-use Rattle.std.proofs.lemmas.Option.{same_Some}
 use Rattle.toml_edit_model.specs.Lists.{items_from}
 use Rattle.toml_edit_model.specs.Positions.{items_without_positions, slots_without_positions, without_positions}
-use Rattle.toml_edit_model.specs.Tree.{Node, Key, item, slot}
-use Rattle.toml_edit_slots.specs.Slots.{items_of, on_item, with_item}
+use Rattle.toml_edit_model.specs.Tree.{Node, item, slot}
+use Rattle.toml_edit_slots.specs.Slots.{on_item, with_item}
 use Rattle.toml_edit_slots.specs.declared.slots.Slot.{Slot}
 use Rattle.toml_edit_tree.specs.Containers.{tree_slots}
-use Rattle.toml_edit_tree.specs.declared.item.Item.{Item, size-Item}
+use Rattle.toml_edit_tree.specs.declared.item.Item.{size-Item}
 use Rattle.toml_edit_tree.specs.View.{item_view}
 use Rattle.toml_edit_tree.proofs.DespanLaws.{deepest, deepest_item, item_depth, no_slot, slot_depth}
 use Rattle.toml_edit_tree.proofs.InPlace.{Done, finish, long_as, none_done, same, step}
 use Rattle.toml_edit_tree.proofs.positions.+forget.Goals as goal
+use Rattle.toml_edit_tree.proofs.OrderLaws.{item-at, item-changed}
 
 items-forgotten : (ns : List Node) → items_from (map without_positions ns) ≡ items_without_positions (items_from ns)
 items-forgotten [] = refl
@@ -22,19 +22,6 @@ items-forgotten (n ∷ ns) = ap (item (without_positions n)) (items-forgotten ns
 slots-forgotten : (es : List (Slot Node)) → tree_slots (map (on_item without_positions) es) ≡ slots_without_positions (tree_slots es)
 slots-forgotten [] = refl
 slots-forgotten (s ∷ es) = ap (slot s.key (without_positions s.item)) (slots-forgotten es)
-
--- the item of the slot that is at a place, and another one there
-item-here : (es : List (Slot Item)) (i : ℕ) (d : Slot Item) (x : Item) → i < length es → Some x ≡ slice_get (items_of es) i → x
-    ≡ (get_or es i d).item
-item-here [] i d x l e = absurd (omega (arith, l))
-item-here (s ∷ es) zero d x l e = same_Some x s.item e
-item-here (s ∷ es) (suc i) d x l e = item-here es i d x (omega (arith, l)) e
-
-item-changed : (es : List (Slot Item)) (i : ℕ) (d : Slot Item) (y : Item) → with_item i y es
-    ≡ set es i (record { key = (get_or es i d).key; item = y })
-item-changed [] i d y = refl
-item-changed (s ∷ es) zero d y = refl
-item-changed (s ∷ es) (suc i) d y = ap (λ l. s ∷ l) (item-changed es i d y)
 
 -- ---- items
 
@@ -88,7 +75,7 @@ forget_slots-forget_item-requires t c =
     let x = c.item_mut-item.result.now in
     let long = long_as (on_item item_view) (on_item without_positions) es first at c.loop-at.invariant in
     let within : at < length es = omega (arith, long, c.len-at-end.ensures, c.loop-at-test.true) in
-    let there : x ≡ (get_or es at no_slot).item = item-here es at no_slot x within c.item_mut-item.ensures.item in
+    let there : x ≡ (get_or es at no_slot).item = item-at es at no_slot x within c.item_mut-item.ensures.item in
     let here : (get_or first at no_slot).item ≡ x =
     ap (λ y. y.item) (sym (same (on_item item_view) (on_item without_positions) es first at c.loop-at.invariant within no_slot))
     ∙ sym there in
@@ -106,7 +93,7 @@ forget_slots-loop-at-preserved t c =
     let old = get_or es at no_slot in
     let long = long_as (on_item item_view) (on_item without_positions) es first at c.loop-at.invariant in
     let within : at < length es = omega (arith, long, c.len-at-end.ensures, c.loop-at-test.true) in
-    let there : x ≡ old.item = item-here es at no_slot x within c.item_mut-item.ensures.item in
+    let there : x ≡ old.item = item-at es at no_slot x within c.item_mut-item.ensures.item in
     let made : item_view y ≡ without_positions (item_view old.item) = c.forget_item.ensures
     ∙ ap (λ z. without_positions (item_view z)) there in
     let put : with_item at y es ≡ set es at (record { key = old.key; item = y }) = item-changed es at no_slot y in

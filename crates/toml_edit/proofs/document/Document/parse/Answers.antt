@@ -3,7 +3,7 @@ use Rattle.std.proofs.Common.{subst, ◌∙◌}
 use Rattle.std.proofs.lemmas.Result.{IfOk-weaker}
 use Rattle.std.specs.Prelude.{IfErr}
 use Rattle.toml_edit_error.specs.Fault.{IfToml}
-use Rattle.toml_edit.specs.DocumentView.{mode_read, open_read, tree_read}
+use Rattle.toml_edit.specs.DocumentView.{open_read, tree_read}
 use Rattle.toml_edit.specs.Documents.{IsRefusalIn}
 use Rattle.toml_edit_parser.specs.Options.{mode_of, version_of}
 use Rattle.toml_edit.proofs.PlainReads.{latest-accepts, of-both, plain-end, plain-reading}

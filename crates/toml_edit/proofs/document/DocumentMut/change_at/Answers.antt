@@ -1,7 +1,7 @@
 -- The document's tree is what the closure makes of it.
-use Rattle.toml_edit_paths.specs.Changes.{names}
 use Rattle.toml_edit.proofs.AtLaws.{change-root, change-takes}
 use Rattle.toml_edit.proofs.document.DocumentMut.change_at.Goals as goal
+use Rattle.toml_edit_model.specs.Keys.{names}
 
 pub returns-clause-changes : goal.returns-clause-changes
 returns-clause-changes g c =

@@ -12,10 +12,10 @@ use Rattle.toml_edit_tree.specs.View.{fields_view, item_view, table_slots}
 use Rattle.toml_edit_tree.specs.declared.item.Item.TheVariants as items
 use Rattle.toml_edit_tree.specs.declared.table.Table.{Table}
 use Rattle.toml_edit.specs.DocumentView.{tree_owned}
-use Rattle.toml_edit.specs.Roots.{root_node}
 use Rattle.toml_edit.specs.declared.document.DocumentMut.{DocumentMut}
 use Rattle.toml_edit.proofs.RootLaws.{root-under, trailing-at, tree-under}
 use Rattle.toml_edit.proofs.document.DocumentMut.index_or_insert.Goals as goal
+use Rattle.toml_edit_laws.specs.Commands.{root_item}
 
 on_err : {A E : Type 0} {P : Type 0} (r : Result A E) → P → OnErr r P
 on_err (Ok x) p = tt
@@ -34,7 +34,7 @@ tree f ss r = record { root = f; slots = ss; trailing = r }
 
 -- the root of a document, by the table that it lends
 module _ (d : DocumentMut) (t : Table) (f : fields_view t ≡ (tree_owned d).root) (s : table_slots t ≡ (tree_owned d).slots) where
-  root-is : root_node (tree_owned d) ≡ table (fields_view t) (table_slots t)
+  root-is : root_item (tree_owned d) ≡ table (fields_view t) (table_slots t)
   root-is = ap (λ g. table g (tree_owned d).slots) (sym f) ∙ ap (table (fields_view t)) (sym s)
 
   stays : tree (fields_view t) (table_slots t) d.trailing ≡ tree_owned d

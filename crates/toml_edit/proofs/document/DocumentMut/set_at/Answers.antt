@@ -1,8 +1,8 @@
 -- The document's tree is what `set` makes of it.
 use Rattle.toml_edit_tree.specs.View.{value_view}
-use Rattle.toml_edit_paths.specs.Changes.{names}
 use Rattle.toml_edit.proofs.AtLaws.{set-root}
 use Rattle.toml_edit.proofs.document.DocumentMut.set_at.Goals as goal
+use Rattle.toml_edit_model.specs.Keys.{names}
 
 pub returns-clause-changes : goal.returns-clause-changes
 returns-clause-changes c =

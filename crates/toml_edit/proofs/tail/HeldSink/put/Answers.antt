@@ -11,7 +11,7 @@ range-requires-clause-end_boundary g c =
     let h = c.args.self.now.tail in
     let t = c.args.text.now in
     let is : c.text_of-held.result.now ≡ tail_text (tail_after h t) = c.text_of-held.ensures
-    ∙ ap tail_text (c.after-tail.ensures ∙ ap (tail_after h) c.as_bytes.ensures.value) in
+    ∙ ap tail_text (c.tail_after-tail.ensures ∙ ap (tail_after h) c.as_bytes.ensures.value) in
     let le : length (tail_text (tail_after h t)) ≤ length t = subst (λ l. length l ≤ length t) is c.if-held-text.true in
     cut-at t c.text_of-held.result.now c.text_of-held.utf8 (subst (EndsIn t) (sym is) (tail-ends h t le)) c.if-held-text.true
 
@@ -19,7 +19,7 @@ pub returns : goal.returns
 returns g c =
     let h = c.args.self.now.tail in
     let t = c.args.text.now in
-    let tail : c.after-tail.result ≡ tail_after h t = c.after-tail.ensures ∙ ap (tail_after h) c.as_bytes.ensures.value in
+    let tail : c.tail_after-tail.result ≡ tail_after h t = c.tail_after-tail.ensures ∙ ap (tail_after h) c.as_bytes.ensures.value in
     let end = tail_text (tail_after h t) in
     let is : c.text_of-held.result.now ≡ end = c.text_of-held.ensures ∙ ap tail_text tail in
     elim c.if-held-text.branch [

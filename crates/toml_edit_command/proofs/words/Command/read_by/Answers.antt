@@ -2,10 +2,10 @@
 use Rattle.std.proofs.Common.{◌≡◌, List, map, Some, String, Global, string_bytes, subst, inl, inr}
 use Rattle.std.proofs.lemmas.Result.{err_from_is_err_and}
 use Rattle.toml_edit_command.specs.Forms.{IsForm, request_by}
-use Rattle.toml_edit_paths.specs.Changes.{names}
 use Rattle.toml_edit_command.specs.declared.words.CommandForm.{CommandForm}
 use Rattle.toml_edit_command.proofs.Reading.{path-stops, value-stops}
 use Rattle.toml_edit_command.proofs.words.Command.read_by.Goals as goal
+use Rattle.toml_edit_model.specs.Keys.{names}
 
 -- the form by its parts
 is-form : (ws : List (String Global)) (f h : CommandForm) → f ≡ h → IsForm (map string_bytes ws) (Some f)

@@ -7,8 +7,8 @@ use Rattle.toml_edit_error.proofs.excerpt.ExcerptDisplay.fmt.Goals as goal
 pub returns-clause-writes : goal.returns-clause-writes
 returns-clause-writes g c plain ok =
     let e = c.args.self.now in
-    let r = c.of-place.result in
-    let p = c.of-place.ensures in
+    let r = c.new-place.result in
+    let p = c.new-place.ensures in
     let done = c.write_place.ensures plain (search rules) in
     has_written_of_eq _ _ _ _ _
     (excerpt_text e.title.now e.source.now e.message.now r.content.now e.span.0 e.span.1 r.line r.column r.marks p.line p.column p.content

@@ -10,16 +10,16 @@ use Rattle.toml_edit_table_like.proofs.entry.TableLikeEntry.or_insert.Goals as g
 pub returns-in-Ok : goal.returns-in-Ok
 returns-in-Ok g c =
     let e = c.args.self.now in
-    let t = c.place.new.self.table.now in (
+    let t = c.find_or_add.new.self.table.now in (
       λ j. inl (
         c.item_at_mut.result.ghost_name,
-        λ w. (ap (with_table (with_item_at g.T.HasSlots.entries g.T.HasSlots.with_entries c.in-Ok.at w t)) c.place.ensures.same
+        λ w. (ap (with_table (with_item_at g.T.HasSlots.entries g.T.HasSlots.with_entries c.in-Ok.at w t)) c.find_or_add.ensures.same
             ∙ ap (λ u. with_table u e) (c.in-Ok.ensures.rest w)) j,
       ),
       record {
         writes_back = tt;
         item = same_Some _ _ (ap (option_map item_view) c.item_at_mut.ensures.item ∙ c.in-Ok.ensures.item);
-        leaves = c.place.ensures.leaves;
+        leaves = c.find_or_add.ensures.leaves;
         keeps = λ w. g.T.HasSlots.keeps _ e.table.now;
         present = λ _. refl;
         back = tt;
@@ -29,11 +29,11 @@ returns-in-Ok g c =
 pub returns-in-Err : goal.returns-in-Err
 returns-in-Err g c =
     let e = c.args.self.now in (
-      λ j. inr ((c.place.ensures.same ∙ ap (λ u. with_table u e) c.in-Err.ensures.err) j),
+      λ j. inr ((c.find_or_add.ensures.same ∙ ap (λ u. with_table u e) c.in-Err.ensures.err) j),
       record {
         writes_back = tt;
         item = tt;
-        leaves = c.place.ensures.leaves;
+        leaves = c.find_or_add.ensures.leaves;
         keeps = λ w. g.T.HasSlots.keeps _ e.table.now;
         present = c.in-Err.ensures.present;
         back = c.in-Err.ensures.back;

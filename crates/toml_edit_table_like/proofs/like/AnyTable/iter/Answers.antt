@@ -7,5 +7,5 @@ use Rattle.toml_edit_table_like.proofs.like.AnyTable.iter.Goals as goal
 pub returns : goal.returns
 returns g c =
     let t = c.args.self.now in
-    c.over.ensures ∙ ap (λ es. filled_pairs (shown es)) (c.as_slice.ensures.slots ∙ c.as_slots.ensures)
+    c.from_slots.ensures ∙ ap (λ es. filled_pairs (shown es)) (c.as_slice.ensures.slots ∙ c.as_slots.ensures)
     ∙ sym (ap filled_pairs (g.Self.HasSlots.shows t))

@@ -15,7 +15,7 @@ pub returns-in-Ok : goal.returns-in-Ok
 returns-in-Ok g c =
     let t = c.args.self.now in
     let k = new_key c.args.key.now in
-    let fs = c.place_for.new.slots in
+    let fs = c.find_or_add.new.slots in
     let at = c.in-Ok.at in
     let seen = ap shown c.as_slots_mut.ensures.slots ∙ sym (g.Self.HasSlots.shows t) in (
       λ j. inl (
@@ -30,7 +30,7 @@ returns-in-Ok g c =
             ∙ ap (λ l. Some (unwrap_or (lookup c.args.key.now l) (item_view c.args.item))) seen),
         (
           λ w. g.Self.HasSlots.shows _ ∙ ap shown (g.Self.HasSlots.takes _ t)
-              ∙ ap (λ l. shown (item_put k w l)) (sym c.as_slots_mut.ensures.slots) ∙ c.place_for.ensures.leaves w
+              ∙ ap (λ l. shown (item_put k w l)) (sym c.as_slots_mut.ensures.slots) ∙ c.find_or_add.ensures.leaves w
               ∙ ap (put (with_item_seen (item_view w)) (record { key = k; item = item_view w })) seen,
           (λ w. g.Self.HasSlots.keeps _ t, (λ _. refl, tt)),
         ),
@@ -48,7 +48,7 @@ returns-in-Err g c =
         tt,
         (
           λ w. g.Self.HasSlots.shows _ ∙ ap shown (g.Self.HasSlots.takes _ t)
-              ∙ ap (λ l. shown (item_put k w l)) (sym c.as_slots_mut.ensures.slots) ∙ c.place_for.ensures.leaves w
+              ∙ ap (λ l. shown (item_put k w l)) (sym c.as_slots_mut.ensures.slots) ∙ c.find_or_add.ensures.leaves w
               ∙ ap (put (with_item_seen (item_view w)) (record { key = k; item = item_view w })) seen,
           (λ w. g.Self.HasSlots.keeps _ t, (λ h. c.in-Err.ensures.present (ap (has_slot c.args.key.now) seen ∙ h), c.in-Err.ensures.back)),
         ),

@@ -14,7 +14,7 @@ pub returns-in-Ok : goal.returns-in-Ok
 returns-in-Ok g c =
     let t = c.args.self.now in
     let k = c.args.key.now in
-    let fs = c.place_for_key.new.slots in
+    let fs = c.find_or_add_key.new.slots in
     let at = c.in-Ok.at in
     let seen = ap shown c.as_slots_mut.ensures.slots ∙ sym (g.Self.HasSlots.shows t) in (
       λ j. inl (
@@ -29,7 +29,7 @@ returns-in-Ok g c =
             ∙ ap (λ l. slice_get (items_of l) at) (g.Self.HasSlots.takes fs t)) ∙ c.in-Ok.ensures.item
             ∙ ap (λ l. Some (unwrap_or (lookup c.args.key.now.name l) (item_view c.args.item))) seen);
         leaves = λ w. g.Self.HasSlots.shows _ ∙ ap shown (g.Self.HasSlots.takes _ t)
-            ∙ ap (λ l. shown (item_put k w l)) (sym c.as_slots_mut.ensures.slots) ∙ c.place_for_key.ensures.leaves w
+            ∙ ap (λ l. shown (item_put k w l)) (sym c.as_slots_mut.ensures.slots) ∙ c.find_or_add_key.ensures.leaves w
             ∙ ap (put (with_item_seen (item_view w)) (record { key = k; item = item_view w })) seen;
         keeps = λ w. g.Self.HasSlots.keeps _ t;
         present = λ _. refl;
@@ -48,7 +48,7 @@ returns-in-Err g c =
         writes_back = tt;
         item = tt;
         leaves = λ w. g.Self.HasSlots.shows _ ∙ ap shown (g.Self.HasSlots.takes _ t)
-            ∙ ap (λ l. shown (item_put k w l)) (sym c.as_slots_mut.ensures.slots) ∙ c.place_for_key.ensures.leaves w
+            ∙ ap (λ l. shown (item_put k w l)) (sym c.as_slots_mut.ensures.slots) ∙ c.find_or_add_key.ensures.leaves w
             ∙ ap (put (with_item_seen (item_view w)) (record { key = k; item = item_view w })) seen;
         keeps = λ w. g.Self.HasSlots.keeps _ t;
         present = λ h. c.in-Err.ensures.present (ap (has_slot c.args.key.now.name) seen ∙ h);

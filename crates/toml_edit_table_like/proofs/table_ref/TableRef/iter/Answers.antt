@@ -7,4 +7,4 @@ use Rattle.toml_edit_table_like.proofs.table_ref.TableRef.iter.Goals as goal
 
 pub returns : goal.returns
 returns c =
-    c.over.ensures ∙ ap (λ es. filled_pairs (slot_list (slots_view es))) c.as_slice.ensures.slots ∙ ap filled_pairs c.as_slots.ensures
+    c.from_slots.ensures ∙ ap (λ es. filled_pairs (slot_list (slots_view es))) c.as_slice.ensures.slots ∙ ap filled_pairs c.as_slots.ensures

@@ -9,5 +9,5 @@ use Rattle.toml_edit_tree.proofs.array.Array.replace.Goals as goal
 pub returns-in-Ok-clause-items : goal.returns-in-Ok-clause-items
 returns-in-Ok-clause-items c =
     let xs = items_of c.args.self.now in
-    c.replace_formatted.ensures.items ∙ ap (λ n. written_at c.args.at n xs) c.redecorated.ensures
+    c.replace_formatted.ensures.items ∙ ap (λ n. written_at c.args.at n xs) c.with_decor.ensures
     ∙ replaced-written c.args.at xs c.in-Ok.decor (value_view c.args.value) c.in-Ok.ensures

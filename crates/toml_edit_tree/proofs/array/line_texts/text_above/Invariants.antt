@@ -1,10 +1,9 @@
 -- The lines that are added, and those of the rest, are those of the whole text.
-use Rattle.std.proofs.Common.{◌≡◌, ◌++◌, filter, not, string_bytes, length}
+use Rattle.std.proofs.Common.{◌≡◌, ◌++◌, filter, string_bytes, length}
 use Rattle.std.specs.Prelude.{flat_map}
 use denote.Text.{Utf8}
 use denote.Shadow.{shadow}
 use Rattle.toml_edit_model.specs.Comments.{lines}
-use Rattle.toml_edit_model.specs.Text.{is_empty}
 use Rattle.toml_edit_tree.specs.ArrayLines.{is_kept, moved, text_above}
 use Rattle.toml_edit_tree.proofs.array.line_texts.text_above.Given as goal
 

@@ -5,7 +5,7 @@ use denote.Text.{Utf8}
 use denote.Shadow.{shadow}
 use Rattle.toml_edit_model.specs.Comments.{lines}
 use Rattle.toml_edit_model.specs.Text.{is_empty}
-use Rattle.toml_edit_tree.specs.ArrayLines.{is_broken, line_words, moved, text_after}
+use Rattle.toml_edit_tree.specs.ArrayLines.{line_words, moved, text_after}
 use Rattle.toml_edit_tree.proofs.array.line_texts.text_after.Given as goal
 
 abbrev pub invariant-lines : goal.invariant-lines

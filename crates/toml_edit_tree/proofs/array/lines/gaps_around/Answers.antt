@@ -1,5 +1,5 @@
 -- A value with lines of its own is between the gaps that are made of these texts.
-use Rattle.std.proofs.Common.{◌≡◌, ◌++◌, [], Bool, true, ap, sym, ◌∙◌, length, string_bytes, if◌then◌else◌}
+use Rattle.std.proofs.Common.{◌≡◌, ◌++◌, [], true, ap, sym, ◌∙◌, length, string_bytes, if◌then◌else◌}
 use Rattle.std.specs.Prelude.{nat_lt, not}
 use Rattle.toml_edit_model.specs.Comments.{after_first_line, first_line}
 use Rattle.toml_edit_model.specs.Tree.{owned}

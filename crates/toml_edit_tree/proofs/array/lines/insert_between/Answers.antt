@@ -26,8 +26,8 @@ put_gap_after-requires c =
     let v = value_view c.args.value in
     let items : items_of c.insert.new.self ≡ inserted_at at v xs = c.in_ok-insert.ensures.items in
     let fields : array_fields c.insert.new.self ≡ f = c.insert.ensures.fields in
-    let mid : items_of c.place.new.array ≡ inserted_at at (placed c.args.before v) (followed at f xs) =
-    c.place.ensures.items
+    let mid : items_of c.set_prefix_only.new.array ≡ inserted_at at (placed c.args.before v) (followed at f xs) =
+    c.set_prefix_only.ensures.items
     ∙ ap (changed_at at (placed c.args.before)) (c.follow.ensures.items
     ∙ (λ i. if (fields i).comma || not (is_last at (items i)) then items i else changed_at (at - 1) (with_suffix (owned [])) (items i)))
     ∙ inserted-between f.comma c.args.before v xs at c.requires in
@@ -41,12 +41,12 @@ returns-clause-items c =
     let v = value_view c.args.value in
     let items : items_of c.insert.new.self ≡ inserted_at at v xs = c.in_ok-insert.ensures.items in
     let fields : array_fields c.insert.new.self ≡ f = c.insert.ensures.fields in
-    let mid : items_of c.place.new.array ≡ inserted_at at (placed c.args.before v) (followed at f xs) =
-    c.place.ensures.items
+    let mid : items_of c.set_prefix_only.new.array ≡ inserted_at at (placed c.args.before v) (followed at f xs) =
+    c.set_prefix_only.ensures.items
     ∙ ap (changed_at at (placed c.args.before)) (c.follow.ensures.items
     ∙ (λ i. if (fields i).comma || not (is_last at (items i)) then items i else changed_at (at - 1) (with_suffix (owned [])) (items i)))
     ∙ inserted-between f.comma c.args.before v xs at c.requires in
-    let rest : array_fields c.place.new.array ≡ f = c.place.ensures.fields ∙ c.follow.ensures.fields ∙ fields in
+    let rest : array_fields c.set_prefix_only.new.array ≡ f = c.set_prefix_only.ensures.fields ∙ c.follow.ensures.fields ∙ fields in
     c.put_gap_after.ensures.items ∙ (λ i. with_gap (suc at) c.args.after (rest i) (mid i))
 
 pub returns-clause-fields : goal.returns-clause-fields
@@ -57,10 +57,10 @@ returns-clause-fields c =
     let v = value_view c.args.value in
     let items : items_of c.insert.new.self ≡ inserted_at at v xs = c.in_ok-insert.ensures.items in
     let fields : array_fields c.insert.new.self ≡ f = c.insert.ensures.fields in
-    let mid : items_of c.place.new.array ≡ inserted_at at (placed c.args.before v) (followed at f xs) =
-    c.place.ensures.items
+    let mid : items_of c.set_prefix_only.new.array ≡ inserted_at at (placed c.args.before v) (followed at f xs) =
+    c.set_prefix_only.ensures.items
     ∙ ap (changed_at at (placed c.args.before)) (c.follow.ensures.items
     ∙ (λ i. if (fields i).comma || not (is_last at (items i)) then items i else changed_at (at - 1) (with_suffix (owned [])) (items i)))
     ∙ inserted-between f.comma c.args.before v xs at c.requires in
-    let rest : array_fields c.place.new.array ≡ f = c.place.ensures.fields ∙ c.follow.ensures.fields ∙ fields in
+    let rest : array_fields c.set_prefix_only.new.array ≡ f = c.set_prefix_only.ensures.fields ∙ c.follow.ensures.fields ∙ fields in
     c.put_gap_after.ensures.fields ∙ (λ i. fields_with_gap (suc at) c.args.after (rest i) (mid i))

@@ -1,5 +1,5 @@
 -- The gap is put where the value was.
-use Rattle.std.proofs.Common.{◌≡◌, ◌∙◌}
+use Rattle.std.proofs.Common.{◌∙◌}
 use Rattle.toml_edit_tree.specs.ArrayLines.{fields_with_gap, with_gap}
 use Rattle.toml_edit_tree.proofs.array.lines.take_between.Goals as goal
 

@@ -11,8 +11,10 @@ use Rattle.toml_edit_tree.specs.SlotsOf.{inline_slots_of, slot_read}
 use Rattle.toml_edit_tree.specs.View.{item_view}
 use Rattle.toml_edit_tree.specs.declared.inline_table.InlineTable.{InlineTable, out-InlineTable}
 use Rattle.toml_edit_tree.specs.declared.item.Item.{Item}
-use Rattle.toml_edit_tree.proofs.SlotsLaws.{apart-shown, found-those, inline-shown, is_item-not, lookup_slot-of, passing, shown}
+use Rattle.toml_edit_tree.specs.Indexed.{shown_slots}
+use Rattle.toml_edit_tree.proofs.SlotsLaws.{apart-shown, inline-shown, lookup_slot-of}
 use Rattle.toml_edit_tree.proofs.inline_table.InlineTable.get_key_value.Goals as goal
+use Rattle.toml_edit_laws.proofs.slots.Those.{is_item-not, passing, found-those}
 
 -- by the slot of any kind
 found : (k : Text) (t : InlineTable) (o : Option (Bor Key × Bor Item)) → model.AreApart (seen (out-InlineTable t).items)
@@ -20,7 +22,7 @@ found : (k : Text) (t : InlineTable) (o : Option (Bor Key × Bor Item)) → mode
     → get_slot k (inline_slots_of t) ≡ option_and_then (passing is_item k) (option_map slot_read o)
 found k t o apart is =
     ap (get_slot k) (inline-shown t)
-    ∙ found-those is_item k (shown (out-InlineTable t).items) (apart-shown (out-InlineTable t).items apart)
+    ∙ found-those is_item k (shown_slots (out-InlineTable t).items) (apart-shown (out-InlineTable t).items apart)
     ∙ ap (option_and_then (passing is_item k)) (lookup_slot-of k (out-InlineTable t).items
     ∙ ap (option_map (model.on_item item_view)) (sym is) ∙ read o)
   where

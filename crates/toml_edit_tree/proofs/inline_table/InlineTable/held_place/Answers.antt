@@ -9,9 +9,10 @@ use Rattle.toml_edit_tree.specs.View.{item_view}
 use Rattle.toml_edit_tree.specs.declared.inline_table.InlineTable.{out-InlineTable}
 use Rattle.toml_edit_tree.proofs.HeldLaws.{item-at}
 use Rattle.toml_edit_tree.proofs.IndexedLaws.{get-found, held_in-full}
-use Rattle.toml_edit_tree.proofs.SlotsLaws.{inline-shown, is_item-not}
+use Rattle.toml_edit_tree.proofs.SlotsLaws.{inline-shown}
 use Rattle.toml_edit_tree.proofs.TableEntryLaws.{apart-first}
 use Rattle.toml_edit_tree.proofs.inline_table.InlineTable.held_place.Goals as goal
+use Rattle.toml_edit_laws.proofs.slots.Those.{is_item-not}
 
 pub returns-in_err-at-clause-held : goal.returns-in_err-at-clause-held
 returns-in_err-at-clause-held c =

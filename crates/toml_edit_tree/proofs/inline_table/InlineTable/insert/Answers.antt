@@ -6,7 +6,8 @@ use Rattle.toml_edit_model.specs.Slots.{has_slot, inserted}
 use Rattle.toml_edit_tree.specs.View.{item_view, value_view}
 use Rattle.toml_edit_tree.specs.declared.inline_table.InlineTable.{out-InlineTable}
 use Rattle.toml_edit_tree.specs.declared.item.Item.TheVariants as items
-use Rattle.toml_edit_tree.proofs.SlotsLaws.{has_slot-shown, inline-shown, inserted-shown, lookup-shown, made_inline-shown, shown}
+use Rattle.toml_edit_tree.specs.Indexed.{shown_slots}
+use Rattle.toml_edit_tree.proofs.SlotsLaws.{has_slot-shown, inline-shown, inserted-shown, lookup-shown, made_inline-shown}
 use Rattle.toml_edit_tree.proofs.ViewLaws.{view-Value}
 use Rattle.toml_edit_tree.proofs.inline_table.InlineTable.insert.Goals as goal
 
@@ -22,7 +23,7 @@ returns-in-Ok-clause-slots c =
     let t = c.args.self.now in
     let es = (out-InlineTable t).items in
     made_inline-shown _ ∙ inserted-shown c.args.key.now (items.Value c.args.value) es c.insert.new.self c.in-Ok.ensures.seen
-    ∙ ap (λ n. inserted c.args.key.now n (shown es)) (view-Value c.args.value)
+    ∙ ap (λ n. inserted c.args.key.now n (shown_slots es)) (view-Value c.args.value)
     ∙ ap (inserted c.args.key.now (value_view c.args.value)) (sym (inline-shown t))
 
 pub returns-in-Err-Value-clause-present : goal.returns-in-Err-Value-clause-present

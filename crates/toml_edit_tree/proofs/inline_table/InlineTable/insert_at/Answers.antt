@@ -6,9 +6,10 @@ use Rattle.toml_edit_slots.specs.Refusals.{IsRefusal}
 use Rattle.toml_edit_tree.specs.View.{value_view}
 use Rattle.toml_edit_tree.specs.declared.inline_table.InlineTable.{out-InlineTable}
 use Rattle.toml_edit_tree.specs.declared.item.Item.TheVariants as items
+use Rattle.toml_edit_tree.specs.Indexed.{shown_slots}
 use Rattle.toml_edit_tree.proofs.DespanLaws.{if_done}
 use Rattle.toml_edit_tree.proofs.RearrangeLaws.{inserted_slot-shown}
-use Rattle.toml_edit_tree.proofs.SlotsLaws.{length-shown, made_inline-shown, inline-shown, shown}
+use Rattle.toml_edit_tree.proofs.SlotsLaws.{length-shown, made_inline-shown, inline-shown}
 use Rattle.toml_edit_tree.proofs.TableEntryLaws.{place-shown}
 use Rattle.toml_edit_tree.proofs.ViewLaws.{view-Value}
 use Rattle.toml_edit_tree.proofs.inline_table.InlineTable.insert_at.Goals as goal
@@ -24,7 +25,7 @@ returns-clause-slots c =
     if_done c.insert_at.result c.insert_at.ensures.slots
     (λ e. made_inline-shown _ ∙ inserted_slot-shown c.args.at c.args.key (items.Value c.args.value) (out-InlineTable t).items
     c.insert_at.new.self e
-    ∙ ap (λ n. inserted_slot c.args.at (keyed c.args.key n) (shown (out-InlineTable t).items)) (view-Value c.args.value)
+    ∙ ap (λ n. inserted_slot c.args.at (keyed c.args.key n) (shown_slots (out-InlineTable t).items)) (view-Value c.args.value)
     ∙ ap (inserted_slot c.args.at (keyed c.args.key (value_view c.args.value))) (sym (inline-shown t)))
 
 pub returns-clause-refused : goal.returns-clause-refused

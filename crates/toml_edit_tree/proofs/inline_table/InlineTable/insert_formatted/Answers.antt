@@ -6,7 +6,8 @@ use Rattle.toml_edit_model.specs.Slots.{inserted_formatted}
 use Rattle.toml_edit_tree.specs.View.{item_view, value_view}
 use Rattle.toml_edit_tree.specs.declared.inline_table.InlineTable.{out-InlineTable}
 use Rattle.toml_edit_tree.specs.declared.item.Item.TheVariants as items
-use Rattle.toml_edit_tree.proofs.SlotsLaws.{inline-shown, inserted_formatted-shown, lookup-of, made_inline-shown, shown}
+use Rattle.toml_edit_tree.specs.Indexed.{shown_slots}
+use Rattle.toml_edit_tree.proofs.SlotsLaws.{inline-shown, inserted_formatted-shown, lookup-of, made_inline-shown}
 use Rattle.toml_edit_tree.proofs.ViewLaws.{view-Value}
 use Rattle.toml_edit_tree.proofs.inline_table.InlineTable.insert_formatted.Goals as goal
 
@@ -23,5 +24,5 @@ returns-in-Ok-clause-slots c =
     let es = (out-InlineTable t).items in
     made_inline-shown _ ∙ inserted_formatted-shown c.args.key.now (items.Value c.args.value) es c.insert_formatted.new.self
     c.in-Ok.ensures.slots
-    ∙ ap (λ n. inserted_formatted c.args.key.now n (shown es)) (view-Value c.args.value)
+    ∙ ap (λ n. inserted_formatted c.args.key.now n (shown_slots es)) (view-Value c.args.value)
     ∙ ap (inserted_formatted c.args.key.now (value_view c.args.value)) (sym (inline-shown t))

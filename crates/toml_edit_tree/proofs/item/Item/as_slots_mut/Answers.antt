@@ -3,13 +3,13 @@ use Rattle.std.proofs.Common.{◌≡◌, List, Option, None, Some, option_map, r
 use Rattle.std.specs.Borrow.{MutBor}
 use Rattle.std.specs.Prelude.{IfSome}
 use Rattle.toml_edit_slots.specs.declared.slots.Slot.{Slot}
-use Rattle.toml_edit_tree.specs.Indexed.{slots_held, with_slots}
+use Rattle.toml_edit_tree.specs.Indexed.{slots_held, with_slots, shown_slots}
 use Rattle.toml_edit_tree.specs.declared.item.Item.{Item}
 use Rattle.toml_edit_tree.proofs.SlotsInLaws.{held-seen, item-holds, own-item}
-use Rattle.toml_edit_tree.proofs.SlotsLaws.{shown}
 use Rattle.toml_edit_tree.proofs.item.Item.as_slots_mut.Goals as goal
 
-seen : (o : Option (MutBor (List (Slot Item)))) → option_map (λ es. shown es.now) o ≡ option_map shown (option_map (λ es. es.now) o)
+seen : (o : Option (MutBor (List (Slot Item)))) → option_map (λ es. shown_slots es.now) o
+    ≡ option_map shown_slots (option_map (λ es. es.now) o)
 seen None = refl
 seen (Some es) = refl
 
@@ -25,7 +25,7 @@ returns c =
       refl,
       record {
         writes_back = tt;
-        slots = seen r ∙ ap (option_map shown) c.own_slots_mut.ensures.slots ∙ held-seen x;
+        slots = seen r ∙ ap (option_map shown_slots) c.own_slots_mut.ensures.slots ∙ held-seen x;
         others = λ es. item-holds es x;
         own = own x r c.own_slots_mut.ensures.slots;
       },

@@ -3,8 +3,9 @@ use Rattle.std.proofs.Common.{sym, ◌∙◌}
 use Rattle.toml_edit_model.specs.Iterating.{filled}
 use Rattle.toml_edit_model.specs.Lists.{is_item}
 use Rattle.toml_edit_tree.specs.SlotsOf.{slots_of}
-use Rattle.toml_edit_tree.proofs.SlotsLaws.{has-lookup, is_item-not}
+use Rattle.toml_edit_tree.proofs.SlotsLaws.{has-lookup}
 use Rattle.toml_edit_tree.proofs.table.Table.contains_key.Goals as goal
+use Rattle.toml_edit_laws.proofs.slots.Those.{is_item-not}
 
 pub returns-in-Some : goal.returns-in-Some
 returns-in-Some c =

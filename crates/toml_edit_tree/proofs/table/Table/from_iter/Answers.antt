@@ -2,7 +2,7 @@
 use Rattle.std.proofs.Common.{[], sym, ap, ◌∙◌}
 use Rattle.toml_edit_laws.proofs.slots.Lists.{slots_from-list}
 use Rattle.toml_edit_model.specs.Lists.{slots_from}
-use Rattle.toml_edit_tree.specs.TableLending.{new_table}
+use Rattle.toml_edit_model.specs.Conversions.{new_table}
 use Rattle.toml_edit_tree.specs.View.{slots_view}
 use Rattle.toml_edit_tree.proofs.SlotsLaws.{extended-shown}
 use Rattle.toml_edit_tree.proofs.table.Table.from_iter.Goals as goal

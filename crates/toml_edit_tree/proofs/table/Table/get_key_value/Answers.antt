@@ -10,11 +10,13 @@ use Rattle.toml_edit_tree.specs.SlotsOf.{slot_read, slots_of}
 use Rattle.toml_edit_tree.specs.View.{item_view}
 use Rattle.toml_edit_tree.specs.declared.item.Item.{Item}
 use Rattle.toml_edit_tree.specs.declared.table.Table.{Table, out-Table}
-use Rattle.toml_edit_tree.proofs.SlotsLaws.{apart-shown, found-those, is_item-not, lookup_slot-of, passing, shown, table-shown}
+use Rattle.toml_edit_tree.specs.Indexed.{shown_slots}
+use Rattle.toml_edit_tree.proofs.SlotsLaws.{apart-shown, lookup_slot-of, table-shown}
 use Rattle.toml_edit_slots.specs.Seen.{seen}
 use Rattle.toml_edit_model.specs.Slots as model
 use Rattle.toml_edit_model.specs.Text.{Text}
 use Rattle.toml_edit_tree.proofs.table.Table.get_key_value.Goals as goal
+use Rattle.toml_edit_laws.proofs.slots.Those.{is_item-not, passing, found-those}
 
 -- by the slot of any kind
 found : (k : Text) (t : Table) (o : Option (Bor Key × Bor Item)) → model.AreApart (seen (out-Table t).slots) → option_map pair_read o
@@ -22,7 +24,7 @@ found : (k : Text) (t : Table) (o : Option (Bor Key × Bor Item)) → model.AreA
     → get_slot k (slots_of t) ≡ option_and_then (passing is_item k) (option_map slot_read o)
 found k t o apart is =
     ap (get_slot k) (table-shown t)
-    ∙ found-those is_item k (shown (out-Table t).slots) (apart-shown (out-Table t).slots apart)
+    ∙ found-those is_item k (shown_slots (out-Table t).slots) (apart-shown (out-Table t).slots apart)
     ∙ ap (option_and_then (passing is_item k)) (lookup_slot-of k (out-Table t).slots ∙ ap (option_map (on_item item_view)) (sym is)
     ∙ read o)
   where

@@ -10,9 +10,10 @@ use Rattle.toml_edit_tree.specs.View.{item_view}
 use Rattle.toml_edit_tree.specs.declared.table.Table.{out-Table}
 use Rattle.toml_edit_tree.proofs.HeldLaws.{item-at}
 use Rattle.toml_edit_tree.proofs.IndexedLaws.{get-found, held_in-full}
-use Rattle.toml_edit_tree.proofs.SlotsLaws.{is_item-not, table-shown}
+use Rattle.toml_edit_tree.proofs.SlotsLaws.{table-shown}
 use Rattle.toml_edit_tree.proofs.TableEntryLaws.{apart-first}
 use Rattle.toml_edit_tree.proofs.table.Table.held_place.Goals as goal
+use Rattle.toml_edit_laws.proofs.slots.Those.{is_item-not}
 
 pub returns-in_err-at-clause-held : goal.returns-in_err-at-clause-held
 returns-in_err-at-clause-held c =

@@ -11,12 +11,13 @@ use Rattle.toml_edit_tree.specs.SlotsOf.{slot_read, slots_of}
 use Rattle.toml_edit_tree.specs.View.{item_view}
 use Rattle.toml_edit_tree.specs.declared.item.Item.{Item}
 use Rattle.toml_edit_tree.specs.declared.table.Table.{Table, out-Table}
-use Rattle.toml_edit_tree.proofs.SlotsLaws.{apart-shown, has_slot-those, lookup_slot-of, shown, table-shown}
+use Rattle.toml_edit_tree.specs.Indexed.{shown_slots}
+use Rattle.toml_edit_tree.proofs.SlotsLaws.{apart-shown, has_slot-those, lookup_slot-of, table-shown}
 use Rattle.toml_edit_tree.proofs.table.Table.item_under.Goals as goal
 
 -- the slot that is found
 slot : (k : Text) (t : Table) (o : Option (Bor Key × Bor Item)) → option_map pair_read o ≡ lookup_slot k (seen (out-Table t).slots)
-    → lookup_slot k (shown (out-Table t).slots) ≡ option_map slot_read o
+    → lookup_slot k (shown_slots (out-Table t).slots) ≡ option_map slot_read o
 slot k t o is = lookup_slot-of k (out-Table t).slots ∙ ap (option_map (on_item item_view)) (sym is) ∙ read o
   where
     read : (o : Option (Bor Key × Bor Item)) → option_map (on_item item_view) (option_map pair_read o) ≡ option_map slot_read o
@@ -29,7 +30,7 @@ passes : (k : Text) (t : Table) (o : Option (Bor Key × Bor Item)) → model.Are
     ≡ option_map_or (λ (s : Slot Node). test s.item) (option_map slot_read o) false
 passes k t o apart is test =
     ap (λ l. has_slot k (those test l)) (table-shown t)
-    ∙ has_slot-those test k (shown (out-Table t).slots) (apart-shown (out-Table t).slots apart)
+    ∙ has_slot-those test k (shown_slots (out-Table t).slots) (apart-shown (out-Table t).slots apart)
     ∙ ap (λ p. option_map_or (λ (s : Slot Node). test s.item) p false) (slot k t o is)
 
 pub returns-in_err-item : goal.returns-in_err-item

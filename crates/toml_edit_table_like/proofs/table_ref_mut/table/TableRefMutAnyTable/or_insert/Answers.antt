@@ -24,7 +24,7 @@ returns-in-Ok c =
             ∙ ap (λ l. Some (unwrap_or (lookup c.args.key.now l) (item_view c.args.item))) seen),
         (
           λ w. mut_shows (mut_with (item_put k w (mut_entries r)) r) ∙ ap shown (mut_takes _ r) ∙ ap (λ l. shown (item_put k w l)) (sym is)
-              ∙ c.place_for.ensures.leaves w
+              ∙ c.find_or_add.ensures.leaves w
               ∙ ap (put (with_item_seen (item_view w)) (record { key = k; item = item_view w })) seen,
           (λ w. mut_keeps _ r, (λ _. refl, tt)),
         ),
@@ -43,7 +43,7 @@ returns-in-Err c =
         tt,
         (
           λ w. mut_shows (mut_with (item_put k w (mut_entries r)) r) ∙ ap shown (mut_takes _ r) ∙ ap (λ l. shown (item_put k w l)) (sym is)
-              ∙ c.place_for.ensures.leaves w
+              ∙ c.find_or_add.ensures.leaves w
               ∙ ap (put (with_item_seen (item_view w)) (record { key = k; item = item_view w })) seen,
           (λ w. mut_keeps _ r, (λ h. c.in-Err.ensures.present (ap (has_slot c.args.key.now) seen ∙ h), c.in-Err.ensures.back)),
         ),

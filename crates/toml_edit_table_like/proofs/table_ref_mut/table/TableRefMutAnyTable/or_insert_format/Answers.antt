@@ -23,7 +23,7 @@ returns-in-Ok c =
         item = same_Some _ _ (ap (option_map item_view) c.item_mut.ensures.item ∙ c.in-Ok.ensures.item
             ∙ ap (λ l. Some (unwrap_or (lookup c.args.key.now.name l) (item_view c.args.item))) seen);
         leaves = λ w. mut_shows (mut_with (item_put k w (mut_entries r)) r) ∙ ap shown (mut_takes _ r)
-            ∙ ap (λ l. shown (item_put k w l)) (sym is) ∙ c.place_for_key.ensures.leaves w
+            ∙ ap (λ l. shown (item_put k w l)) (sym is) ∙ c.find_or_add_key.ensures.leaves w
             ∙ ap (put (with_item_seen (item_view w)) (record { key = k; item = item_view w })) seen;
         keeps = λ w. mut_keeps _ r;
         present = λ _. refl;
@@ -43,7 +43,7 @@ returns-in-Err c =
         writes_back = tt;
         item = tt;
         leaves = λ w. mut_shows (mut_with (item_put k w (mut_entries r)) r) ∙ ap shown (mut_takes _ r)
-            ∙ ap (λ l. shown (item_put k w l)) (sym is) ∙ c.place_for_key.ensures.leaves w
+            ∙ ap (λ l. shown (item_put k w l)) (sym is) ∙ c.find_or_add_key.ensures.leaves w
             ∙ ap (put (with_item_seen (item_view w)) (record { key = k; item = item_view w })) seen;
         keeps = λ w. mut_keeps _ r;
         present = λ h. c.in-Err.ensures.present (ap (has_slot c.args.key.now.name) seen ∙ h);

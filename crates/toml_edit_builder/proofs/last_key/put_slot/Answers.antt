@@ -1,7 +1,0 @@
-use Rattle.std.proofs.Common.{ap, ◌∙◌}
-use Rattle.toml_edit_tree.specs.View.{slots_view}
-use Rattle.toml_edit_builder.proofs.SlotLaws.{replaced-view}
-use Rattle.toml_edit_builder.proofs.last_key.put_slot.Goals as goal
-
-pub returns : goal.returns
-returns c = ap slots_view c.replace-past.ensures.slots ∙ replaced-view (record { key = c.args.key; item = c.args.item }) c.args.slots.now

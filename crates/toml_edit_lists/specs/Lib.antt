@@ -1,3 +1,0 @@
--- Cited by public contracts.
-pub mod Elements
-pub mod Sorts

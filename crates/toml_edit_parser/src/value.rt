@@ -1,0 +1,64 @@
+//! Values, from their events.
+ghost use Rattle.std.specs.Prelude.{◌≡◌, ◌+◌, List, ℕ, length, IfOk};
+ghost use Rattle.toml_edit_model.specs.Text.{Text};
+ghost use Rattle.toml_edit_model.specs.Scalars.{Scalar};
+ghost use Rattle.toml_edit_model.specs.Spelling.{Spells};
+ghost use Rattle.toml_edit_model.specs.Syntax as syntax;
+ghost use Rattle.toml_edit_syntax.specs.Events.{IsSpanOf};
+ghost use Rattle.toml_edit_parser.specs.ScalarRead.{ReadsScalar};
+ghost use Rattle.toml_edit_parser.specs.ValueRead.{AreIn, ReadsValue, IfValueNext, LeavesBeside};
+ghost use Rattle.toml_edit_tree.specs.View.{value_view};
+ghost use Rattle.toml_edit_model.specs.OwnedForm.{NodeFits, cut_out};
+ghost use Rattle.toml_edit_parser.specs.Listed.{Refuses};
+
+use crate::array::read_array;
+use crate::events::split_first;
+use crate::fault::{Fault, malformed, refusal, refusal_with};
+use crate::inline_table::read_inline;
+use crate::reader::Reader;
+use toml_edit_error::ParseFault;
+use toml_edit_repr::Decor;
+use toml_edit_syntax::{Event, EventKind, Span, text_at};
+use toml_edit_token::{decode_scalar, range_message};
+use toml_edit_tree::Value;
+
+/// Reads the value at the front, with its decor unset. Returns it with the rest of the events.
+#[cycle(read)]
+pub(crate) fn read_value<'a>(
+    reader: &Reader<'_>,
+    events: &'a [Event],
+) -> Result<(Value, &'a [Event]), ParseFault>
+    requires { AreIn reader.now.source.now events.now }
+    ensures value { (v : syntax.Value) (start level : ℕ) (more : List Event)
+        → IfValueNext reader.now.source.now events.now v start level more
+        (ReadsValue reader.now.source.now v start level more result) }
+    ensures refused { Refuses reader.now.source.now result }
+    ensures fits { IfOk result (λ r. NodeFits reader.now.source.now (value_view r.0)) }
+    ensures rest { LeavesBeside reader.now.source.now events.now result }
+{
+    let Some((first, rest)) = split_first(events) else {
+        return Err(malformed(reader));
+    };
+    match first.kind {
+        EventKind::Scalar => Ok((read_scalar(reader, first.span)?, rest)),
+        EventKind::ArrayOpen => read_array(reader, first.span, rest),
+        EventKind::InlineTableOpen => read_inline(reader, first.span, rest),
+        _ => Err(refusal(reader, Fault::RecursionLimit, first.span)),
+    }
+}
+
+/// Reads the scalar that is spelled at the span.
+pub(crate) fn read_scalar(reader: &Reader<'_>, span: Span) -> Result<Value, ParseFault>
+    requires { IsSpanOf reader.now.source.now span }
+    ensures value { (s : Scalar) (t : Text) → cut_out reader.now.source.now span.start span.end ≡ t
+        → span.end ≡ span.start + length t
+        → Spells s t → ReadsScalar reader.now.source.now span.start s t result }
+    ensures refused { Refuses reader.now.source.now result }
+    ensures fits { IfOk result (λ v. NodeFits reader.now.source.now (value_view v)) }
+{
+    let text = text_at(reader.source, span);
+    match decode_scalar(reader.alloc, text)? {
+        Some(scalar) => Ok(Value::spanned(scalar, span.start, span.end, Decor::default())),
+        None => Err(refusal_with(reader, range_message(text), span)),
+    }
+}
