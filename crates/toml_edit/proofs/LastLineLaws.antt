@@ -1,9 +1,10 @@
 -- The newline of the last printed statement is that of the last line or header, as it is found.
-use Rattle.std.proofs.Common.{◌≡◌, refl, sym, ap, ◌∙◌, ℤ, pos, Bool, true, false, List, [], ◌∷◌, ◌++◌, Option, None, Some, inl, inr}
+use Rattle.std.proofs.Common.{◌≡◌, refl, sym, ap, ◌∙◌, ℕ, ℤ, pos, length, Bool, true, false, List, [], ◌∷◌, ◌++◌, Option, None, Some, inl, inr}
 use Rattle.std.specs.Prelude.{filter, map, ◌&&◌, if◌then◌else◌}
 use Rattle.std.specs.List.{AllByRecursion}
 use Rattle.std.proofs.lemmas.Bool.{cases_Bool}
-use Rattle.toml_edit_model.specs.Mode.{Mode}
+use Rattle.toml_edit_model.specs.Iterating.{line_value}
+use Rattle.toml_edit_model.specs.Mode.{Mode, exact, plain}
 use Rattle.toml_edit_model.specs.Text.{Text, is_empty}
 use Rattle.toml_edit_model.specs.Paths.{Path}
 use Rattle.toml_edit_model.specs.Syntax.{newline_after}
@@ -23,6 +24,7 @@ use Rattle.toml_edit_laws.proofs.print_by_visits.PrintParts.{has-header, headed-
 use Rattle.toml_edit_laws.proofs.print_by_visits.WalkOnce.{head_of, shown_heads, shows_header}
 use Rattle.toml_edit_laws.proofs.print_by_visits.PrintParts.{same-order}
 use Rattle.toml_edit_laws.proofs.print_by_visits.PairTexts.{last_shown-append}
+use Rattle.toml_edit_tree.specs.Visits.{VisitsInOrder, visits_none, visits_last, visits_next, shown_lines}
 use Rattle.toml_edit.specs.LastLines.{last_dotted, last_headed, last_line, last_of_root, last_statement, newline_of}
 
 -- ---- the newline of the last statement
@@ -44,6 +46,22 @@ last-behind t p (q ∷ ps) = last-behind (newline_after p.statement) q ps
 last-newline : (ps : List Printed) → last_newline (map (λ (p : Printed). p.statement) ps) ≡ newline_behind [] ps
 last-newline [] = refl
 last-newline (p ∷ ps) = last-behind [] p ps
+
+-- ---- the last of lines
+
+-- a walk that keeps the length of each line's newline ends with that of the last
+abbrev length_of : Option Decor → ℕ
+length_of o = length (newline_of exact o)
+
+abbrev Keeps : {V : Type 0} (kept : V → ℕ) → V → List Key × Node → Bool → V → Type 0
+Keeps kept u l more z = (more ≡ true) × (kept z ≡ length_of (Some (node_decor l.1)))
+
+last-kept : {V : Type 0} (kept : V → ℕ) (ls : List Line) (before : Option Decor) (v w : V) (goes : Bool)
+    → kept v ≡ length_of before → VisitsInOrder (Keeps kept) (map line_value ls) v goes w
+    → kept w ≡ length_of (last_shown before ls)
+last-kept kept [] before v w goes is visits_none = is
+last-kept kept (l ∷ ls) before v w goes is (visits_last p) = let e = p.0 in absurd cc
+last-kept kept (l ∷ ls) before v w goes is (visits_next u p r) = last-kept kept ls (Some (node_decor l.item)) u w goes p.1 r
 
 -- ---- tables below the root
 
@@ -172,3 +190,11 @@ module _ (mode : Mode) where
       ∙ root-behind t.root t.slots (place_of (pos 0) (visit_of [] [] false t.root t.slots)) t.root.is_dotted
       ∙ ap (λ (heads : List Headed). newline_of mode (last_headed (sorted_by by_place heads) (last_of_root t.root t.slots)))
       (sym (headed-are t.root t.slots))
+
+-- ---- a walk
+
+pub walk-last : {V : Type 0} (kept : V → ℕ) (ss : Slots) (before : Option Decor) (v w : V) (goes : Bool) → kept v ≡ length_of before
+    → VisitsInOrder (λ (u : V) (l : List Key × Node) (more : Bool) (z : V). (more ≡ true) × (kept z ≡ length_of (Some (node_decor l.1)))) (shown_lines false ss []) v goes w
+    → kept w ≡ length_of (last_line ss before)
+walk-last kept ss before v w goes is h =
+    last-kept kept (table_lines plain ss []) before v w goes is h ∙ ap length_of (lines-last plain ss [] before)

@@ -26,15 +26,6 @@ abbrev mutual
   last_dotted (tables e xs) before = before
   last_dotted nothing before = before
 
--- the last line of an item of a table, and of an item of a dotted inline table
-abbrev pub last_of : Node → Option Decor → Option Decor
-last_of n before =
-    elim (is_line_node n) [ true ↦ Some (node_decor n) | false ↦ last_dotted n before ]
-
-abbrev pub last_inside : Node → Option Decor → Option Decor
-last_inside n before =
-    elim (is_line_node n) [ true ↦ Some (node_decor n) | false ↦ last_pair_in n before ]
-
 -- the last line of a root; a dotted root has none
 abbrev pub last_of_root : TableFields → Slots → Option Decor
 last_of_root f ss = if f.is_dotted then None else last_line ss None

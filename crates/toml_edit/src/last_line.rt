@@ -1,113 +1,100 @@
-//! The last of the statements that are printed of a document.
-ghost use Rattle.std.specs.Prelude.{◌≡◌, [], map};
+//! The newline of the last of the statements that are printed of a document.
+ghost use Rattle.std.specs.Prelude.{◌≡◌, [], Option, Some, length, map};
 ghost use Rattle.std.specs.Option.{option_copied};
-ghost use Rattle.toml_edit_laws.specs.PrintByVisits.{last_pair};
-ghost use Rattle.toml_edit_tree.specs.View.{fields_view, item_view, slots_view, table_slots, value_view};
+ghost use Rattle.toml_edit_model.specs.Mode.{ends_in_return, exact};
+ghost use Rattle.toml_edit_model.specs.Tree.{Decor as DecorView, shown_raw, shown_side};
+ghost use Rattle.toml_edit_tree.specs.View.{fields_view, table_slots};
 ghost use Rattle.toml_edit.specs.HeadersView.{header_view};
-ghost use Rattle.toml_edit.specs.LastLines.{last_headed, last_inside, last_line, last_of, last_of_root};
+ghost use Rattle.toml_edit.specs.LastLines.{last_headed, last_line, last_of_root, newline_of};
 
 use crate::headers::Header;
-use toml_edit_repr::Decor;
-use toml_edit_slots::Slots;
-use toml_edit_tree::{Item, Table, Value};
+use toml_edit_key::Key;
+use toml_edit_repr::{Decor, RawString};
+use toml_edit_tree::{LineVisitor, Path, Table, Value, visit_lines};
 
-/// Returns the decor of the last statement of a document: of the value of a line, or of the table
-/// of a header. `headers` are in the order in which they are printed.
-pub(crate) fn last_decor<'a>(root: &'a Table, headers: &[Header<'_, 'a>]) -> Option<&'a Decor>
-    ensures { option_copied result
-        ≡ last_headed (map header_view headers.now)
-        (last_of_root (fields_view root.now) (table_slots root.now)) }
+/// Returns the length in bytes of the newline of a document's last statement, or 0 if it has no
+/// statement. `headers` are in the order in which they are printed.
+pub(crate) fn last_newline_length(root: &Table, headers: &[Header<'_, '_>]) -> usize
+    ensures { result ≡ length (newline_of exact (last_headed (map header_view headers.now)
+        (last_of_root (fields_view root.now) (table_slots root.now)))) }
 {
     match headers.last() {
-        Some(header) => last_of_slots(&header.table.slots, Some(header.table.decor())),
-        None => last_in_root(root),
+        Some(header) => length_in_table(header.table, newline_length(header.table.decor())),
+        None => length_in_root(root),
     }
 }
 
-/// Returns the decor of the last line of the root. A dotted root has none.
-fn last_in_root(root: &Table) -> Option<&Decor>
-    ensures { option_copied result ≡ last_of_root (fields_view root.now) (table_slots root.now) }
+/// Returns the length of the newline of the root's last line. A dotted root has none.
+fn length_in_root(root: &Table) -> usize
+    ensures { result ≡ length (newline_of exact
+        (last_of_root (fields_view root.now) (table_slots root.now))) }
 {
     if root.is_dotted() {
-        None
+        0
     } else {
-        last_of_slots(&root.slots, None)
+        length_in_table(root, 0)
     }
 }
 
-/// Returns the decor of the last line of a table of these slots, or `before` if it has no lines.
-#[cycle(last_line)]
-fn last_of_slots<'a>(slots: &'a Slots<Item>, before: Option<&'a Decor>) -> Option<&'a Decor>
-    ensures { option_copied result ≡ last_line (slots_view slots.now) (option_copied before.entry) }
+/// Returns the length of the newline of the table's last line, or `before` if it has no lines.
+fn length_in_table(table: &Table, before: usize) -> usize
+    ensures { (decor : Option DecorView) → before ≡ length (newline_of exact decor)
+        → result ≡ length (newline_of exact (last_line (table_slots table.now) decor)) }
 {
-    let mut last = before;
-    let entries = slots.as_slice();
-    'slots: for slot in entries {
-        last = last_of_item(&slot.item, last);
-    }
-    last
+    let mut last = LastNewline { length: before };
+    visit_lines(&mut last, table);
+    last.length
 }
 
-/// Returns the decor of the last line of an item of a table, or `before` if it has no lines.
-#[cycle(last_line)]
-fn last_of_item<'a>(item: &'a Item, before: Option<&'a Decor>) -> Option<&'a Decor>
-    ensures { option_copied result ≡ last_of (item_view item.now) (option_copied before.entry) }
-{
-    match item {
-        Item::Value(value) => last_of_value(value, before),
-        Item::Table(table) => {
-            if table.is_dotted() {
-                last_of_slots(&table.slots, before)
-            } else {
-                before
-            }
-        }
-        Item::None | Item::ArrayOfTables(_) => before,
-    }
+/// Keeps the length of the newline of the line that it visited last.
+#[derive(Drop)]
+struct LastNewline {
+    length: usize,
 }
 
-/// Returns the decor of the last line of a dotted inline table of these slots, or `before` if it
-/// has no lines.
-#[cycle(last_pair)]
-fn last_of_pairs<'a>(slots: &'a Slots<Item>, before: Option<&'a Decor>) -> Option<&'a Decor>
-    ensures { option_copied result ≡ last_pair (slots_view slots.now) (option_copied before.entry) }
-{
-    let mut last = before;
-    let entries = slots.as_slice();
-    'slots: for slot in entries {
-        last = last_of_pair(&slot.item, last);
-    }
-    last
-}
+impl LineVisitor for LastNewline {
+    ghost use Rattle.std.specs.Prelude.{◌≡◌, Some, length, true};
+    ghost use Rattle.toml_edit_model.specs.Mode.{exact};
+    ghost use Rattle.toml_edit_model.specs.Tree.{node_decor};
+    ghost use Rattle.toml_edit.specs.LastLines.{newline_of};
 
-/// Returns the decor of the last line of an item of a dotted inline table, or `before` if it has no
-/// lines.
-#[cycle(last_pair)]
-fn last_of_pair<'a>(item: &'a Item, before: Option<&'a Decor>) -> Option<&'a Decor>
-    ensures { option_copied result ≡ last_inside (item_view item.now) (option_copied before.entry) }
-{
-    match item {
-        Item::Value(value) => last_of_value(value, before),
-        Item::Table(table) => last_of_pairs(&table.slots, before),
-        Item::None | Item::ArrayOfTables(_) => before,
+    ghost visits = { λ _ line goes after. (goes ≡ true)
+        × (after.length ≡ length (newline_of exact (Some (node_decor line.1)))) };
+
+    fn visit(&mut self, _path: &Path<'_, '_>, _key: &Key, value: &Value) -> bool {
+        self.length = newline_length(value.decor());
+        true
     }
 }
 
-/// Returns the decor of the last line of a value, or `before` if it is a dotted inline table
-/// without lines.
-#[cycle(last_pair)]
-fn last_of_value<'a>(value: &'a Value, before: Option<&'a Decor>) -> Option<&'a Decor>
-    ensures { option_copied result
-        ≡ last_inside (value_view value.now) (option_copied before.entry) }
+/// Returns the length in bytes of the newline after a statement of this decor: the line feed (LF),
+/// and the carriage return (CR) before it if the suffix ends in one.
+fn newline_length(decor: &Decor) -> usize
+    ensures { result ≡ length (newline_of exact (Some decor.now)) }
 {
-    match value {
-        Value::InlineTable(table) => {
-            if table.is_dotted() {
-                last_of_pairs(&table.items, before)
-            } else {
-                Some(value.decor())
-            }
-        }
-        _ => Some(value.decor()),
+    if ends_in_carriage_return(decor.suffix()) {
+        2
+    } else {
+        1
+    }
+}
+
+/// Returns `true` if the side of a decor ends in a carriage return in exact mode.
+fn ends_in_carriage_return(side: Option<&RawString>) -> bool
+    ensures { result ≡ ends_in_return (shown_side exact [] (option_copied side.entry)) }
+{
+    match side {
+        Some(raw) => raw_ends_in_carriage_return(raw),
+        None => false,
+    }
+}
+
+/// Returns `true` if the text ends in a carriage return. A span has no text here.
+fn raw_ends_in_carriage_return(raw: &RawString) -> bool
+    ensures { result ≡ ends_in_return (shown_raw exact raw.now) }
+{
+    match raw.as_str() {
+        Some(text) => text.ends_with('\r'),
+        None => false,
     }
 }

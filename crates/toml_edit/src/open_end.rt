@@ -1,10 +1,10 @@
 //! The text of a document. If its end is open, the last statement has no newline.
 #![tactic(auto, using(toml_edit_io::proofs::Puts::put_steps))]
 
-ghost use Rattle.std.specs.Prelude.{◌≡◌, [], IfOk, length, map};
+ghost use Rattle.std.specs.Prelude.{◌≡◌, [], IfOk, map};
 ghost use Rattle.std.specs.Fmt.{WritesInCalls};
 ghost use Rattle.std.specs.Option.{option_copied};
-ghost use Rattle.toml_edit_model.specs.Mode.{ends_in_return, exact};
+ghost use Rattle.toml_edit_model.specs.Mode.{exact};
 ghost use Rattle.toml_edit_model.specs.Text.{is_empty};
 ghost use Rattle.toml_edit_model.specs.Tree.{shown_raw, shown_side};
 ghost use Rattle.toml_edit_model.specs.Print.{leaves_open, print_in};
@@ -12,16 +12,15 @@ ghost use Rattle.toml_edit_repr.specs.Modes.{mode_of};
 ghost use Rattle.toml_edit_tree.specs.View.{fields_view, table_slots, tree_view};
 ghost use Rattle.toml_edit_tree.specs.Printing.{keys_on};
 ghost use Rattle.toml_edit.specs.HeadersView.{header_view};
-ghost use Rattle.toml_edit.specs.LastLines.{newline_of};
 ghost use Rattle.toml_edit.specs.Ordered.{ArePrintedInOrder, EndInOrder};
 
 use crate::encode::put_document;
 use crate::headers::{Header, headers_in_order};
-use crate::last_line::last_decor;
+use crate::last_line::last_newline_length;
 use crate::tail::put_but_newline;
 use bumpalo::Bump;
 use toml_edit_io::{Printed, Sink};
-use toml_edit_repr::{Decor, Mem, Mode, RawString};
+use toml_edit_repr::{Mem, Mode, RawString};
 use toml_edit_tree::{Path, Table};
 
 /// A document with its headers in the order of the print.
@@ -91,8 +90,8 @@ impl Printed for Laid<'_> {
 
     fn put_into<S: Sink>(&self, out: &mut S) {
         if is_left_open(self.mode, self.open_end, self.root, self.trailing) {
-            let last = last_decor(self.root, self.headers.as_slice());
-            put_but_newline(out, &Closed { laid: self }, newline_length(last))
+            let length = last_newline_length(self.root, self.headers.as_slice());
+            put_but_newline(out, &Closed { laid: self }, length)
         } else {
             self.put_closed(out)
         }
@@ -143,42 +142,5 @@ fn raw_shows_nothing(raw: &RawString) -> bool
     match raw.as_str() {
         Some(text) => text.is_empty(),
         None => true,
-    }
-}
-
-/// Returns the length in bytes of the newline after a statement of this decor, or 0 without one:
-/// the line feed (LF), and the carriage return (CR) before it if the suffix ends in one.
-fn newline_length(decor: Option<&Decor>) -> usize
-    ensures { result ≡ length (newline_of exact (option_copied decor.entry)) }
-{
-    match decor {
-        Some(decor) => {
-            if ends_in_carriage_return(decor.suffix()) {
-                2
-            } else {
-                1
-            }
-        }
-        None => 0,
-    }
-}
-
-/// Returns `true` if the side of a decor ends in a carriage return in exact mode.
-fn ends_in_carriage_return(side: Option<&RawString>) -> bool
-    ensures { result ≡ ends_in_return (shown_side exact [] (option_copied side.entry)) }
-{
-    match side {
-        Some(raw) => raw_ends_in_carriage_return(raw),
-        None => false,
-    }
-}
-
-/// Returns `true` if the text ends in a carriage return. A span has no text here.
-fn raw_ends_in_carriage_return(raw: &RawString) -> bool
-    ensures { result ≡ ends_in_return (shown_raw exact raw.now) }
-{
-    match raw.as_str() {
-        Some(text) => text.ends_with('\r'),
-        None => false,
     }
 }

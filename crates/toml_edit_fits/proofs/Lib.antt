@@ -9,5 +9,6 @@ pub mod ApartLaws
 pub mod MadeLaws
 pub mod MisfitLaws
 pub mod FirstLaws
+pub mod LinePlaceLaws
 pub mod EarlyLaws
 pub mod BrokenLaws

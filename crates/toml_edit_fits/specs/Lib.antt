@@ -5,5 +5,6 @@ pub mod BrokenRules
 -- Cited inside this crate alone.
 pub mod TriviaTests
 pub mod FitTests
+pub mod LinePlaces
 pub mod OrderTests
 pub mod EarlyTests

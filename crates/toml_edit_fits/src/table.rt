@@ -11,7 +11,7 @@ use crate::misfit::FitRule;
 use crate::report::Report;
 use crate::route::{Route, key_fits, no_keys, path_rule, then_key};
 use crate::trivia::{ends_line, has_newline, is_final, is_white, is_whole};
-use crate::value::lines_fit;
+use crate::value::{Place, lines_fit};
 use toml_edit_key::Key;
 use toml_edit_repr::{Decor, Mode, RawString};
 use toml_edit_slots::Slots;
@@ -64,7 +64,8 @@ fn table_fits<R: Report>(
         return report.check(!is_element, FitRule::Dotted);
     }
     let suits = !has_header(is_element, table) || header_fits(mode, route, key, table.decor());
-    report.check(suits, path_rule(route)) && lines_fit(report, mode, no_keys(), &table.slots)
+    report.check(suits, path_rule(route))
+        && lines_fit(report, mode, Place::Table, no_keys(), &table.slots)
 }
 
 /// Returns `true` if the tables below these slots fit.
@@ -175,5 +176,5 @@ pub(crate) fn root_fits<R: Report>(
         && is_final(mode, Some(trailing));
     report.check(!root.is_dotted(), FitRule::Dotted)
         && report.check(suits, FitRule::Decor)
-        && lines_fit(report, mode, no_keys(), &root.slots)
+        && lines_fit(report, mode, Place::Table, no_keys(), &root.slots)
 }

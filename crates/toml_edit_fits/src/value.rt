@@ -1,11 +1,11 @@
 //! Checking values and lines.
-ghost use Rattle.std.specs.Prelude.{true, false};
-ghost use Rattle.toml_edit_model.specs.Syntax.{nesting_limit};
+ghost use Rattle.std.specs.Prelude.{◌≡◌, true, false};
 ghost use Rattle.toml_edit_repr.specs.Modes.{mode_of};
-ghost use Rattle.toml_edit_tree.specs.View.{item_view, items_view, slots_view, value_view};
+ghost use Rattle.toml_edit_tree.specs.View.{fields_view, item_view, items_view, slots_view, value_view};
 ghost use Rattle.toml_edit_fits.specs.FitTests as tests;
 ghost use Rattle.toml_edit_fits.specs.MisfitViews.{Reports};
 ghost use Rattle.toml_edit_fits.specs.Misfits as spec;
+ghost use Rattle.toml_edit_fits.specs.LinePlaces.{enters, place_misfits, room_of, slot_misfits};
 
 use crate::misfit::FitRule;
 use crate::report::Report;
@@ -15,7 +15,35 @@ use toml_edit_key::Key;
 use toml_edit_repr::Mode;
 use toml_edit_slots::Slots;
 use toml_edit_syntax::NESTING_LIMIT;
-use toml_edit_tree::{Item, Value};
+use toml_edit_tree::{Item, Table, Value};
+
+/// Where lines or pairs are: in a table, or in an inline table in which so many more brackets may be
+/// opened.
+#[derive(Clone, Copy)]
+pub(crate) enum Place {
+    Table,
+    Braces(usize),
+}
+
+/// Returns how many brackets the values there may open.
+fn room_in(place: Place) -> usize
+    ensures { result ≡ room_of place }
+{
+    match place {
+        Place::Table => NESTING_LIMIT,
+        Place::Braces(room) => room,
+    }
+}
+
+/// Returns `true` if the table has its lines or pairs there.
+fn is_entered(place: Place, table: &Table) -> bool
+    ensures { result ≡ enters place (fields_view table.now) }
+{
+    match place {
+        Place::Table => table.is_dotted(),
+        Place::Braces(_) => true,
+    }
+}
 
 /// Returns `true` if the decors inside a value suit their places, no more than so many brackets
 /// open in it, and its paths have few enough keys.
@@ -33,7 +61,13 @@ fn value_fits<R: Report>(report: &mut R, mode: Mode, room: usize, value: &Value)
         Value::InlineTable(table) => {
             report.check(room > 0, FitRule::Limits)
                 && report.check(is_whole(mode, Some(table.trailing())), FitRule::Decor)
-                && inside_fits(report, mode, room - 1, no_keys(), &table.items)
+                && lines_fit(
+                    report,
+                    mode,
+                    Place::Braces(room - 1),
+                    no_keys(),
+                    &table.items,
+                )
         }
         Value::String(_)
         | Value::Integer(_)
@@ -74,21 +108,22 @@ fn item_fits<R: Report>(report: &mut R, mode: Mode, room: usize, item: &Item) ->
     }
 }
 
-/// Returns `true` if the pairs in an inline table fit, with the keys before them.
+/// Returns `true` if the lines of a table or the pairs in an inline table fit, with the keys before
+/// them.
 #[cycle(value)]
-fn inside_fits<R: Report>(
+pub(crate) fn lines_fit<R: Report>(
     report: &mut R,
     mode: Mode,
-    room: usize,
+    place: Place,
     route: Route,
     slots: &Slots<Item>,
 ) -> bool
-    ensures { Reports R.tells (spec.inside_misfits (mode_of mode) room route
-        (slots_view slots.now)) true false result report.new }
+    ensures { Reports R.tells (place_misfits (mode_of mode) place route (slots_view slots.now))
+        true false result report.new }
 {
     let entries = slots.as_slice();
     'slots: for slot in entries {
-        if !pair_slot_fits(report, mode, room, route, &slot.key, &slot.item) {
+        if !slot_fits(report, mode, place, route, &slot.key, &slot.item) {
             report.report_key(&slot.key);
             return false;
         }
@@ -96,25 +131,35 @@ fn inside_fits<R: Report>(
     true
 }
 
-/// Returns `true` if a slot of an inline table fits: its pair, or the pairs in a table.
+/// Returns `true` if a slot fits: its line or pair, or those in its table.
+///
+/// In a table, one that isn't dotted has a header, and is looked at with that.
 #[cycle(value)]
-fn pair_slot_fits<R: Report>(
+fn slot_fits<R: Report>(
     report: &mut R,
     mode: Mode,
-    room: usize,
+    place: Place,
     route: Route,
     key: &Key,
     item: &Item,
 ) -> bool
-    ensures { Reports R.tells (spec.pair_misfits (mode_of mode) room route key.now
-        (item_view item.now) (spec.value_misfits (mode_of mode) room (item_view item.now))
-        (spec.within_misfits (mode_of mode) room (tests.then_key (mode_of mode) route key.now)
-        (item_view item.now))) true false result report.new }
+    ensures { Reports R.tells (slot_misfits (mode_of mode) place route key.now (item_view item.now))
+        true false result report.new }
 {
     match item {
-        Item::Value(value) => pair_value_fits(report, mode, room, route, key, value),
+        Item::Value(value) => pair_value_fits(report, mode, room_in(place), route, key, value),
         Item::Table(table) => {
-            inside_fits(report, mode, room, then_key(mode, route, key), &table.slots)
+            if is_entered(place, table) {
+                lines_fit(
+                    report,
+                    mode,
+                    place,
+                    then_key(mode, route, key),
+                    &table.slots,
+                )
+            } else {
+                true
+            }
         }
         Item::None | Item::ArrayOfTables(_) => true,
     }
@@ -137,49 +182,17 @@ fn pair_value_fits<R: Report>(
 {
     if let Value::InlineTable(table) = value {
         if table.is_dotted() {
-            return inside_fits(report, mode, room, then_key(mode, route, key), &table.items);
+            return lines_fit(
+                report,
+                mode,
+                Place::Braces(room),
+                then_key(mode, route, key),
+                &table.items,
+            );
         }
     }
     report.check(
         pair_fits(mode, room, route, key, value.decor()),
         path_rule(route),
     ) && value_fits(report, mode, room, value)
-}
-
-/// Returns `true` if the lines of a table fit, with the keys before them.
-#[cycle(lines)]
-pub(crate) fn lines_fit<R: Report>(
-    report: &mut R,
-    mode: Mode,
-    route: Route,
-    slots: &Slots<Item>,
-) -> bool
-    ensures { Reports R.tells (spec.lines_misfits (mode_of mode) route (slots_view slots.now))
-        true false result report.new }
-{
-    let entries = slots.as_slice();
-    'slots: for slot in entries {
-        if !slot_fits(report, mode, route, &slot.key, &slot.item) {
-            report.report_key(&slot.key);
-            return false;
-        }
-    }
-    true
-}
-
-/// Returns `true` if the lines of a slot of a table fit: of a value, or of a dotted table.
-#[cycle(lines)]
-fn slot_fits<R: Report>(report: &mut R, mode: Mode, route: Route, key: &Key, item: &Item) -> bool
-    ensures { Reports R.tells (spec.pair_misfits (mode_of mode) nesting_limit route key.now
-        (item_view item.now) (spec.value_misfits (mode_of mode) nesting_limit (item_view item.now))
-        (spec.dotted_misfits (mode_of mode) (tests.then_key (mode_of mode) route key.now)
-        (item_view item.now))) true false result report.new }
-{
-    match item {
-        Item::Value(value) => pair_value_fits(report, mode, NESTING_LIMIT, route, key, value),
-        Item::Table(table) => {
-            !table.is_dotted() || lines_fit(report, mode, then_key(mode, route, key), &table.slots)
-        }
-        Item::None | Item::ArrayOfTables(_) => true,
-    }
 }

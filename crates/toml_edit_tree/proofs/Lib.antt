@@ -13,6 +13,7 @@ pub mod InlineSortLaws
 pub mod InPlace
 pub mod ValueLines
 pub mod LineValueLaws
+pub mod VisitLaws
 pub mod ElementLaws
 pub mod ArrayLineLaws
 pub mod RetainLaws

@@ -21,6 +21,7 @@ pub mod InlineParts
 pub mod InlineValues
 pub mod InlineLending
 pub mod LineValues
+pub mod Visits
 pub mod TableEntries
 pub mod InlineEntries
 pub mod InlineSlotParts

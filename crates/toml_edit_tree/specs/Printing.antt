@@ -6,7 +6,6 @@ use Rattle.toml_edit_model.specs.Mode.{Mode}
 use Rattle.toml_edit_model.specs.Tree.{Key, Node}
 use Rattle.toml_edit_model.specs.Print.{Line, is_line_node, dotted_lines}
 use Rattle.toml_edit_model.specs.Print.{line_of, lines_inside, value_of}
-use Rattle.toml_edit_laws.specs.PrintByVisits.{has_dotted_lines, has_inside_of}
 use Rattle.toml_edit_tree.specs.declared.encode.Path as paths
 
 -- the keys from the outermost in
@@ -14,12 +13,6 @@ abbrev pub keys_on : paths.Path → List Key
 keys_on paths.Root = []
 keys_on (paths.Under' p up key) = keys_on up ++ (key.now ∷ [])
 
--- whether an item has lines in a dotted inline table, and in a table
-abbrev pub has_lines_inside : Node → Bool
-has_lines_inside n = elim (is_line_node n) [ true ↦ true | false ↦ has_inside_of n ]
-
-abbrev pub has_lines_in_table : Node → Bool
-has_lines_in_table n = elim (is_line_node n) [ true ↦ true | false ↦ has_dotted_lines n ]
 
 -- ---- in a mode
 

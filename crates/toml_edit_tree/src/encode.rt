@@ -13,9 +13,9 @@ ghost use Rattle.toml_edit_model.specs.Text.{newline};
 ghost use Rattle.toml_edit_model.specs.Tree.{key_text, node_decor, shown_suffix};
 ghost use Rattle.toml_edit_model.specs.Conversions.{value_display};
 ghost use Rattle.toml_edit_model.specs.Print.{one_space, element_default, inside_lines, segments, table_lines};
-ghost use Rattle.toml_edit_laws.specs.PrintByVisits.{has_inside, has_lines, comma_before, last_shown, before_key, dotted_keys, key_part, pair_start, element_text, between_pairs, after_pairs, pairs_shown, lines_text, written_items};
+ghost use Rattle.toml_edit_laws.specs.PrintByVisits.{has_lines, comma_before, last_shown, before_key, dotted_keys, key_part, pair_start, element_text, between_pairs, after_pairs, pairs_shown, lines_text, written_items};
 ghost use Rattle.toml_edit_repr.specs.Modes.{mode_of};
-ghost use Rattle.toml_edit_tree.specs.Printing.{node_text, keys_on, lines_of_item, lines_in_table, has_lines_inside, has_lines_in_table};
+ghost use Rattle.toml_edit_tree.specs.Printing.{node_text, keys_on, lines_of_item, lines_in_table};
 ghost use Rattle.toml_edit_tree.specs.Containers.{array_node, inline_node};
 ghost use Rattle.toml_edit_tree.specs.View.{array_view, inline_view, value_view, item_view, items_view, slots_view, table_slots, fields_view};
 
@@ -24,6 +24,7 @@ use crate::inline_table::InlineTable;
 use crate::item::Item;
 use crate::table::Table;
 use crate::value::Value;
+use crate::visit::{LineVisitor, visit_lines};
 use toml_edit_io::{Printed, Sink};
 use toml_edit_key::Key;
 use toml_edit_repr::{Decor, Mode, put_last_comma, put_raw, put_scalar, put_side};
@@ -52,118 +53,26 @@ pub fn put_table_lines<S: Sink>(out: &mut S, mode: Mode, table: &Table)
         (lines_text (mode_of mode) (table_lines (mode_of mode) (table_slots table.now) []))
         out.new }
 {
-    put_lines(out, mode, &table.slots, &Path::Root)
+    visit_lines(&mut PutLines { out, mode }, table);
 }
 
-/// Puts the lines of the slots of a table, in order. Their keys begin with those of `path`.
-#[cycle(lines)]
-fn put_lines<'p, 'a, S: Sink>(
-    out: &mut S,
+/// Puts each line that it visits.
+#[derive(Drop)]
+struct PutLines<'s, S> {
+    out: &'s mut S,
     mode: Mode,
-    slots: &'a Slots<Item>,
-    path: &'p Path<'p, 'a>,
-)
-    ensures { WritesInCalls S.puts out.old
-        (lines_text (mode_of mode)
-        (table_lines (mode_of mode) (slots_view slots.now) (keys_on path.now))) out.new }
-{
-    let entries = slots.as_slice();
-    'slots: for slot in entries {
-        put_item_lines(out, mode, &slot.item, &slot.key, path);
-    }
 }
 
-/// Puts the lines of one slot of a table: those of a value, or those in a dotted table.
-///
-/// The lines of any other table are put after its header.
-#[cycle(lines)]
-#[inline(always)]
-fn put_item_lines<'p, 'a, S: Sink>(
-    out: &mut S,
-    mode: Mode,
-    item: &'a Item,
-    key: &'a Key,
-    path: &'p Path<'p, 'a>,
-)
-    ensures { WritesInCalls S.puts out.old
-        (lines_text (mode_of mode)
-        (lines_in_table (mode_of mode) (item_view item.now)
-        (keys_on path.now ++ (key.now ∷ [])))) out.new }
-{
-    match item {
-        Item::Value(value) => put_value_lines(out, mode, value, key, path),
-        Item::Table(table) => {
-            if table.dotted {
-                put_lines(out, mode, &table.slots, &Path::Under(path, key))
-            }
-        }
-        Item::None | Item::ArrayOfTables(_) => {}
-    }
-}
+impl<S: Sink> LineVisitor for PutLines<'_, S> {
+    ghost use Rattle.toml_edit_tree.specs.Visits.{PutsLine};
 
-/// Puts the lines of the slots of a dotted inline table, in order.
-#[cycle(inside_lines)]
-fn put_inside_lines<'p, 'a, S: Sink>(
-    out: &mut S,
-    mode: Mode,
-    slots: &'a Slots<Item>,
-    path: &'p Path<'p, 'a>,
-)
-    ensures { WritesInCalls S.puts out.old
-        (lines_text (mode_of mode)
-        (inside_lines (mode_of mode) (slots_view slots.now) (keys_on path.now))) out.new }
-{
-    let entries = slots.as_slice();
-    'slots: for slot in entries {
-        put_inside_item(out, mode, &slot.item, &slot.key, path);
-    }
-}
+    ghost visits = { λ before line goes after. PutsLine S.puts (mode_of before.mode) before.out line
+        goes (mode_of after.mode) after.out };
 
-/// Puts the lines of one slot of a dotted inline table: those of a value, or those in any table.
-#[cycle(inside_lines)]
-fn put_inside_item<'p, 'a, S: Sink>(
-    out: &mut S,
-    mode: Mode,
-    item: &'a Item,
-    key: &'a Key,
-    path: &'p Path<'p, 'a>,
-)
-    ensures { WritesInCalls S.puts out.old
-        (lines_text (mode_of mode)
-        (lines_of_item (mode_of mode) (item_view item.now)
-        (keys_on path.now ++ (key.now ∷ [])))) out.new }
-{
-    match item {
-        Item::Value(value) => put_value_lines(out, mode, value, key, path),
-        Item::Table(table) => put_inside_lines(out, mode, &table.slots, &Path::Under(path, key)),
-        Item::None | Item::ArrayOfTables(_) => {}
-    }
-}
-
-/// Puts the lines of a value: those in a dotted inline table, or the one of any other value.
-#[cycle(inside_lines)]
-#[inline(always)]
-fn put_value_lines<'p, 'a, S: Sink>(
-    out: &mut S,
-    mode: Mode,
-    value: &'a Value,
-    key: &'a Key,
-    path: &'p Path<'p, 'a>,
-)
-    ensures { WritesInCalls S.puts out.old
-        (lines_text (mode_of mode)
-        (lines_of_item (mode_of mode) (value_view value.now)
-        (keys_on path.now ++ (key.now ∷ [])))) out.new }
-{
-    match value {
-        Value::InlineTable(table) => {
-            if table.dotted {
-                put_inside_lines(out, mode, &table.items, &Path::Under(path, key))
-            } else {
-                put_line(out, mode, path, key, value)
-            }
-        }
-        _ => put_line(out, mode, path, key, value),
+    #[inline(always)]
+    fn visit(&mut self, path: &Path<'_, '_>, key: &Key, value: &Value) -> bool {
+        put_line(self.out, self.mode, path, key, value);
+        true
     }
 }
 
@@ -172,70 +81,21 @@ fn put_value_lines<'p, 'a, S: Sink>(
 pub fn table_has_lines(table: &Table) -> bool
     ensures { result ≡ has_lines (table_slots table.now) }
 {
-    have_lines(&table.slots)
+    !visit_lines(&mut FirstLine, table)
 }
 
-/// Returns `true` if a table of these slots has lines.
-#[cycle(has_lines)]
-fn have_lines(slots: &Slots<Item>) -> bool
-    ensures { result ≡ has_lines (slots_view slots.now) }
-{
-    let entries = slots.as_slice();
-    'slots: for slot in entries {
-        if item_has_lines(&slot.item) {
-            return true;
-        }
-    }
-    false
-}
+/// Ends a walk at the first line.
+#[derive(Drop)]
+struct FirstLine;
 
-/// Returns `true` if the item has lines where it is in a table.
-#[cycle(has_lines)]
-fn item_has_lines(item: &Item) -> bool
-    ensures { result ≡ has_lines_in_table (item_view item.now) }
-{
-    match item {
-        Item::Value(value) => value_has_lines(value),
-        Item::Table(table) => table.dotted && have_lines(&table.slots),
-        Item::None | Item::ArrayOfTables(_) => false,
-    }
-}
+impl LineVisitor for FirstLine {
+    ghost use Rattle.std.specs.Prelude.{◌≡◌, false};
 
-/// Returns `true` if a dotted inline table of these slots has lines.
-#[cycle(has_inside)]
-fn have_lines_inside(slots: &Slots<Item>) -> bool
-    ensures { result ≡ has_inside (slots_view slots.now) }
-{
-    let entries = slots.as_slice();
-    'slots: for slot in entries {
-        if item_has_lines_inside(&slot.item) {
-            return true;
-        }
-    }
-    false
-}
+    ghost visits = { λ _ _ goes _. goes ≡ false };
 
-/// Returns `true` if the item has lines where it is in a dotted inline table.
-#[cycle(has_inside)]
-fn item_has_lines_inside(item: &Item) -> bool
-    ensures { result ≡ has_lines_inside (item_view item.now) }
-{
-    match item {
-        Item::Value(value) => value_has_lines(value),
-        Item::Table(table) => have_lines_inside(&table.slots),
-        Item::None | Item::ArrayOfTables(_) => false,
-    }
-}
-
-/// Returns `true` if the value has lines: a dotted inline table may have none, and any other value
-/// has one.
-#[cycle(has_inside)]
-fn value_has_lines(value: &Value) -> bool
-    ensures { result ≡ has_lines_inside (value_view value.now) }
-{
-    match value {
-        Value::InlineTable(table) => !table.dotted || have_lines_inside(&table.items),
-        _ => true,
+    #[inline(always)]
+    fn visit(&mut self, _path: &Path<'_, '_>, _key: &Key, _value: &Value) -> bool {
+        false
     }
 }
 

@@ -19,6 +19,7 @@ mod positions;
 mod sort;
 pub mod table;
 pub mod value;
+mod visit;
 
 pub use array::{Array, ArrayIntoIter, ArrayIter};
 pub use array_of_tables::{ArrayOfTables, ArrayOfTablesIntoIter, ArrayOfTablesIter};
@@ -36,3 +37,5 @@ pub use item::Item;
 pub use order::put_in_order;
 pub use table::{Entry, IntoIter, Iter, OccupiedEntry, Table, VacantEntry};
 pub use value::Value;
+#[doc(hidden)]
+pub use visit::{LineVisitor, visit_lines};

@@ -1,12 +1,11 @@
 //! Listing the lines of a table, or the pairs of an inline table, by their keys and values.
-ghost use Rattle.std.specs.Prelude.{◌≡◌, [], ◌∷◌, ◌++◌, IfOk, OnOk, map};
-ghost use Rattle.toml_edit_model.specs.Iterating.{inline_values, line_value, table_values};
-ghost use Rattle.toml_edit_model.specs.Mode.{plain};
-ghost use Rattle.toml_edit_model.specs.Print.{inside_lines, table_lines};
+ghost use Rattle.std.specs.Prelude.{◌≡◌, true, [], ◌∷◌, ◌++◌, IfOk, OnOk};
+ghost use Rattle.toml_edit_model.specs.Iterating.{inline_values, table_values};
 ghost use Rattle.toml_edit_tree.specs.LineValues.{keys_read, values_read};
-ghost use Rattle.toml_edit_tree.specs.Printing.{keys_on, lines_in_table, lines_of_item};
+ghost use Rattle.toml_edit_tree.specs.Printing.{keys_on};
 ghost use Rattle.toml_edit_tree.specs.SlotsOf.{inline_slots_of, slots_of};
 ghost use Rattle.toml_edit_tree.specs.View.{item_view, slots_view, value_view};
+ghost use Rattle.toml_edit_tree.specs.Visits.{shown_item, shown_lines};
 
 use crate::encode::Path;
 use crate::inline_table::InlineTable;
@@ -33,7 +32,7 @@ impl Table {
             (λ lines. values_read lines.items ≡ table_values (slots_of self.now)) }
     {
         let mut lines = Vec::new(alloc);
-        add_lines(alloc, &self.slots, &Path::Root, &mut lines)?;
+        add_lines(alloc, false, &self.slots, &Path::Root, &mut lines)?;
         Ok(lines)
     }
 }
@@ -53,35 +52,41 @@ impl InlineTable {
             (λ lines. values_read lines.items ≡ inline_values (inline_slots_of self.now)) }
     {
         let mut lines = Vec::new(alloc);
-        add_inside_lines(alloc, &self.items, &Path::Root, &mut lines)?;
+        add_lines(alloc, true, &self.items, &Path::Root, &mut lines)?;
         Ok(lines)
     }
 }
 
-/// Adds the lines of the slots of a table, in order. Their keys begin with those of `path`.
-#[cycle(table_values)]
+/// Adds the lines of the slots, in order: of an inline table if `is_inside` is set, and else of a
+/// table. Their keys begin with those of `path`.
+// What `visit` does for all visitors. A visitor can't keep the references that are added here: the
+// checker has no contract for functions that call one another under a bound with a lifetime.
+#[cycle(values)]
 fn add_lines<'p, 'a>(
     alloc: Global,
+    is_inside: bool,
     slots: &'a Slots<Item>,
     path: &'p Path<'p, 'a>,
     lines: &mut Vec<(Vec<&'a Key>, &'a Value)>,
 ) -> Mem<()>
     ensures { OnOk result (values_read lines.new.items
         ≡ values_read lines.old.items
-        ++ map line_value (table_lines plain (slots_view slots.now) (keys_on path.now))) }
+        ++ shown_lines is_inside (slots_view slots.now) (keys_on path.now)) }
 {
     let entries = slots.as_slice();
     'slots: for slot in entries {
-        add_item_lines(alloc, &slot.item, &slot.key, path, lines)?;
+        add_item_lines(alloc, is_inside, &slot.item, &slot.key, path, lines)?;
     }
     Ok(())
 }
 
-/// Adds the lines of one slot of a table: those of a value, or those in a dotted table. The lines
-/// of any other table are printed after its header.
-#[cycle(table_values)]
+/// Adds the lines of one slot: those of a value, or those in a table.
+///
+/// In a table, the lines of a table that isn't dotted are printed after its header, and left out.
+#[cycle(values)]
 fn add_item_lines<'p, 'a>(
     alloc: Global,
+    is_inside: bool,
     item: &'a Item,
     key: &'a Key,
     path: &'p Path<'p, 'a>,
@@ -89,14 +94,19 @@ fn add_item_lines<'p, 'a>(
 ) -> Mem<()>
     ensures { OnOk result (values_read lines.new.items
         ≡ values_read lines.old.items
-        ++ map line_value (lines_in_table plain (item_view item.now)
-        (keys_on path.now ++ (key.now ∷ [])))) }
+        ++ shown_item is_inside (item_view item.now) (keys_on path.now ++ (key.now ∷ []))) }
 {
     match item {
         Item::Value(value) => add_value_lines(alloc, value, key, path, lines),
         Item::Table(table) => {
-            if table.dotted {
-                add_lines(alloc, &table.slots, &Path::Under(path, key), lines)
+            if is_inside || table.dotted {
+                add_lines(
+                    alloc,
+                    is_inside,
+                    &table.slots,
+                    &Path::Under(path, key),
+                    lines,
+                )
             } else {
                 Ok(())
             }
@@ -105,48 +115,8 @@ fn add_item_lines<'p, 'a>(
     }
 }
 
-/// Adds the lines of the slots of an inline table, in order.
-#[cycle(inside_values)]
-fn add_inside_lines<'p, 'a>(
-    alloc: Global,
-    slots: &'a Slots<Item>,
-    path: &'p Path<'p, 'a>,
-    lines: &mut Vec<(Vec<&'a Key>, &'a Value)>,
-) -> Mem<()>
-    ensures { OnOk result (values_read lines.new.items
-        ≡ values_read lines.old.items
-        ++ map line_value (inside_lines plain (slots_view slots.now) (keys_on path.now))) }
-{
-    let entries = slots.as_slice();
-    'slots: for slot in entries {
-        add_inside_item(alloc, &slot.item, &slot.key, path, lines)?;
-    }
-    Ok(())
-}
-
-/// Adds the lines of one slot of an inline table: those of a value, or those in any table.
-#[cycle(inside_values)]
-fn add_inside_item<'p, 'a>(
-    alloc: Global,
-    item: &'a Item,
-    key: &'a Key,
-    path: &'p Path<'p, 'a>,
-    lines: &mut Vec<(Vec<&'a Key>, &'a Value)>,
-) -> Mem<()>
-    ensures { OnOk result (values_read lines.new.items
-        ≡ values_read lines.old.items
-        ++ map line_value (lines_of_item plain (item_view item.now)
-        (keys_on path.now ++ (key.now ∷ [])))) }
-{
-    match item {
-        Item::Value(value) => add_value_lines(alloc, value, key, path, lines),
-        Item::Table(table) => add_inside_lines(alloc, &table.slots, &Path::Under(path, key), lines),
-        Item::None | Item::ArrayOfTables(_) => Ok(()),
-    }
-}
-
 /// Adds the lines of a value: those in a dotted inline table, or the one of any other value.
-#[cycle(inside_values)]
+#[cycle(values)]
 fn add_value_lines<'p, 'a>(
     alloc: Global,
     value: &'a Value,
@@ -156,13 +126,12 @@ fn add_value_lines<'p, 'a>(
 ) -> Mem<()>
     ensures { OnOk result (values_read lines.new.items
         ≡ values_read lines.old.items
-        ++ map line_value (lines_of_item plain (value_view value.now)
-        (keys_on path.now ++ (key.now ∷ [])))) }
+        ++ shown_item true (value_view value.now) (keys_on path.now ++ (key.now ∷ []))) }
 {
     match value {
         Value::InlineTable(table) => {
             if table.dotted {
-                add_inside_lines(alloc, &table.items, &Path::Under(path, key), lines)
+                add_lines(alloc, true, &table.items, &Path::Under(path, key), lines)
             } else {
                 add_line(alloc, value, key, path, lines)
             }

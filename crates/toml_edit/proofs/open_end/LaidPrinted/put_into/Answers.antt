@@ -16,9 +16,9 @@ returns-then-is_left_open g c =
     let t = tree_view l.root.now l.trailing.now in
     let m = mode_of l.mode in
     let before = last_of_root (fields_view l.root.now) (table_slots l.root.now) in
-    let last = c.last_decor-last.ensures ∙ ap (λ hs. last_headed (map header_view hs) before) c.as_slice.ensures.value in
     c.put_but_newline.ensures (last_statement t.root t.slots) (print_in m l.open_end t)
-    (c.newline_length.ensures ∙ ap (λ d. length (newline_of exact d)) last ∙ ap length l.last)
+    (c.last_newline_length-length.ensures
+    ∙ ap (λ hs. length (newline_of exact (last_headed (map header_view hs) before))) c.as_slice.ensures.value ∙ ap length l.last)
     (open-print m l.open_end t (sym c.is_left_open.ensures ∙ c.if-is_left_open.true))
 
 pub returns-else-is_left_open : goal.returns-else-is_left_open

@@ -5,4 +5,4 @@ use Rattle.toml_edit_tree.proofs.LineValueLaws.{inline-whole}
 use Rattle.toml_edit_tree.proofs.inline_table.InlineTable.get_values.Goals as goal
 
 pub returns : goal.returns
-returns c = inline-whole c.args.self.now _ _ (ap values_read c.new-lines.ensures.items) c.in_ok-add_inside_lines.ensures
+returns c = inline-whole c.args.self.now _ _ (ap values_read c.new-lines.ensures.items) c.in_ok-add_lines.ensures

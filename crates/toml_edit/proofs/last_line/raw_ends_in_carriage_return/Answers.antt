@@ -4,7 +4,7 @@ use Rattle.std.specs.Option.{option_copied}
 use Rattle.toml_edit_model.specs.Mode.{ends_in_return, exact}
 use Rattle.toml_edit.proofs.HeaderLaws.{shown-owned}
 use Rattle.toml_edit.proofs.OpenEndLaws.{last-return}
-use Rattle.toml_edit.proofs.open_end.raw_ends_in_carriage_return.Goals as goal
+use Rattle.toml_edit.proofs.last_line.raw_ends_in_carriage_return.Goals as goal
 
 pub returns-in-Some : goal.returns-in-Some
 returns-in-Some c =
