@@ -1,6 +1,6 @@
 -- A lone value, read as a value over its text and then given its own texts.
 use Rattle.std.proofs.Common.{◌≡◌, ◌⊎◌, inl, inr, refl, sym, ap, ◌∙◌, subst, ℕ, ◌+◌, arith, true, false, List, [], ◌++◌, length, append-nil}
-use Rattle.std.proofs.Common.{Option, Some, Bool, rules}
+use Rattle.std.proofs.Common.{Some, Bool, rules}
 use Rattle.std.specs.Prelude.{Contains, Result, Ok, Err, IsErrOf, IsOk}
 use Rattle.std.proofs.lemmas.Bool.{false≢true}
 use Rattle.toml_edit_model.specs.Mode.{plain}
@@ -176,11 +176,6 @@ pub brackets_refused : (t : Text) (es : List Event) (e : ParseFault) → AreLone
     → IfToml e (λ r. IsSyntaxFault (fault_of r) ⊎ ValueOpensTooMany t)
 brackets_refused t es (Toml r) are short = inr (are.brackets short)
 brackets_refused t es Memory are short = tt
-
--- want of memory in one answer is want of memory in another
-pub still_memory : {A B : Type 0} (e : ParseFault) → IsOk {T = A} {E = ParseFault} (Err e) ⊎ IsErrOf {T = A} {E = ParseFault} (Err e) Memory
-    → IsOk {T = B} {E = ParseFault} (Err e) ⊎ IsErrOf {T = B} {E = ParseFault} (Err e) Memory
-still_memory e h = elim h [ inl ok ↦ absurd cc | inr is ↦ let f : e ≡ Memory = cc in inr (ap Err f) ]
 
 -- ---- a text with no events
 

@@ -31,9 +31,6 @@ use Rattle.toml_edit_parser.specs.Listed.{IsErrorIn}
 
 -- ---- accepted in a version
 
-pub accepted_of_version : (version : Version) (v : Value) → is_accepted_value_in version v ≡ true → is_value_of version v ≡ true
-accepted_of_version version v h = and_left (is_value_of version v) (is_accepted_value v) h
-
 pub accepted_of_all : (version : Version) (v : Value) → is_accepted_value_in version v ≡ true → is_accepted_value v ≡ true
 accepted_of_all version v h = and_right (is_value_of version v) (is_accepted_value v) h
 

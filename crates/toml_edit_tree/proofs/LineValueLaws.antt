@@ -5,14 +5,13 @@ use Rattle.std.specs.Prelude.{◌||◌, if◌then◌else◌}
 use Rattle.std.proofs.lemmas.List.{at_drop_all, map-append}
 use Rattle.toml_edit_model.specs.Iterating.{inline_values, line_value, table_values}
 use Rattle.toml_edit_model.specs.Mode.{plain}
-use Rattle.toml_edit_model.specs.Print.{Line, inside_lines, is_line_node, table_lines, value_of}
+use Rattle.toml_edit_model.specs.Print.{Line, inside_lines, is_line_node, table_lines}
 use Rattle.toml_edit_model.specs.Tree.{Key, Node, leaf, list, inline, table, tables, nothing, Slots, TableFields, is_value_node}
 use Rattle.toml_edit_laws.proofs.slots.Lists.{slots_from-list}
 use Rattle.toml_edit_slots.specs.declared.slots.Slot.{Slot}
 use Rattle.toml_edit_tree.specs.Printing.{lines_in_table, lines_of_item}
 use Rattle.toml_edit_tree.specs.SlotsOf.{inline_slots_of, slots_of}
 use Rattle.toml_edit_tree.specs.Visits.{shown_item, shown_lines}
-use Rattle.toml_edit_tree.specs.declared.array_of_tables.ArrayOfTables.{ArrayOfTables}
 use Rattle.toml_edit_tree.specs.declared.inline_table.InlineTable.{InlineTable, out-InlineTable}
 use Rattle.toml_edit_tree.specs.declared.item.Item.{Item, the_lemmas}
 use Rattle.toml_edit_tree.specs.declared.item.Item.TheVariants as items

@@ -18,10 +18,10 @@ use Rattle.toml_edit_tree.specs.declared.item.Item.TheViews.{roll-Item, roll-Val
 use Rattle.toml_edit_tree.specs.declared.table.Table.{Table}
 use Rattle.toml_edit_tree.specs.declared.value.Value.{Value, out-Value}
 use Rattle.toml_edit_tree.specs.View.{item_view, items_view, slots_view, value_view}
-use Rattle.toml_edit_laws.proofs.print_by_visits.PairTexts.{last_shown-append, lines_text-append, pairs_shown-append}
+use Rattle.toml_edit_laws.proofs.print_by_visits.PairTexts.{last_shown-append, pairs_shown-append}
 use Rattle.toml_edit_laws.proofs.print_by_visits.ValueTexts.{value-is}
 use Rattle.toml_edit_tree.proofs.ViewLaws.{view-Value}
-use Rattle.toml_edit_laws.specs.PrintByVisits.{last_comma, last_shown, element_text, pairs_shown, lines_text, written_items}
+use Rattle.toml_edit_laws.specs.PrintByVisits.{last_comma, last_shown, element_text, pairs_shown, written_items}
 
 -- ---- items
 
@@ -125,13 +125,6 @@ module _ (mode : Mode) where
         ap (λ (fs : List (Slot Item)). inside_lines mode (slots_view fs) ks) (drop_more es i s h)
         ∙ ap (λ (e : Slot Item). lines_of_item mode (item_view e.item) (ks ++ (e.key ∷ [])) ++ rest) (sym is)
 
-    -- the lines of a slot
-    pub lines-turn : (done all : Text) → done ++ lines_text mode (inside_lines mode (slots_view (drop i es)) ks) ≡ all
-        → (done ++ lines_text mode own) ++ lines_text mode rest ≡ all
-    lines-turn done all more =
-        append_assoc done (lines_text mode own) (lines_text mode rest)
-        ∙ ap (λ (t : Text). done ++ t) (sym (ap (lines_text mode) from-slot ∙ lines_text-append mode own rest)) ∙ more
-
     abbrev own-in-table : List Line
     own-in-table = lines_in_table mode (item_view s.item) (ks ++ (s.key ∷ []))
 
@@ -142,14 +135,6 @@ module _ (mode : Mode) where
     from-slot-in-table =
         ap (λ (fs : List (Slot Item)). table_lines mode (slots_view fs) ks) (drop_more es i s h)
         ∙ ap (λ (e : Slot Item). lines_in_table mode (item_view e.item) (ks ++ (e.key ∷ [])) ++ rest-in-table) (sym is)
-
-    -- the lines of a slot of a table
-    pub table-turn : (done all : Text) → done ++ lines_text mode (table_lines mode (slots_view (drop i es)) ks) ≡ all
-        → (done ++ lines_text mode own-in-table) ++ lines_text mode rest-in-table ≡ all
-    table-turn done all more =
-        append_assoc done (lines_text mode own-in-table) (lines_text mode rest-in-table)
-        ∙ ap (λ (t : Text). done ++ t) (sym (ap (lines_text mode) from-slot-in-table ∙ lines_text-append mode own-in-table rest-in-table))
-        ∙ more
 
     module _ (before next : Option Decor) (last : next ≡ last_shown before own) where
       -- the decor of the last pair
