@@ -182,24 +182,6 @@ fn add_table<'p, 'a>(
     Ok(())
 }
 
-/// Returns how many headers come from slots of the root themselves. The tables inside have more.
-fn count_headers(slots: &Slots<Item>) -> usize {
-    let mut count: usize = 0;
-    for slot in slots.as_slice() {
-        count = count.saturating_add(count_in_item(&slot.item));
-    }
-    count
-}
-
-/// Returns how many headers come from the item itself, but for a table that is implicit.
-fn count_in_item(item: &Item) -> usize {
-    match item {
-        Item::Table(table) => usize::from(!table.is_dotted() && !table.is_implicit()),
-        Item::ArrayOfTables(tables) => tables.values.len(),
-        Item::None | Item::Value(_) => 0,
-    }
-}
-
 /// Sorts the headers by their places. Those of one place stay in the order of the walk.
 fn sort_headers(headers: &mut Vec<Header<'_, '_>>) -> Mem<()>
     ensures { OnOk result
@@ -230,8 +212,7 @@ pub(crate) fn headers_in_order<'p, 'a>(
     };
     let mut walk = Walk {
         arena,
-        // Most documents have few others.
-        headers: Vec::with_capacity(root.slots.allocator(), count_headers(&root.slots))?,
+        headers: Vec::new(root.slots.allocator()),
         seen,
     };
     enter_slots(&mut walk, &root.slots, top)?;
