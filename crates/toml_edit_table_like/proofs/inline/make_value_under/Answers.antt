@@ -15,7 +15,7 @@ returns-in-Some c =
     let es = c.args.slots.now in
     let i = c.in-Some.at in
     let at : place k es ≡ Some i = sym c.in-Some.ensures.place in
-    changed-here k es i at (apart-first es c.as_slice-entries.ensures.apart) made_value _ c.make_value.new.self c.item_mut.ensures.item
+    changed-here k es i at (apart-first es c.as_slice.ensures.apart) made_value _ c.make_value.new.self c.item_mut.ensures.item
     c.make_value.ensures
 
 pub returns-in-None : goal.returns-in-None

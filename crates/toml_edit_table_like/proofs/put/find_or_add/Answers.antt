@@ -9,7 +9,7 @@ use Rattle.toml_edit_table_like.proofs.put.find_or_add.Goals as goal
 
 pub returns-in_default-clause-leaves : goal.returns-in_default-clause-leaves
 returns-in_default-clause-leaves c =
-    put-leaves (new_key c.args.key.now) c.args.slots.now (apart-first c.args.slots.now c.as_slice-entries.ensures.apart)
+    put-leaves (new_key c.args.key.now) c.args.slots.now (apart-first c.args.slots.now c.as_slice.ensures.apart)
 
 pub returns-in_default-clause-present : goal.returns-in_default-clause-present
 returns-in_default-clause-present c h =
@@ -23,7 +23,7 @@ returns-in-Some-clause-item c =
 
 pub returns-in-Some-clause-leaves : goal.returns-in-Some-clause-leaves
 returns-in-Some-clause-leaves c =
-    put-leaves (new_key c.args.key.now) c.args.slots.now (apart-first c.args.slots.now c.as_slice-entries.ensures.apart)
+    put-leaves (new_key c.args.key.now) c.args.slots.now (apart-first c.args.slots.now c.as_slice.ensures.apart)
 
 pub returns-in-Ok-push-clause-item : goal.returns-in-Ok-push-clause-item
 returns-in-Ok-push-clause-item c =
@@ -44,11 +44,11 @@ returns-in-Ok-push-clause-rest c w =
 
 pub returns-in-Ok-push-clause-leaves : goal.returns-in-Ok-push-clause-leaves
 returns-in-Ok-push-clause-leaves c =
-    put-leaves (new_key c.args.key.now) c.args.slots.now (apart-first c.args.slots.now c.as_slice-entries.ensures.apart)
+    put-leaves (new_key c.args.key.now) c.args.slots.now (apart-first c.args.slots.now c.as_slice.ensures.apart)
 
 pub returns-in-Err-clause-leaves : goal.returns-in-Err-clause-leaves
 returns-in-Err-clause-leaves c =
-    put-leaves (new_key c.args.key.now) c.args.slots.now (apart-first c.args.slots.now c.as_slice-entries.ensures.apart)
+    put-leaves (new_key c.args.key.now) c.args.slots.now (apart-first c.args.slots.now c.as_slice.ensures.apart)
 
 pub returns-in-Err-clause-present : goal.returns-in-Err-clause-present
 returns-in-Err-clause-present c h =

@@ -8,7 +8,7 @@ use Rattle.toml_edit_table_like.proofs.put.find_or_add_key.Goals as goal
 
 pub returns-in_default-clause-leaves : goal.returns-in_default-clause-leaves
 returns-in_default-clause-leaves c =
-    put-leaves c.args.key.now c.args.slots.now (apart-first c.args.slots.now c.as_slice-entries.ensures.apart)
+    put-leaves c.args.key.now c.args.slots.now (apart-first c.args.slots.now c.as_slice.ensures.apart)
 
 pub returns-in_default-clause-present : goal.returns-in_default-clause-present
 returns-in_default-clause-present c h =
@@ -29,7 +29,7 @@ returns-in-Some-clause-rest c =
     put-there c.args.key.now c.args.slots.now c.in-Some.at at
 
 pub returns-in-Some-clause-leaves : goal.returns-in-Some-clause-leaves
-returns-in-Some-clause-leaves c = put-leaves c.args.key.now c.args.slots.now (apart-first c.args.slots.now c.as_slice-entries.ensures.apart)
+returns-in-Some-clause-leaves c = put-leaves c.args.key.now c.args.slots.now (apart-first c.args.slots.now c.as_slice.ensures.apart)
 
 pub returns-in-Ok-push-clause-item : goal.returns-in-Ok-push-clause-item
 returns-in-Ok-push-clause-item c =
@@ -50,10 +50,10 @@ returns-in-Ok-push-clause-rest c w =
 
 pub returns-in-Ok-push-clause-leaves : goal.returns-in-Ok-push-clause-leaves
 returns-in-Ok-push-clause-leaves c =
-    put-leaves c.args.key.now c.args.slots.now (apart-first c.args.slots.now c.as_slice-entries.ensures.apart)
+    put-leaves c.args.key.now c.args.slots.now (apart-first c.args.slots.now c.as_slice.ensures.apart)
 
 pub returns-in-Err-clause-leaves : goal.returns-in-Err-clause-leaves
-returns-in-Err-clause-leaves c = put-leaves c.args.key.now c.args.slots.now (apart-first c.args.slots.now c.as_slice-entries.ensures.apart)
+returns-in-Err-clause-leaves c = put-leaves c.args.key.now c.args.slots.now (apart-first c.args.slots.now c.as_slice.ensures.apart)
 
 pub returns-in-Err-clause-present : goal.returns-in-Err-clause-present
 returns-in-Err-clause-present c h =

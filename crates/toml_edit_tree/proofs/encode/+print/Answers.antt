@@ -3,7 +3,7 @@ use Rattle.std.proofs.Common.{◌<◌, ◌≤◌, true, [], ◌∷◌, ◌++◌,
 use Rattle.std.specs.Option.{option_copied}
 use Rattle.toml_edit_repr.specs.Modes.{mode_of}
 use Rattle.toml_edit_io.proofs.Puts.{put_none, put_same, put_two, put_four, put_five}
-use Rattle.toml_edit_tree.specs.Printing.{keys_on, lines_of_item}
+use Rattle.toml_edit_tree.specs.Printing.{keys_on, lines_of_item, node_text}
 use Rattle.toml_edit_tree.specs.View.{item_view, items_view, value_view}
 use Rattle.toml_edit_tree.proofs.PairTextLaws.{pair-last, pair-shown}
 use Rattle.toml_edit_tree.proofs.TurnLaws.{items-end, last-turn, other-turn, pairs-turn, value-turn}

@@ -10,7 +10,7 @@ use Rattle.toml_edit_tree.proofs.index.find_or_add_slot.Goals as goal
 
 pub returns-in_err-key-in-None-clause-leaves : goal.returns-in_err-key-in-None-clause-leaves
 returns-in_err-key-in-None-clause-leaves c =
-    leaves c.args.key.now c.args.slots.now (apart-first c.args.slots.now c.as_slice-entries.ensures.apart)
+    leaves c.args.key.now c.args.slots.now (apart-first c.args.slots.now c.as_slice.ensures.apart)
 
 pub returns-in_err-key-in-None-clause-present : goal.returns-in_err-key-in-None-clause-present
 returns-in_err-key-in-None-clause-present c h =
@@ -30,7 +30,7 @@ pub returns-in-Some-clause-rest : goal.returns-in-Some-clause-rest
 returns-in-Some-clause-rest c w = put-here c.args.key.now c.args.slots.now c.in-Some.at (sym c.in-Some.ensures.place) w
 
 pub returns-in-Some-clause-leaves : goal.returns-in-Some-clause-leaves
-returns-in-Some-clause-leaves c = leaves c.args.key.now c.args.slots.now (apart-first c.args.slots.now c.as_slice-entries.ensures.apart)
+returns-in-Some-clause-leaves c = leaves c.args.key.now c.args.slots.now (apart-first c.args.slots.now c.as_slice.ensures.apart)
 
 pub returns-in-Ok-clause-made : goal.returns-in-Ok-clause-made
 returns-in-Ok-clause-made c =
@@ -62,10 +62,10 @@ returns-in-Ok-clause-rest c w =
     rw (left, c.len-at.ensures) (put-added k es (sym c.in-None.ensures.place) w)
 
 pub returns-in-Ok-clause-leaves : goal.returns-in-Ok-clause-leaves
-returns-in-Ok-clause-leaves c = leaves c.args.key.now c.args.slots.now (apart-first c.args.slots.now c.as_slice-entries.ensures.apart)
+returns-in-Ok-clause-leaves c = leaves c.args.key.now c.args.slots.now (apart-first c.args.slots.now c.as_slice.ensures.apart)
 
 pub returns-in-Err-clause-leaves : goal.returns-in-Err-clause-leaves
-returns-in-Err-clause-leaves c = leaves c.args.key.now c.args.slots.now (apart-first c.args.slots.now c.as_slice-entries.ensures.apart)
+returns-in-Err-clause-leaves c = leaves c.args.key.now c.args.slots.now (apart-first c.args.slots.now c.as_slice.ensures.apart)
 
 pub returns-in-Err-clause-present : goal.returns-in-Err-clause-present
 returns-in-Err-clause-present c h =

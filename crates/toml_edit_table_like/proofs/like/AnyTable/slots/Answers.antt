@@ -15,4 +15,4 @@ pub returns-clause-apart : goal.returns-clause-apart
 returns-clause-apart g c =
     let t = c.args.self.now in
     subst AreApart (ap shown c.as_slots-slots.ensures ∙ sym (g.Self.HasSlots.shows t))
-    (apart-first c.as_slots-slots.result.now c.as_slice-entries.ensures.apart)
+    (apart-first c.as_slots-slots.result.now c.as_slice.ensures.apart)

@@ -8,4 +8,4 @@ pub returns-clause-count : goal.returns-clause-count
 returns-clause-count c = c.len.ensures ∙ sym (length-shown c.as_slots-slots.result.now) ∙ ap length c.as_slots-slots.ensures
 
 pub returns-clause-apart : goal.returns-clause-apart
-returns-clause-apart c = subst AreApart c.as_slots-slots.ensures (apart-first c.as_slots-slots.result.now c.as_slice-entries.ensures.apart)
+returns-clause-apart c = subst AreApart c.as_slots-slots.ensures (apart-first c.as_slots-slots.result.now c.as_slice.ensures.apart)

@@ -14,4 +14,4 @@ returns-clause-there c =
 pub returns-clause-apart : goal.returns-clause-apart
 returns-clause-apart c =
     let t = c.args.self.now in
-    subst AreApart (sym (inline-shown t)) (apart-first (out-InlineTable t).items c.as_slice-entries.ensures.apart)
+    subst AreApart (sym (inline-shown t)) (apart-first (out-InlineTable t).items c.as_slice.ensures.apart)

@@ -14,4 +14,4 @@ returns-clause-there c =
 pub returns-clause-apart : goal.returns-clause-apart
 returns-clause-apart c =
     let t = c.args.self.now in
-    subst AreApart (sym (table-shown t)) (apart-first (out-Table t).slots c.as_slice-entries.ensures.apart)
+    subst AreApart (sym (table-shown t)) (apart-first (out-Table t).slots c.as_slice.ensures.apart)

@@ -12,4 +12,4 @@ returns-clause-count c = c.len.ensures ∙ sym (ap length (table-shown c.args.se
 pub returns-clause-apart : goal.returns-clause-apart
 returns-clause-apart c =
     let t = c.args.self.now in
-    subst AreApart (sym (table-shown t)) (apart-first (out-Table t).slots c.as_slice-entries.ensures.apart)
+    subst AreApart (sym (table-shown t)) (apart-first (out-Table t).slots c.as_slice.ensures.apart)
