@@ -1,4 +1,4 @@
--- A sink that holds back a tail takes one text behind another as both together, and what it holds in the end is the last newline.
+-- A sink that holds back a tail takes one text after another as both together, and what it holds in the end is the last newline.
 use Rattle.std.proofs.Common.{◌≡◌, ℕ, ◌+◌, ◌-◌, List, [], ◌∷◌, ◌++◌, length, take, refl, sym, ap, ◌∙◌, arith, append_assoc}
 use Rattle.std.proofs.Common.{append-nil, length-append, Option, None, Some, Bool, true, false}
 use Rattle.std.specs.Prelude.{if◌then◌else◌}

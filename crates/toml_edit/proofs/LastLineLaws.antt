@@ -76,7 +76,7 @@ module _ (mode : Mode) where
   behind-lines p o [] = refl
   behind-lines p o (l ∷ ls) = behind-lines p (Some (node_decor l.item)) ls
 
-  -- the lines of a slot, and those behind it
+  -- the lines of a slot, and those after it
   slot-last : (k : Key) (n : Node) (ks : List Key) (inner rest : List Line) (o : Option Decor) (in_slot : Option Decor)
       (behind : Option Decor → Option Decor) (b : Bool)
       → last_shown o inner ≡ in_slot → ((d : Option Decor) → last_shown d rest ≡ behind d)
@@ -122,7 +122,7 @@ module _ (mode : Mode) where
     dotted-last (tables e xs) ks o = refl
     dotted-last nothing ks o = refl
 
-  -- the newline behind a table's lines
+  -- the newline after a table's lines
   lines-behind : (p : Path) (ss : Slots) (o : Option Decor)
       → newline_behind (newline_of mode o) (map (printed_line mode p) (table_lines mode ss [])) ≡ newline_of mode (last_line ss o)
   lines-behind p ss o = behind-lines p o (table_lines mode ss []) ∙ ap (newline_of mode) (lines-last ss [] o)
@@ -135,7 +135,7 @@ module _ (mode : Mode) where
       ap (λ (c : Bool). (if c then own_header mode b v.1 ∷ [] else [])
       ++ map (printed_line mode v.1.path) (lines_of mode v.1)) (has-header mode v below ∙ e)
 
-  -- the newline behind tables below the root is that of the last of them with a header
+  -- the newline after tables below the root is that of the last of them with a header
   headers-behind : (b : Bool) (vs : List PlacedVisit) (o : Option Decor) → AllByRecursion IsBelow vs
       → newline_behind (newline_of mode o) (printed_tables mode b vs) ≡ newline_of mode (last_headed (shown_heads vs) o)
   headers-behind b [] o h = refl
@@ -168,7 +168,7 @@ module _ (mode : Mode) where
 
   -- ---- the root
 
-  -- the root's lines, and the headers behind them
+  -- the root's lines, and the headers after them
   root-behind : (f : TableFields) (ss : Slots) (p : ℤ) (b : Bool)
       → newline_behind [] (printed_tables mode true (sorted_by comes_before (if b then places_from (pos 0) (slots_walk ss [] [])
       else (p, visit_of [] [] false f ss) ∷ places_from p (slots_walk ss [] []))))

@@ -40,7 +40,7 @@ same-parts a b e f g h =
     ∙ ap (λ (m : Mode). document m a.open_end b.root b.trailing b.rooted) g
     ∙ ap (λ (o : Bool). document b.mode o b.root b.trailing b.rooted) h
 
--- ---- what is behind the root, and the root as a node
+-- ---- what is after the root, and the root as a node
 
 pub trailing-at : (n : Node) (r : Raw) → (tree_at n r).trailing ≡ r
 trailing-at nothing r = refl

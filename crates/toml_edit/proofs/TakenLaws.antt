@@ -51,7 +51,7 @@ mutual
 -- ---- what its print means
 
 module _ (mode : Mode) (t : Text) (d : Document) (x : Tree) (accepted : AcceptedAs t d) (is : IsTreeOf (spanned_in mode) d x) where
-  -- the root alone, with no text behind it
+  -- the root alone, with no text after it
   abbrev root : Tree
   root = record x { trailing = owned [] }
 

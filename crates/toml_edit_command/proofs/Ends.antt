@@ -93,7 +93,7 @@ says-right q a said mistakes.Unfit wrong = wrong
 pub not-misworded : (q : Request) (a : Action) → Says q a → IsMisworded q → ⊥
 not-misworded q a said (m, wrong) = says-right q a said m wrong
 
--- what is told where they are no command
+-- the message where the words are no command
 pub wrong-words : (q : Request) (stop : RunError) (s : OutputChange) → StopsInWords q stop → ¬ (IsCommand q.command) → TellsError stop s
     → (status_of stop ≡ 2) × Tells usage_line s
 wrong-words q (Mistaken mistakes.Words) s stops wrong told = (refl, told)
@@ -150,7 +150,7 @@ module _ (q : Request) (a : Action) (said : Says q a) (mode : Mode) (in_mode : m
     tells-mistake ReadFailed told stops two line = absurd (omega (arith, two))
     tells-mistake WriteFailed told stops two line = absurd (omega (arith, two))
 
-    -- what a run with status 1 has read is not accepted, and it tells why
+    -- what a run with status 1 has read is not accepted, and its message says why
     tells-refusal-in : (stop : RunError) (told : OutputChange) (known : Option Text) → StopsDoing mode version a known failed s stop
         → status_of stop ≡ 1 → TellsError stop told
         → IfSome known (λ bytes. IsNotAccepted version bytes × TellsFault version bytes told)

@@ -1,4 +1,4 @@
--- What a run reads, writes and tells.
+-- What a run reads and writes, and its messages.
 use Rattle.std.specs.Prelude.{◌≡◌, Bool, false, Option, IfSome, IsUtf8}
 use Rattle.std.specs.Io.KnownBytes.{Appends}
 use Rattle.toml_edit_model.specs.Text.{Text}

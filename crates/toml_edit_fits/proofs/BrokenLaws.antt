@@ -73,7 +73,7 @@ any-some {A} test P (x ∷ xs) h e = by_test (test x) refl (λ f. any-some test 
     by_test true g more f = (x, g, h.0)
     by_test false g more f = more f
 
--- each element of a list comes before those behind it
+-- each element of a list comes before those after it
 pairs-within : {A : Type 0} (zs front xs : List A) → zs ≡ front ++ xs → AllPairs (ComesBefore zs) xs
 pairs-within zs front [] e = tt
 pairs-within zs front (x ∷ xs) e = (

@@ -29,7 +29,7 @@ use Rattle.toml_edit_fits.specs.EarlyTests.{early_slots, early_node, early_items
 use Rattle.toml_edit_fits.proofs.LatePaths.{in-slots-node, below-late, slots-late, items-late, below-no_item, own-item}
 use Rattle.toml_edit_fits.proofs.OrderLaws.{heads, highest_after, latest-highest, reach-later, marks_after, marks-append}
 
--- ---- the marks behind a walk
+-- ---- the marks after a walk
 
 one-mark : (is_element : Bool) (m : Marks) (p : Path) (ks : List Key) (f : TableFields) (ss : Slots) → marks_past is_element m f ss
     ≡ marks_after m (visit_of p ks is_element f ss ∷ [])

@@ -36,7 +36,7 @@ module _ {R A : Type 0} (tells : R → MisfitView → Type 0) (good bad end : A)
   passed [] r out h = (refl, h)
   passed (m ∷ ms) r out h = absurd (out h.0)
 
-  -- else it has told the first misfit
+  -- else it has reported the first misfit
   pub told : (ms : List MisfitView) (r : R) → (end ≡ good → ⊥) → Reports tells ms good bad end r → (m : MisfitView)
       × (slice_get ms 0 ≡ Some m) × tells r m
   told [] r out h = absurd (out h)
@@ -56,7 +56,7 @@ module _ {R A : Type 0} (tells : R → MisfitView → Type 0) (good bad end : A)
 
 -- ---- a turn of a loop
 
--- What each element and those behind it have: its own below a step, and then theirs.
+-- What each element and those after it have: its own below a step, and then theirs.
 module _ {T : Type 0} (all : ℕ → List T → List MisfitView) (one : T → List MisfitView) (rest : T → ℕ → List T → List MisfitView) (step : ℕ
     → T → Text)
     (each : (i : ℕ) (x : T) (xs : List T) → all i (x ∷ xs) ≡ below (step i x) (one x) ++ rest x (suc i) xs)

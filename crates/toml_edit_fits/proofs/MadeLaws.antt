@@ -39,7 +39,7 @@ items-made (x ∷ xs) h = both h.0 (items-made xs h.1) (λ a b. (a, b))
 abbrev AreApartInOrder : List (Slot Item) → Type 0
 AreApartInOrder es = (at : ℕ) → ForSome (slice_get es at) (λ (s : Slot Item). place s.key.name (take at es) ≡ None)
 
--- a text that isn't found is not the first, and not found behind it
+-- a text that isn't found is not the first, and not found after it
 not-first : (t u : Text) (us : List Text) → place_in t (u ∷ us) ≡ None → (same_text t u ≡ false) × (place_in t us ≡ None)
 not-first t u us h = by_test (same_text t u) (place_in t us) h
   where

@@ -69,7 +69,7 @@ end-decides mode t = (to-end (line_end mode t), λ h. ap (ends_line_from false) 
 
 -- ---- trivia with newlines
 
--- a text that goes on behind a comment
+-- a text that goes on after a comment
 abbrev Commented : (Text → Type 0) → Text → Type 0
 Commented P t = (body rest : Text) × (n : Newline) × Each is_visible body × P rest × (t ≡ body ++ (newline_text n ++ rest))
 
@@ -100,7 +100,7 @@ module _ (answers : Option Bool → Bool) (P : Bool → Text → Type 0) (none :
     (at_visible : (c : ℕ) (t : Text) → is_visible c ≡ true → P true t → P true (c ∷ t))
     (at_hash : (c : ℕ) (t : Text) → (c == hash) ≡ true → P true t → P false (c ∷ t))
     (at_blank : (c : ℕ) (t : Text) → is_blank c ≡ true → P false t → P false (c ∷ t)) where
-  -- behind a line feed that is first
+  -- after a line feed that is first
   abbrev BehindFirst : Text → Type 0
   BehindFirst [] = Unit {0}
   BehindFirst (d ∷ t) = answers (open_after false t) ≡ true → P false t

@@ -52,7 +52,7 @@ module _ (mode : Mode) where
   OnRoute [] = Unit {0}
   OnRoute (k ∷ ks) = IsWhiteSpace (dot_suffix mode k) × AllByRecursion IsSpacedKey ks
 
-  -- a key behind them that ends the path
+  -- a key after them that ends the path
   abbrev pub EndsRoute : List Key → Key → Type 0
   EndsRoute [] k = Unit {0}
   EndsRoute (j ∷ ks) k = IsWhiteSpace (dot_prefix mode k)

@@ -13,7 +13,7 @@ abbrev pub TrailTells : Trail → MisfitView → Type 0
 TrailTells t m = t.refused ≡ false → record { path = reverse t.steps.items; rule = t.rule } ≡ m
 
 -- A walk over a part with these misfits comes to the good end just where there are none. Else it
--- comes to the bad end, and the report tells the first.
+-- comes to the bad end, and the report has the first.
 abbrev pub Reports : {R A : Type 0} → (R → MisfitView → Type 0) → List MisfitView → A → A → A → R → Type 0
 Reports tells ms good bad end report =
     MatchOption (slice_get ms 0) (end ≡ good) (λ m. (end ≡ bad) × tells report m)

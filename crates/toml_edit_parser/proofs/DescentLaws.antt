@@ -68,7 +68,7 @@ below-refused source ms es err new h =
 
 -- ---- where the parts of a path lie
 
--- the parts behind a dot
+-- the parts after a dot
 pub dot_in : (t : Text) (path : KeyPath) (after : Span) (inside : KeyPath) (rest : List Event)
     → ◌≡◌ {A = Option (Span × PathView)} (Some (after, path_of inside)) (split_dot path rest) → AreIn t rest → IsSpanOf t path.prefix
     → IsSpanOf t path.suffix

@@ -55,7 +55,7 @@ at_start source es start level more events done none h =
 
 -- ---- the next element
 
--- where the element behind one begins
+-- where the element after one begins
 abbrev pub next_element : ℕ → Around → Value → ℕ
 next_element start a v = start + length a.before + length (value_text v) + length a.after + 1
 

@@ -150,7 +150,7 @@ key_is e start above role s name at own before after some named spelled owns lef
 
 -- ---- a path
 
--- the events behind the first key
+-- the events after the first key
 abbrev behind_key : ℕ → Segment → List Segment → List Event
 behind_key start s [] = []
 behind_key start s (r ∷ rest) =
@@ -186,7 +186,7 @@ path_head source start s (r ∷ rest) h =
     stands-left source (key_place start s) s.spelled s.after
     (stands-right source start s.before _ (stands-left source start (segment_text s) _ h))
 
--- what is behind the first key of a path is in the text too
+-- what is after the first key of a path is in the text too
 pub path_rest : (source : Text) (start : ℕ) (s r : Segment) (rest : List Segment) → Stands source start (path_text (s ∷ r ∷ rest))
     → Stands source (next_start start s) (path_text (r ∷ rest))
 path_rest source start s r rest h =
@@ -208,7 +208,7 @@ end_of s r rest are = record { some = refl; ends = are.ends; spelled = are.spell
 
 -- ---- what was read of a path's first key
 
--- what is told of the text at a span
+-- the name is that of the text at a span
 abbrev Told : Text → Span → Text → Type 0
 Told source at name = (k : Text) → SpellsKey k (cut_out source at.start at.end) → name ≡ k
 
@@ -282,7 +282,7 @@ last-added source e (s ∷ r ∷ more) start above path first rest name k n old 
 
 -- ---- a key that goes on
 
--- the path behind the dot
+-- the path after the dot
 abbrev IsBehind : KeyPath → Span → KeyPath → List Event → Type 0
 IsBehind path after inside rest = ◌≡◌ {A = Option (Span × PathView)} (Some (after, path_of inside)) (split_dot path rest)
 
@@ -294,7 +294,7 @@ same_dots a c x y e =
 abbrev decor_in : PathView → Decor
 decor_in p = record { prefix = Some (spanned_raw p.prefix); suffix = Some (spanned_raw p.suffix) }
 
--- the path behind the dot is one of the same entry
+-- the path after the dot is one of the same entry
 path_behind : (e : Entry) (start : ℕ) (s r : Segment) (more : List Segment) (path : KeyPath) (after : Span) (inside : KeyPath)
     (rest : List Event)
     → leaf_of path ≡ e.leaf → rest ≡ behind_key start s (r ∷ more) → IsBehind path after inside rest
@@ -303,7 +303,7 @@ path_behind e start s r more path after inside rest owns is dot =
     let dots = same_dots after _ (path_of inside) _ (dot ∙ ap (split_dot path) is) in
     (dots.0, (ap decor_in dots.1 ∙ owns, ap (λ (v : PathView). v.before) dots.1, ap (λ (v : PathView). v.events) dots.1))
 
--- what is said of the rest of a path says the same of what is done there
+-- what holds of the rest of a path holds of what is done there
 abbrev pub ToldInside : {A : Type 0} → Text → Entry → Span → KeyPath → Node → Node → Node → Result A ParseFault → Type 0
 ToldInside source e at inside n old new result =
     (m : Mention Entry) (p : List Segment) (start : ℕ) (above : Path) → IsPassed at m → IsEndOfPath p → Stands source start (path_text p)
@@ -349,7 +349,7 @@ inside-added source e (s ∷ r ∷ more) start above path first rest name after 
     (told m (r ∷ more) (next_start start s) (to_key above s.key) (refl, span_is start s first parts.0) (end_of s r more f.are)
     (path_rest source start s r more f.stands) behind.1)
 
--- what is said of the rest of a path says the same of what is done below a new key
+-- what holds of the rest of a path holds of what is done below a new key
 abbrev pub ToldBelow : {A : Type 0} → Text → Entry → Key → Span → KeyPath → Node → Slots → Slots → Result A ParseFault → Type 0
 ToldBelow source e k at inside n old new result =
     (p : List Segment) (start : ℕ) (above : Path) → IsEndOfPath p → Stands source start (path_text p) → IsPathAt e start p inside

@@ -43,7 +43,7 @@ key_is own start s name at before after some named spelled left right =
     ∙ ap (λ (j : ℕ). span_of j s.before) (back start (length s.before)))
     ∙ ap (λ (r : Raw). with_spelling own s (span_of place s.spelled) (span_of (place - length s.before) s.before) r) right
 
--- what is told of the text at a span
+-- the name is that of the text at a span
 abbrev Told : Text → Span → Text → Type 0
 Told source at name = (k : Text) → SpellsKey k (cut_out source at.start at.end) → name ≡ k
 
@@ -59,7 +59,7 @@ one_event : (source : Text) (own : Decor) (start : ℕ) (s : Segment) (path : Ke
     → Seen source own (s ∷ []) start path first rest → (first ≡ event key_kind (start + length s.before) s.spelled) × (rest ≡ [])
 one_event source own start s path first rest f = same_parts first _ rest _ (f.split ∙ ap split_first f.at.2)
 
--- the events behind the first key
+-- the events after the first key
 abbrev behind_dot : ℕ → Segment → Segment → List Segment → List Event
 behind_dot start s r more =
     let dot = start + length (segment_text s) in
@@ -105,7 +105,7 @@ last-read source own (s ∷ r ∷ more) start path first rest name k f told none
     let e = more_events source own start s r more path first rest f in
     absurd (let g = none ∙ ap (split_dot path) e.1 in cc)
 
--- the events behind a dot lie in the text where those before it do, and are fewer
+-- the events after a dot lie in the text where those before it do, and are fewer
 pub behind-dot-in : (t : Text) (path : KeyPath) (after : Span) (inside : KeyPath) (rest : List Event)
     → ◌≡◌ {A = Option (Span × PathView)} (Some (after, path_of inside)) (split_dot path rest) → AreIn t rest
     → AreIn t inside.events.now × (length inside.events.now < length rest)
@@ -120,7 +120,7 @@ behind-dot-in t path after inside (a ∷ b ∷ es) dot h =
 abbrev decor_in : PathView → Decor
 decor_in p = record { prefix = Some (spanned_raw p.prefix); suffix = Some (spanned_raw p.suffix) }
 
--- a key that a path passes through, and the path behind its dot
+-- a key that a path passes through, and the path after its dot
 pub passed-read : (source : Text) (own : Decor) (p : List Segment) (start : ℕ) (path : KeyPath) (first : Event) (rest : List Event)
     (name : Text) (k : Key)
     (after : Span) (inside : KeyPath) → Seen source own p start path first rest → Told source first.span name

@@ -114,7 +114,7 @@ whole-becomes t name utf8 spells =
 
 -- ---- one key after another
 
--- What is left of a lone path between these texts, behind these keys.
+-- What is left of a lone path between these texts, after these keys.
 pub record KeysLeft (t before after : Text) (p : List Segment) (done : List Key) (left : KeyPath) : Type 0 where
   pub own : Decor
   pub start : ℕ
@@ -147,13 +147,13 @@ keys-begin t before after es done left are at events none =
       all = ap (λ (ks : List Key). ks ++ lone_keys before are.path after) none;
     }
 
--- what the first key that is left becomes, and what is left behind it
+-- what the first key that is left becomes, and what is left after it
 pub record NextKey (t before after : Text) (p : List Segment) (done : List Key) (k : Key) (inside : KeyPath) : Type 0 where
   pub new : Key
   pub becomes : BecomesKey t k new
   pub left : (ks : List Key) → ks ≡ done ++ (new ∷ []) → KeysLeft t before after p ks inside
 
--- and what the last one becomes, behind which nothing is left
+-- and what the last one becomes, after which nothing is left
 pub record LastKey (t before after : Text) (p : List Segment) (done : List Key) (k : Key) : Type 0 where
   pub new : Key
   pub becomes : BecomesKey t (record k { leaf = outer before after }) new

@@ -58,7 +58,7 @@ owned-bare t d (tables e xs) = refl
 pub stands : (t : Text) (v : Value) (lone : IsLoneValue t v) → Stands t (length lone.before) (value_text v)
 stands t v lone = record { before = lone.before; after = lone.after; text = lone.parts; place = refl }
 
--- what is told of a value that is read so
+-- what holds of a value that is read so
 pub record IsReadAlone (t : Text) (v : Value) (lone : IsLoneValue t v) (n : Node) : Type 0 where
   pub accepted : is_accepted_value v ≡ true
   pub made : IsWellMade (owned_node t (with_decor unset n))

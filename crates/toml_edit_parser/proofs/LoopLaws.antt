@@ -107,7 +107,7 @@ at_start mode version t d rest h cut e held =
     }
 
 -- In a batch: of the statements that are left, these are here, and have the events that are left, and those are ahead, and have the text
--- behind the batch.
+-- after the batch.
 pub record Progress (mode : Mode) (version : Version) (t : Text) (d : Document) (end : BatchEnd) (behind_it : Text) (rest : List Event)
     (h : Building) : Type 0 where
   pub here : List Statement
@@ -220,7 +220,7 @@ others-are : (final : Text) (s : Statement) (rest : List Statement) → AreState
 others-are final s [] h = tt
 others-are final s (r ∷ rest) h = h.1
 
--- the events behind a statement
+-- the events after a statement
 abbrev pub events_behind : Text → Document → BatchEnd → Builder → Statement → List Statement → List Event
 events_behind t d end b s others = events_from (b.start + length (statement_text s)) others ++ last_events end (length t) d.final
 
@@ -437,13 +437,13 @@ module _ (mode : Mode) (version : Version) (t : Text) (d : Document) (end : Batc
 
 -- ---- batch after batch
 
--- how much text may be left behind a batch
+-- how much text may be left after a batch
 abbrev pub left_after : BatchEnd → Text → ℕ
 left_after MoreStatements rest = suc (length rest)
 left_after WholeText rest = 0
 left_after TooManyBrackets rest = 0
 
--- less is left behind the next
+-- less is left after the next
 pub fewer : (end : BatchEnd) (rest before : Text) → (end ≡ MoreStatements → length rest < length before)
     → left_after end rest < left_after MoreStatements before
 fewer MoreStatements rest before shorter = let less = shorter refl in omega (arith, less)

@@ -109,7 +109,7 @@ suffix-by : (source : Text) (s : Span) (c : ℕ) → get_or source s.end 0 ≡ c
     → suffix_span exact source s ≡ (if c == carriage_return then record { start = s.start; end = s.end + 1 } else s)
 suffix-by source s c e = ap (λ x. if x == carriage_return then record { start = s.start; end = s.end + 1 } else s) e
 
--- The newline stands behind the text that begins at this byte, whose span is lengthened by what the mode counts to it.
+-- The newline comes after the text that begins at this byte, whose span is lengthened by what the mode counts to it.
 suffix-is : (mode : Mode) (source : Text) (at : ℕ) (t end : Text) → Stands source (at + length t) end → IsNewline end
     ⊎ ((end ≡ []) × (length source ≡ at + length t))
     → suffix_span mode source (span_at at t) ≡ span_at at (with_return mode t end)
@@ -128,7 +128,7 @@ suffix-is exact source at t end stands (inr (e, whole)) =
     let past = get_or_past source (at + length t) 0 (omega (arith, whole)) in
     suffix-by source (span_at at t) 0 past ∙ ap (span_at at) (sym (append-nil t)) ∙ ap (λ x. span_at at (t ++ but_last x)) (sym e)
 
--- where the text behind a value ends
+-- where the text after a value ends
 frame-end : (start : ℕ) (f : Frame) (t : Text) → start + length (frame_text f t) ≡ value_at_byte start f + length t + length f.trailing
 frame-end start f t =
     let behind : Text = t ++ f.trailing in

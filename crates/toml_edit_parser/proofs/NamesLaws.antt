@@ -15,7 +15,7 @@ use Rattle.toml_edit_parser.proofs.EntryLaws.{end_of, path_rest}
 abbrev pub keys : List Segment → List Text
 keys p = map (λ s. s.key) p
 
--- What is left of a path, behind keys of these names.
+-- What is left of a path, after keys of these names.
 pub record NamesLeft (t : Text) (own : Decor) (p : List Segment) (done : List Text) (left : KeyPath) : Type 0 where
   pub start : ℕ
   pub segments : List Segment
@@ -67,7 +67,7 @@ last_left own p done new start (s ∷ g ∷ q) r all first more none =
     let k = key_passed own start s g q r.key r.rest first.1 in
     absurd (let e = sym none ∙ k.1.1 in cc)
 
--- with the name of the first key that is left, and the path behind it
+-- with the name of the first key that is left, and the path after it
 pub names-next : (t : Text) (own : Decor) (p : List Segment) (done new : List Text) (left : KeyPath) (r : PathKey) (inside : KeyPath)
     → (n : NamesLeft t own p done left)
     → IsFirstKey own n.start n.segments r → new ≡ done ++ (r.key.name ∷ []) → r.rest ≡ Some inside → NamesLeft t own p new inside

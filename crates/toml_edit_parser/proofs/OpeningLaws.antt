@@ -13,7 +13,7 @@ use Rattle.toml_edit_parser.specs.StatementParts.{line_behind, header_behind}
 use Rattle.toml_edit_parser.specs.ValueRead.{split_first, span_at}
 use Rattle.toml_edit_parser.specs.StatementRead.{IsWhole}
 
--- the first event, and those behind it
+-- the first event, and those after it
 pub first-is : (es : List Event) (x : Event) (rest : List Event) → ◌≡◌ {A = Option (Event × List Event)} (Some (x, rest)) (split_first es)
     → es ≡ x ∷ rest
 first-is [] x rest h = absurd cc

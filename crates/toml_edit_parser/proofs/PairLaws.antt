@@ -67,7 +67,7 @@ end_behind (s ∷ r ∷ rest) start e es ends =
     ap (λ (o : Option ℕ). option_map suc (option_map suc (option_map suc o))) (end_behind (r ∷ rest) (start + length (segment_text s)
     + 1) e es ends)
 
--- a path ends before what stands behind it
+-- a path ends before what comes after it
 pub path_end-is : (p : List Segment) (start : ℕ) (e : Event) (es : List Event) → ends_path e.kind ≡ true
     → path_end (path_events start p ++ (e ∷ es)) ≡ Some (length (path_events start p))
 path_end-is p start e es ends = place-position (path_events start p ++ (e ∷ es)) ∙ end_behind p start e es ends
@@ -75,7 +75,7 @@ path_end-is p start e es ends = place-position (path_events start p ++ (e ∷ es
 abbrev parts_at : Span → List Event → Span → Span → FrameParts
 parts_at leading path before after = record { leading = leading; path = path; before_equals = before; after_equals = after }
 
--- the parts behind a path, where its last key is this
+-- the parts after a path, where its last key is this
 abbrev split_by : Span → List Event → Event → Event → List Event → Event → FrameParts × List Event
 split_by leading path sign value es key = (parts_at leading path (between key.span sign.span) (between sign.span value.span), value ∷ es)
 
@@ -142,7 +142,7 @@ behind_path start f leading (x ∷ es) key e begins last ends =
           ∷ es,
     )) e
 
--- a pair is split behind its key
+-- a pair is split after its key
 frame-split : (start : ℕ) (f : Frame) (leading : Span) (es : List Event) → IsPath f.path → leading ≡ span_at start f.leading
     → BeginAt (value_at_byte start f) es
     → split_frame leading (key_events start f ++ es) ≡ Some (frame_parts start f, es)
@@ -170,7 +170,7 @@ last_at (x ∷ xs) =
     let place : suc (length xs) - 1 ≡ length xs = omega arith in
     ap (slice_get (x ∷ xs)) place ∙ last_from x xs
 
--- the parts behind a path are split off one by one
+-- the parts after a path are split off one by one
 pub frame-behind : (leading : Span) (path signs rest more : List Event) (key sign value : Event) (before after : Span) → Some key
     ≡ slice_get path (length path - 1)
     → Some (sign, rest) ≡ split_first signs → Some (value, more) ≡ split_first rest → before ≡ between key.span sign.span → after
@@ -327,7 +327,7 @@ pub frame-in : (t : Text) (leading : Span) (events : List Event) (parts : FrameP
     → FrameIn t leading events parts rest
 frame-in t leading events parts rest e h = in_of t leading events parts rest (path_end events) h e
 
--- what is behind the value is shorter than all
+-- what is after the value is shorter than all
 pub fewer-still : (t : Text) (behind inner events : List Event) (result : Result (Bor (List Event)) ParseFault)
     → length behind < length events
     → length inner < length behind → IfOk result (λ r. AreIn t r.now × (length r.now < length inner))

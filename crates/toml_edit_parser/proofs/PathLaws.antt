@@ -1,4 +1,4 @@
--- Adding at the end of a path, key by key: what is said of a part of a tree says the same of the whole.
+-- Adding at the end of a path, key by key: what holds of a part of a tree holds of the whole.
 use Rattle.std.proofs.Common.{◌≡◌, ℕ, ◌+◌, Bool, true, false, List, [], ◌∷◌, length, refl, sym, ap, ◌∙◌, subst, arith, Option, Some, None}
 use Rattle.std.proofs.Common.{option_map}
 use Rattle.std.specs.Prelude.{if◌then◌else◌, not, ◌&&◌, option_and_then, Result, Ok, Err}
@@ -93,7 +93,7 @@ last-message role (tables x xs) e = refl
 
 -- ---- a path
 
--- the first mention of a path, and the path behind it, if there is one
+-- the first mention of a path, and the path after it, if there is one
 abbrev pub IsStep : Mode → Text → Source → List (Mention Source) → PathKey → Type 0
 IsStep mode t s [] r = ⊥
 IsStep mode t s (m ∷ []) r = IsKeyOf mode s false m r.key r.span × (r.rest ≡ None)

@@ -33,7 +33,7 @@ use Rattle.toml_edit_parser.proofs.SpellingLaws.{scalar-some}
 use Rattle.toml_edit_parser.proofs.ViewLaws.{view-Value}
 use Rattle.toml_edit_model.specs.OwnedForm.{cut_out, RawFits, NodeFits, ItemsFit}
 
--- the events of an element behind the text before it
+-- the events of an element after the text before it
 abbrev pub element_tail : ℕ → ℕ → Value → Text → List Event → List Event
 element_tail level at v after more = shortened level (value_events at v ++ (event After (at + length (value_text v)) after ∷ more))
 

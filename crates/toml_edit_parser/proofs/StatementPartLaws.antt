@@ -112,7 +112,7 @@ line-value mode v start before after suffix_text more n m prefix suffix last inn
       rest_is = behind;
     }
 
--- what is behind the value is shorter than all
+-- what is after the value is shorter than all
 pub shorter : (t : Text) (inner events : List Event) (result : Result (Bor (List Event)) ParseFault) → length inner < length events
     → IfOk result (λ r. AreIn t r.now × (length r.now < length inner)) → IfOk result (λ r. AreIn t r.now × (length r.now < length events))
 shorter t inner events (Ok r) one h = (h.0, let n = h.1 in omega (arith, one, n))
@@ -133,7 +133,7 @@ behind_key start h = key_at start h + length (path_text h.path)
 abbrev pub close_at : ℕ → Header → ℕ
 close_at start h = behind_key start h + length h.closing
 
--- the events behind its path, and all behind its brackets
+-- the events after its path, and all after its brackets
 abbrev pub header_end : ℕ → Header → List Event → List Event
 header_end start h more =
     event AfterKey (behind_key start h) h.closing
@@ -161,7 +161,7 @@ pub no-header : (start : ℕ) (h : Header) (more events : List Event) (P : Type 
     ≡ split_first events → P
 no-header start h more events P is none = absurd (let e = none ∙ ap split_first (is ∙ header_whole start h more) in cc)
 
--- its path, and what stands behind that
+-- its path, and what comes after that
 pub header-path : (start : ℕ) (h : Header) (more inside : List Event) (n : ℕ) → inside ≡ path_events (key_at start h) h.path
     ++ header_end start h more
     → Some n ≡ path_end inside → (take n inside ≡ path_events (key_at start h) h.path) × (drop n inside ≡ header_end start h more)

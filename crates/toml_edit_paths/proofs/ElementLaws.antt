@@ -41,7 +41,7 @@ none-named is k xs h small = by_number (number_of k) refl
         ap (λ o. option_map (λ (x : ℕ × Node). x.0) (at_number is (listed xs) o)) e
         ∙ ap (λ o. option_map (λ (x : ℕ × Node). x.0) (kept_item is i o)) (node-behind xs i (let far = h i e in omega arith))
 
--- nor does one that names a place behind all
+-- nor does one that names a place past the last
 pub named-behind : (is : Node → Bool) (k : Text) (xs : List Item) (i : ℕ) → number_of k ≡ Some i → length xs ≤ i
     → place_named is k (listed xs) ≡ None
 named-behind is k xs i e h =

@@ -64,7 +64,7 @@ neither true o e = absurd cc
 neither false None e = (refl, refl)
 neither false (Some j) e = absurd cc
 
--- the slots behind the first have other names than it, and are so among themselves
+-- the slots after the first have other names than it, and are so among themselves
 first-others : (e : Slot Item) (es : List (Slot Item)) → IsFirstOfName (e ∷ es) → (at : ℕ) (r : Slot Item) → slice_get es at ≡ Some r
     → same_text r.key.name e.key.name ≡ false
 first-others e es h at r g = (neither (is_at r.key.name e) (place r.key.name (take at es)) (h (suc at) r g)).0

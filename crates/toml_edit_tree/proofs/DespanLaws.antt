@@ -111,7 +111,7 @@ slot_depth s = max 0 (size-Item s.item)
 pub deepest : (es : List (Slot Item)) (i : ℕ) (d : Slot Item) → i < length es → size-Item (get_or es i d).item ≤ most slot_depth es
 deepest es i d h = omega (arith, at_most slot_depth es i d h)
 
--- the same of items
+-- the depth of items, likewise
 abbrev pub item_depth : Item → ℕ
 item_depth x = size-Item x
 

@@ -41,7 +41,7 @@ table-shown t = ap slot_list (table_slots t)
 pub inline-shown : (t : InlineTable) → inline_slots_of t ≡ shown_slots (out-InlineTable t).items
 inline-shown t = ap slot_list (inline_slots t)
 
--- the same of one that is put together
+-- also where it is put together from its parts
 slots_in_table : (t : Table-F Item Value Array ArrayOfTables InlineTable Table) → see.table_slots (roll-Table t) ≡ slots_view t.slots
 slots_in_table t = search (rules, the_lemmas)
 

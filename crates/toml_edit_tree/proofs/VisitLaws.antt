@@ -1,4 +1,4 @@
--- Walks over lines: one behind the other, and what they leave the visitors with.
+-- Walks over lines: one after the other, and what they leave the visitors with.
 use Rattle.std.proofs.Common.{◌≡◌, refl, sym, ap, subst, ◌∙◌, Bool, true, false, List, [], ◌∷◌, ◌++◌}
 use Rattle.std.specs.Borrow.{MutBor}
 use Rattle.std.specs.Fmt.{WritesInCalls}
@@ -20,13 +20,13 @@ Shown = List Key × Node
 -- ---- walks
 
 module _ {V A : Type 0} {visits : V → A → Bool → V → Type 0} where
-  -- two lists, one behind the other
+  -- two lists, one after the other
   pub visits-append : {xs ys : List A} {u v w : V} {goes : Bool} → VisitsInOrder visits xs u true v → VisitsInOrder visits ys v goes w
       → VisitsInOrder visits (xs ++ ys) u goes w
   visits-append visits_none h = h
   visits-append (visits_next v p r) h = visits_next v p (visits-append r h)
 
-  -- what is behind the end of a walk isn't visited
+  -- what is after the end of a walk isn't visited
   pub visits-ended : {xs : List A} (ys : List A) {u v : V} → VisitsInOrder visits xs u false v → VisitsInOrder visits (xs ++ ys) u false v
   visits-ended ys (visits_last p) = visits_last p
   visits-ended ys (visits_next v p r) = visits_next v p (visits-ended ys r)

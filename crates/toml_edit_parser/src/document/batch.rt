@@ -97,7 +97,7 @@ pub(crate) fn refused_in(reader: &Reader<'_>, batch: Batch<'_>, fault: ParseFaul
     }
 }
 
-/// Returns the text behind a batch, if there are more statements.
+/// Returns the text after a batch, if there are more statements.
 pub(crate) fn text_ahead<'s>(batch: Batch<'s>) -> &'s str {
     match batch.end {
         BatchEnd::MoreStatements => batch.rest,

@@ -24,7 +24,7 @@ use toml_edit_tree::Item;
 /// headers.
 ///
 /// So a key line costs nothing for the path of its table. The item is the one that is being read,
-/// and is unspecified between statements. The text ahead is the one behind the batch of events that
+/// and is unspecified between statements. The text ahead is the one after the batch of events that
 /// is being read.
 #[derive(Drop)]
 pub(crate) struct Building<'s> {

@@ -1,6 +1,6 @@
 //! How much room a table, and an array of tables, is made with.
 //!
-//! It is counted in the events that follow, and estimated for what is behind their batch. Nothing
+//! It is counted in the events that follow, and estimated for what is after their batch. Nothing
 //! but memory depends on it.
 use memchr::memchr_iter;
 use toml_edit_syntax::{Event, EventKind, Span};
@@ -14,7 +14,7 @@ pub(crate) struct Behind<'a> {
     pub(crate) keys: usize,
     /// The events up to the end of the batch.
     pub(crate) events: &'a [Event],
-    /// The text behind the batch, or the empty one if that is no part of the text's statements.
+    /// The text after the batch, or the empty one if that is no part of the text's statements.
     pub(crate) ahead: &'a str,
 }
 
@@ -44,7 +44,7 @@ struct SlotCount {
 /// Returns the number of slots that a table is to have room for: one for each key line without a
 /// dot, and one for each table right below it whose header follows.
 ///
-/// If the table goes on behind the batch, it is taken to go on in the same way: up to the next
+/// If the table goes on after the batch, it is taken to go on in the same way: up to the next
 /// header, or for a root with headers to the end.
 #[inline(never)]
 pub(crate) fn room_for(behind: Behind<'_>) -> usize {
@@ -217,7 +217,7 @@ fn block_len(text: &str) -> usize {
 }
 
 /// Returns the number of slots or elements that are counted in the batch, and so many more as it
-/// lets expect in the first `goes_on` bytes of the text behind it.
+/// lets expect in the first `goes_on` bytes of the text after it.
 fn with_share(counted: usize, behind: Behind<'_>, goes_on: usize) -> usize {
     if goes_on == 0 {
         return counted;

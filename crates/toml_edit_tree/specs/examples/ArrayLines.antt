@@ -48,7 +48,7 @@ none_above : text_above newline (codes "  ") (owned_decor (codes "\n  ") (codes 
     ≡ [] ∷ [] ∷ []
 none_above = refl
 
--- the comment stays behind the value; of the lines below, those with text
+-- the comment stays after the value; of the lines below, those with text
 lines_after : text_after newline (codes "  ") (owned_decor [] (codes " # one \n\n# two\r\n "))
     ≡ codes " # one \n  # two"
 lines_after = refl
@@ -116,7 +116,7 @@ placed_after : placed (owned (codes "\n")) (between (codes " ") (codes " # c") 1
     ≡ before_comma (codes "\n") 1
 placed_after = refl
 
--- `3` with a comment above it and one behind, below the comment of the last line
+-- `3` with a comment above it and one after, below the comment of the last line
 abbrev three : Node
 three = between (codes "# about\n") (codes " # three") 3
 
@@ -131,7 +131,7 @@ at_end = refl
 fields_at_end : fields_inserted 2 three new_array two_lines ≡ new_array
 fields_at_end = refl
 
--- the comment behind the bracket stays there
+-- the comment after the bracket stays there
 at_beginning : line_inserted 0 (plain_int 0) new_array two_lines
     ≡ before_comma (codes " # list\n  ") 0 ∷ between (codes "\n  ") [] 1
     ∷ between (codes " # one\n  ") (codes " # two\n") 2 ∷ []

@@ -1,4 +1,4 @@
--- What a run has done, and what it tells of its end.
+-- What a run has done, and its status and message.
 use Rattle.std.proofs.Common.{◌≡◌, ◌⊎◌, sym, subst, ◌∙◌, inl, inr}
 use Rattle.toml_edit_command.specs.Run.{written}
 use Rattle.toml_edit_command.specs.Steps.{action_of}

@@ -1,4 +1,4 @@
--- A pair is split behind its key, step by step.
+-- A pair is split after its key, step by step.
 use Rattle.std.proofs.Common.{List, ap, take, drop, ◌∙◌}
 use Rattle.std.specs.Prelude.{option_and_then}
 use Rattle.toml_edit_syntax.specs.declared.event.Event.{Event}

@@ -1,4 +1,4 @@
--- A new key stands behind the others.
+-- A new key comes after the others.
 use Rattle.std.proofs.Common.{◌++◌, [], ◌∷◌, ap, ◌∙◌}
 use Rattle.toml_edit_model.specs.Keys.{new_key}
 use Rattle.toml_edit_model.specs.Slots.{keyed}

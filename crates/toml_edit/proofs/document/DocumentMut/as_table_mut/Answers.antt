@@ -1,4 +1,4 @@
--- The root is a table, and ends as the last table behind what is lent.
+-- The root is a table, and ends as the last table after what is lent.
 use Rattle.std.proofs.Common.{refl, rules, ap, sym, ◌∙◌}
 use Rattle.toml_edit_model.specs.Tree.{Node}
 use Rattle.toml_edit_tree.specs.View.{fields_view, item_view, table_slots}

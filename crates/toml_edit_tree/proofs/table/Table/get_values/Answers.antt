@@ -1,4 +1,4 @@
--- The lines of the table's slots, behind none.
+-- The lines of the table's slots, after none.
 use Rattle.std.proofs.Common.{ap}
 use Rattle.toml_edit_tree.specs.LineValues.{values_read}
 use Rattle.toml_edit_tree.proofs.LineValueLaws.{table-whole}
