@@ -3,14 +3,18 @@ use Rattle.std.proofs.Common.{◌≡◌, ℕ, zero, suc, ◌<◌, Bool, true, fa
 use Rattle.std.proofs.Common.{slice_get, Some, None, IsSome, option_map, option_and_then, unwrap_or, refl, sym, ap, subst}
 use Rattle.std.proofs.Common.{◌∙◌, arith}
 use Rattle.std.proofs.lemmas.List.{map-set, map-append}
+use Rattle.toml_edit_model.specs.Text.{one}
 use Rattle.toml_edit_model.specs.Tree.{Decor, Node, nothing, node_decor, is_value_node}
 use Rattle.toml_edit_model.specs.Lists.{item_list, items_from, only}
 use Rattle.toml_edit_model.specs.ArrayCalls.{inserted_at, pushed, removed_at, replaced_at, value_at, written_at}
 use Rattle.toml_edit_model.specs.Conversions.{with_decor}
 use Rattle.toml_edit_laws.proofs.slots.Places.{changed_at-set}
+use Rattle.toml_edit_tree.specs.Containers.{table_node}
 use Rattle.toml_edit_tree.specs.declared.item.Item.{Item}
+use Rattle.toml_edit_tree.specs.declared.table.Table.{Table}
+use Rattle.toml_edit_tree.specs.declared.value.Value.{Value}
 use Rattle.toml_edit_tree.specs.Elements.{listed}
-use Rattle.toml_edit_tree.specs.View.{item_view}
+use Rattle.toml_edit_tree.specs.View.{item_view, table_view, value_view}
 
 -- ---- as lists
 
@@ -91,3 +95,20 @@ pub replaced-written : (i : ℕ) (xs : List Node) (d : Decor) (v : Node) → Som
 replaced-written i [] d v e = refl
 replaced-written zero (x ∷ xs) d v e = ap (λ s. with_decor s v ∷ xs) (decor-found (is_value_node x) x d e)
 replaced-written (suc i) (x ∷ xs) d v e = ap (λ l. x ∷ l) (replaced-written i xs d v e)
+
+-- ---- one more at the end
+
+more : (xs ys : List Node) (n : Node) → (xs ++ ys) ++ n ∷ [] ≡ xs ++ (ys ++ n ∷ [])
+more [] ys n = refl
+more (x ∷ xs) ys n = ap (λ l. x ∷ l) (more xs ys n)
+
+pub value_last : (xs : List Node) (vs : List Value) (v : Value)
+    → (xs ++ map value_view vs) ++ one (value_view v) ≡ xs ++ map value_view (vs ++ v ∷ [])
+value_last xs vs v = more xs (map value_view vs) (value_view v) ∙ ap (λ l. xs ++ l) (sym (map-append value_view vs (v ∷ [])))
+
+pub table_last : (xs : List Node) (ts : List Table) (t : Table)
+    → (xs ++ map (λ s. table_node (table_view s)) ts) ++ one (table_node (table_view t)) ≡ xs
+    ++ map (λ s. table_node (table_view s)) (ts ++ t ∷ [])
+table_last xs ts t =
+    more xs (map (λ s. table_node (table_view s)) ts) (table_node (table_view t))
+    ∙ ap (λ l. xs ++ l) (sym (map-append (λ s. table_node (table_view s)) ts (t ∷ [])))
