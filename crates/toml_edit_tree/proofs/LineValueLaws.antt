@@ -1,6 +1,6 @@
 -- The keys and values of lines, slot by slot.
 use Rattle.std.proofs.Common.{◌≡◌, refl, ℕ, ◌+◌, ◌<◌, ◌≤◌, Bool, true, false, List, [], ◌∷◌, ◌++◌, length, get_or, drop, map, sym, ap, ◌∙◌}
-use Rattle.std.proofs.Common.{append_assoc, append-nil, ◌⊎◌, inl, inr, rules}
+use Rattle.std.proofs.Common.{append_assoc, append-nil, rules}
 use Rattle.std.specs.Prelude.{◌||◌, if◌then◌else◌}
 use Rattle.std.proofs.lemmas.List.{at_drop_all, map-append}
 use Rattle.toml_edit_model.specs.Iterating.{inline_values, line_value, table_values}
@@ -9,20 +9,22 @@ use Rattle.toml_edit_model.specs.Print.{Line, inside_lines, is_line_node, table_
 use Rattle.toml_edit_model.specs.Tree.{Key, Node, leaf, list, inline, table, tables, nothing, Slots, TableFields, is_value_node}
 use Rattle.toml_edit_laws.proofs.slots.Lists.{slots_from-list}
 use Rattle.toml_edit_slots.specs.declared.slots.Slot.{Slot}
+use Rattle.toml_edit_tree.specs.Containers.{tables_node}
 use Rattle.toml_edit_tree.specs.Printing.{lines_in_table, lines_of_item}
 use Rattle.toml_edit_tree.specs.SlotsOf.{inline_slots_of, slots_of}
 use Rattle.toml_edit_tree.specs.Visits.{shown_item, shown_lines}
+use Rattle.toml_edit_tree.specs.declared.array_of_tables.ArrayOfTables.{ArrayOfTables}
 use Rattle.toml_edit_tree.specs.declared.inline_table.InlineTable.{InlineTable, out-InlineTable}
 use Rattle.toml_edit_tree.specs.declared.item.Item.{Item, the_lemmas}
 use Rattle.toml_edit_tree.specs.declared.item.Item.TheVariants as items
 use Rattle.toml_edit_tree.specs.declared.table.Table.{Table, out-Table}
 use Rattle.toml_edit_tree.specs.declared.value.Value.{Value}
 use Rattle.toml_edit_tree.specs.declared.value.Value.TheVariants as values
-use Rattle.toml_edit_tree.specs.View.{inline_view, item_view, slots_view, table_view, value_view}
+use Rattle.toml_edit_tree.specs.View.{inline_view, item_view, slots_view, table_view, tables_view, value_view}
 use Rattle.toml_edit_tree.proofs.PairTextLaws.{one-line}
 use Rattle.toml_edit_tree.proofs.TurnLaws.{from-slot, from-slot-in-table, value-node}
 use Rattle.toml_edit_tree.proofs.ValueLines.{braced-line, dotted-value, other-line}
-use Rattle.toml_edit_tree.proofs.ViewLaws.{inline_slots, table_slots, view-Table, view-Value}
+use Rattle.toml_edit_tree.proofs.ViewLaws.{inline_slots, table_slots, view-ArrayOfTables, view-None, view-Table, view-Value}
 
 abbrev pub Shown : Type 0
 Shown = List Key × Node
@@ -105,14 +107,6 @@ table-shown is_inside x t ks is enters =
     ∙ table-lines is_inside (table_view t).fields (table_view t).slots ks (ap (λ (b : Bool). is_inside || b) (table-dotted t) ∙ enters)
     ∙ sym (ap (λ (n : Node). shown_item is_inside n ks) (ap item_view is ∙ view-Table t))
 
--- as either test says
-pub either-true : (a b : Bool) → (a ≡ true) ⊎ ((a ≡ false) × (b ≡ true)) → a || b ≡ true
-either-true a b h =
-    elim h [
-      | inl e ↦ ap (λ (c : Bool). c || b) e
-      | inr p ↦ ap (λ (c : Bool). c || b) p.0 ∙ p.1
-    ]
-
 -- any other has none there
 table-left : (f : TableFields) (ss : Slots) (ks : List Key) → f.is_dotted ≡ false → [] ≡ shown_item false (table f ss) ks
 table-left f ss ks h = sym (ap (λ (b : Bool). map line_value (if b then table_lines plain ss ks else [])) h)
@@ -123,6 +117,26 @@ table-left-out is_inside x t ks is outside h =
     table-left (table_view t).fields (table_view t).slots ks (table-dotted t ∙ h)
     ∙ sym (ap (λ (n : Node). shown_item false n ks) (ap item_view is ∙ view-Table t))
     ∙ ap (λ (b : Bool). shown_item b (item_view x) ks) (sym outside)
+
+-- anything else has none anywhere
+pub nothing-shown : (is_inside : Bool) (x : Item) (ks : List Key) → x ≡ items.None → [] ≡ shown_item is_inside (item_view x) ks
+nothing-shown is_inside x ks is =
+    sym (ap (λ (y : Item). shown_item is_inside (item_view y) ks) is ∙ ap (λ (n : Node). shown_item is_inside n ks) view-None
+    ∙ by_place is_inside)
+  where
+    by_place : (b : Bool) → shown_item b nothing ks ≡ []
+    by_place true = refl
+    by_place false = refl
+
+pub tables-shown : (is_inside : Bool) (x : Item) (a : ArrayOfTables) (ks : List Key) → x ≡ items.ArrayOfTables a
+    → [] ≡ shown_item is_inside (item_view x) ks
+tables-shown is_inside x a ks is =
+    sym (ap (λ (y : Item). shown_item is_inside (item_view y) ks) is ∙ ap (λ (n : Node). shown_item is_inside n ks) (view-ArrayOfTables a)
+    ∙ by_place is_inside)
+  where
+    by_place : (b : Bool) → shown_item b (tables_node (tables_view a)) ks ≡ []
+    by_place true = refl
+    by_place false = refl
 
 -- ---- a value
 

@@ -7,7 +7,7 @@ use Rattle.toml_edit_model.specs.Mode.{Mode}
 use Rattle.toml_edit_model.specs.Tree.{Decor, Items, Key, Node, is_value_node, item}
 use Rattle.toml_edit_model.specs.Print.{Line, inside_lines, table_lines}
 use Rattle.toml_edit_slots.specs.declared.slots.Slot.{Slot}
-use Rattle.toml_edit_tree.specs.Printing.{lines_in_table, lines_of_item}
+use Rattle.toml_edit_tree.specs.Printing.{lines_in_table, lines_of_item, node_text}
 use Rattle.toml_edit_tree.specs.declared.array.Array.{Array}
 use Rattle.toml_edit_tree.specs.declared.array_of_tables.ArrayOfTables.{ArrayOfTables}
 use Rattle.toml_edit_tree.specs.declared.inline_table.InlineTable.{InlineTable}
@@ -21,7 +21,7 @@ use Rattle.toml_edit_tree.specs.View.{item_view, items_view, slots_view, value_v
 use Rattle.toml_edit_laws.proofs.print_by_visits.PairTexts.{last_shown-append, pairs_shown-append}
 use Rattle.toml_edit_laws.proofs.print_by_visits.ValueTexts.{value-is}
 use Rattle.toml_edit_tree.proofs.ViewLaws.{view-Value}
-use Rattle.toml_edit_laws.specs.PrintByVisits.{last_comma, last_shown, element_text, pairs_shown, written_items}
+use Rattle.toml_edit_laws.specs.PrintByVisits.{last_comma, last_shown, element_text, pairs_shown, written_items, written_value}
 
 -- ---- items
 

@@ -3,10 +3,10 @@ use Rattle.std.proofs.Common.{◌≡◌, Bool, true, false, List, [], ◌++◌, 
 use Rattle.std.specs.Prelude.{codes, not}
 use Rattle.toml_edit_model.specs.Text.{Text}
 use Rattle.toml_edit_model.specs.Mode.{Mode}
-use Rattle.toml_edit_model.specs.Tree.{Decor, Raw, shown_raw}
-use Rattle.toml_edit_model.specs.Print.{Line, inside_lines, is_line_node}
+use Rattle.toml_edit_model.specs.Tree.{Decor, Key, InlineFields, Raw, Slots, inline, shown_raw}
+use Rattle.toml_edit_model.specs.Print.{Line, inside_lines, is_line_node, line_of, value_of}
 use Rattle.toml_edit_tree.specs.Containers.{array_node, inline_node}
-use Rattle.toml_edit_tree.specs.Printing.{node_text}
+use Rattle.toml_edit_tree.specs.Printing.{lines_of_item, node_text}
 use Rattle.toml_edit_tree.specs.declared.array.Array.{Array, out-Array}
 use Rattle.toml_edit_tree.specs.declared.array_of_tables.ArrayOfTables.{ArrayOfTables}
 use Rattle.toml_edit_tree.specs.declared.inline_table.InlineTable.{InlineTable, out-InlineTable}
@@ -62,6 +62,20 @@ braced-line v t is braced =
     ap (λ x. is_line_node (value_view x)) is ∙ ap is_line_node (view-InlineTable t) ∙ ap not (inline-dotted t ∙ braced)
 
 module _ (mode : Mode) where
+  -- a dotted one has its lines
+  dotted-lines : (f : InlineFields) (ss : Slots) (ks : List Key) → f.is_dotted ≡ true
+      → lines_of_item mode (inline f ss) ks ≡ inside_lines mode ss ks
+  dotted-lines f ss ks h =
+      ap (λ (b : Bool). elim (not b) [ true ↦ line_of ks (inline f ss) (value_of mode (inline f ss)) | false ↦ inside_lines mode ss ks ]) h
+
+  pub dotted-value : (v : Value) (t : InlineTable) (ks : List Key) → v ≡ values.InlineTable t → (out-InlineTable t).dotted ≡ true
+      → lines_of_item mode (value_view v) ks ≡ inside_lines mode (slots_view (out-InlineTable t).items) ks
+  dotted-value v t ks is dotted =
+      ap (λ x. lines_of_item mode (value_view x) ks) is
+      ∙ ap (λ n. lines_of_item mode n ks) (view-InlineTable t)
+      ∙ dotted-lines (inline_view t).fields (inline_view t).slots ks (inline-dotted t ∙ dotted)
+      ∙ ap (λ ss. inside_lines mode ss ks) (inline_slots t)
+
   -- ---- the texts of containers, by their fields
 
   pub array-text : (a : Array)

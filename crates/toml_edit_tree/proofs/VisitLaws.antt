@@ -9,9 +9,8 @@ use Rattle.toml_edit_model.specs.Mode.{Mode, plain}
 use Rattle.toml_edit_model.specs.Print.{Line, dotted_lines, inside_lines, is_line_node, line_of, lines_inside, table_lines, value_of}
 use Rattle.toml_edit_model.specs.Text.{Text, is_empty, joined}
 use Rattle.toml_edit_model.specs.Tree.{Key, Node, nothing, leaf, list, inline, table, tables, Slots, no_slots, slot}
-use Rattle.toml_edit_laws.specs.PrintByVisits.{has_lines}
+use Rattle.toml_edit_laws.specs.PrintByVisits.{has_lines, lines_text}
 use Rattle.toml_edit_laws.proofs.print_by_visits.ValueTexts.{lines-some}
-use Rattle.toml_edit_tree.specs.Printing.{lines_text}
 use Rattle.toml_edit_tree.specs.Visits.{PutsLine, VisitsInOrder, visits_none, visits_last, visits_next, line_text, shown_lines}
 
 abbrev pub Shown : Type 0

@@ -1,5 +1,5 @@
 -- The text of a value, the lines of an item, and the keys before them.
-use Rattle.std.specs.Prelude.{Bool, true, false, List, [], ◌∷◌, ◌++◌}
+use Rattle.std.specs.Prelude.{true, false, List, [], ◌∷◌, ◌++◌}
 use Rattle.toml_edit_model.specs.Text.{Text}
 use Rattle.toml_edit_model.specs.Syntax.{value_text}
 use Rattle.toml_edit_model.specs.Mode.{Mode}
@@ -12,7 +12,6 @@ use Rattle.toml_edit_tree.specs.declared.encode.Path as paths
 abbrev pub keys_on : paths.Path → List Key
 keys_on paths.Root = []
 keys_on (paths.Under' p up key) = keys_on up ++ (key.now ∷ [])
-
 
 -- ---- in a mode
 

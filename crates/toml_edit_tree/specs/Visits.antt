@@ -1,10 +1,10 @@
 -- What a walk over the lines of a table visits, and how it leaves its visitor.
-use Rattle.std.specs.Prelude.{◌≡◌, ℕ, Bool, true, false, List, [], ◌∷◌, map, if◌then◌else◌}
+use Rattle.std.specs.Prelude.{◌≡◌, Bool, true, false, List, [], ◌∷◌, map, if◌then◌else◌}
 use Rattle.std.specs.Borrow.{MutBor}
 use Rattle.std.specs.Fmt.{WritesInCalls}
 use Rattle.toml_edit_model.specs.Iterating.{line_value}
 use Rattle.toml_edit_model.specs.Mode.{Mode, plain}
-use Rattle.toml_edit_model.specs.Print.{Line, inside_lines, line_statement, table_lines, value_of}
+use Rattle.toml_edit_model.specs.Print.{inside_lines, line_statement, table_lines, value_of}
 use Rattle.toml_edit_model.specs.Syntax.{statement_text}
 use Rattle.toml_edit_model.specs.Text.{Text}
 use Rattle.toml_edit_model.specs.Tree.{Key, Node, Slots}

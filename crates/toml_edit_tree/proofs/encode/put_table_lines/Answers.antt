@@ -1,10 +1,9 @@
 -- The lines that are visited are put.
-use Rattle.std.proofs.Common.{refl, rules}
+use Rattle.std.proofs.Common.{[], false, refl, rules}
 use Rattle.toml_edit_io.proofs.Puts.{put_same}
 use Rattle.toml_edit_repr.specs.Modes.{mode_of}
 use Rattle.toml_edit_tree.specs.View.{table_slots}
 use Rattle.toml_edit_tree.specs.Visits.{shown_lines}
-use Rattle.toml_edit_tree.specs.declared.encode.PutLines.{PutLines}
 use Rattle.toml_edit_tree.proofs.VisitLaws.{lines-put, lines-shown, same-sink}
 use Rattle.toml_edit_tree.proofs.encode.put_table_lines.Goals as goal
 

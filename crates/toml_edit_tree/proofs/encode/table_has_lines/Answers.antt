@@ -1,4 +1,5 @@
 -- A walk ends at the first line, if there is one.
+use Rattle.std.proofs.Common.{[], false}
 use Rattle.toml_edit_tree.specs.View.{table_slots}
 use Rattle.toml_edit_tree.specs.Visits.{shown_lines}
 use Rattle.toml_edit_tree.proofs.VisitLaws.{first-ends, some-lines}

@@ -1,14 +1,16 @@
 -- Each turn visits the lines of a slot.
-use Rattle.std.proofs.Common.{◌+◌, ◌<◌, ◌≤◌, drop, refl, List, [], ◌∷◌, ◌++◌, length, ap, ◌∙◌, arith}
+use Rattle.std.proofs.Common.{◌+◌, ◌<◌, ◌≤◌, drop, refl, sym, Bool, true, false, List, [], ◌∷◌, ◌++◌, length, ap, ◌∙◌, inl, inr, arith}
+use Rattle.std.specs.Prelude.{◌≡◌, ◌||◌}
 use Rattle.toml_edit_slots.specs.declared.slots.Slot.{Slot}
 use Rattle.toml_edit_tree.specs.Printing.{keys_on}
 use Rattle.toml_edit_tree.specs.View.{item_view, slots_view}
-use Rattle.toml_edit_tree.specs.Visits.{VisitsInOrder, visits_none, shown_item, shown_lines}
+use Rattle.toml_edit_tree.specs.Visits.{visits_none, shown_item, shown_lines}
 use Rattle.toml_edit_tree.specs.declared.item.Item.{Item}
-use Rattle.toml_edit_tree.proofs.LineValueLaws.{braced-shown, dotted-shown, either-true, other-shown, shown-end, shown-turn, table-left-out}
-use Rattle.toml_edit_tree.proofs.LineValueLaws.{table-shown, value-shown}
+use Rattle.toml_edit_tree.proofs.LineValueLaws.{braced-shown, dotted-shown, nothing-shown, other-shown, shown-end, shown-turn, table-left-out}
+use Rattle.toml_edit_tree.proofs.LineValueLaws.{table-shown, tables-shown, value-shown}
 use Rattle.toml_edit_tree.proofs.VisitLaws.{visits-append, visits-ended, visits-goes, visits-one, visits-same}
 use Rattle.toml_edit_tree.proofs.visit.+visit.Goals as goal
+use Rattle.toml_edit_tree.proofs.visit.+visit.Goals.{visit_item-then-is_inside, visit_item-else-is_inside}
 
 pub visit_slots-slots-init : goal.visit_slots-slots-init
 visit_slots-slots-init g t c = ([], visits_none, refl)
@@ -56,15 +58,43 @@ visit_item-returns-in-Value g t c =
 
 pub visit_item-returns-then-table : goal.visit_item-returns-then-table
 visit_item-returns-then-table g t c =
+    let enters : c.args.is_inside || c.in-Table.table.dotted ≡ true =
+    elim c.if-is_inside.branch [
+      | visit_item-then-is_inside w ↦ ap (λ (b : Bool). b || c.in-Table.table.dotted) w.if-is_inside.true
+      | visit_item-else-is_inside w ↦
+          ap (λ (b : Bool). b || c.in-Table.table.dotted) w.if-is_inside.false ∙ sym w.value-is ∙ c.if-table.true
+    ] in
     visits-same _ _ c.visit_slots.ensures
-    (table-shown c.args.is_inside c.args.item.now c.in-Table.table (keys_on c.args.path.now ++ (c.args.key.now ∷ [])) c.in-Table.is
-    (either-true _ _ c.if-table.either))
+    (table-shown c.args.is_inside c.args.item.now c.in-Table.table (keys_on c.args.path.now ++ (c.args.key.now ∷ [])) c.in-Table.is enters)
 
 pub visit_item-returns-else-table : goal.visit_item-returns-else-table
 visit_item-returns-else-table g t c =
+    let left = λ (outside : c.args.is_inside ≡ false) (dotted : c.in-Table.table.dotted ≡ false).
+    table-left-out c.args.is_inside c.args.item.now c.in-Table.table (keys_on c.args.path.now ++ (c.args.key.now ∷ [])) c.in-Table.is
+    outside dotted in
     visits-same _ _ visits_none
-    (table-left-out c.args.is_inside c.args.item.now c.in-Table.table (keys_on c.args.path.now ++ (c.args.key.now ∷ [])) c.in-Table.is
-    c.if-table.false.0 c.if-table.false.1)
+    (elim c.if-is_inside.branch [
+      | visit_item-then-is_inside w ↦ absurd (let e : true ≡ false = sym w.if-is_inside.true ∙ sym w.value-is ∙ c.if-table.false in cc)
+      | visit_item-else-is_inside w ↦ left w.if-is_inside.false (sym w.value-is ∙ c.if-table.false)
+    ])
+
+pub visit_item-returns-in-None : goal.visit_item-returns-in-None
+visit_item-returns-in-None g t c =
+    let ks = keys_on c.args.path.now ++ (c.args.key.now ∷ []) in
+    visits-same _ _ visits_none
+    (elim c.in-None.is [
+      | inl e ↦ nothing-shown c.args.is_inside c.args.item.now ks e
+      | inr p ↦ tables-shown c.args.is_inside c.args.item.now p.0 ks p.1
+    ])
+
+pub visit_item-returns-in-None-2 : goal.visit_item-returns-in-None-2
+visit_item-returns-in-None-2 g t c =
+    let ks = keys_on c.args.path.now ++ (c.args.key.now ∷ []) in
+    visits-same _ _ visits_none
+    (elim c.in-None.is [
+      | inl e ↦ nothing-shown c.args.is_inside c.args.item.now ks e
+      | inr p ↦ tables-shown c.args.is_inside c.args.item.now p.0 ks p.1
+    ])
 
 pub visit_value-returns-then-table : goal.visit_value-returns-then-table
 visit_value-returns-then-table g t c =
