@@ -13,7 +13,7 @@ pub fn answer(row: Row<'_>, out: &mut Answer) {
     match row.question {
         "events" => events::all(row.text(), out),
         "last_event" => events::last(row.text(), out),
-        "every_cut_ends" => run::every_cut_ends(row.text(), out),
+        "accepted_cuts" => run::accepted_cuts(row.text(), out),
         "line_columns" => line_columns(row.text(), out),
         "from_str_prints" | "from_str_at" | "from_str_error" => {
             steps::read::<Texts, _>(DocumentMut::from_str(out.alloc, row.text()), row, out);

@@ -70,11 +70,11 @@ fn bytes(bytes: &[u8], out: &mut Answer) {
     }
 }
 
-/// Writes whether `print` ends with status 0 or 1 on each beginning of the text, and with 1 on one
-/// that ends inside a character.
-pub fn every_cut_ends(text: &str, out: &mut Answer) {
+/// Writes the lengths of the beginnings of the text that `print` accepts. It ends with status 1 on
+/// each other one, or the status is written too.
+pub fn accepted_cuts(text: &str, out: &mut Answer) {
     match print_word(out.alloc) {
-        Ok(words) => out.told(cuts_end(out.alloc, words.as_slice(), text)),
+        Ok(words) => tell_cuts(words.as_slice(), text, out),
         Err(_) => out.refuse(),
     }
 }
@@ -85,14 +85,27 @@ fn print_word(alloc: Global) -> Mem<Vec<String>> {
     Ok(words)
 }
 
-fn cuts_end(alloc: Global, words: &[String], text: &str) -> Mem<bool> {
+fn tell_cuts(words: &[String], text: &str, out: &mut Answer) {
+    let mut between = "";
     for length in 0..text.len() {
-        let status = cut_status(alloc, words, text.as_bytes(), length)?;
-        if status != 1 && (status != 0 || !text.is_char_boundary(length)) {
-            return Ok(false);
+        let status = match cut_status(out.alloc, words, text.as_bytes(), length) {
+            Ok(status) => status,
+            Err(_) => return out.refuse(),
+        };
+        if status != 1 {
+            out.text(between);
+            tell_cut(length, status, out);
+            between = " ";
         }
     }
-    Ok(true)
+}
+
+fn tell_cut(length: usize, status: u8, out: &mut Answer) {
+    out.shown(&length);
+    if status != 0 {
+        out.text(": status ");
+        out.shown(&status);
+    }
 }
 
 fn cut_status(alloc: Global, words: &[String], text: &[u8], length: usize) -> Mem<u8> {

@@ -1,8 +1,10 @@
-//! Rows: how they are read, tried and reported, and the questions on values and keys that more than
-//! one program of rows has.
+//! Rows: how they are read, tried and reported, and the questions on values and keys, and the steps
+//! with arrays, that more than one program of rows has.
 #![tactic(auto)]
 
 mod answer;
+pub mod array;
+mod array_lines;
 mod bites;
 pub mod date_time;
 pub mod key;

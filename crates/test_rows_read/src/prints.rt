@@ -3,7 +3,7 @@ use crate::answer::Answer;
 use crate::bites::Bites;
 use crate::refusal;
 use std::alloc::Global;
-use toml_edit::{DocumentMut, Mem, PrintFault, Watched};
+use toml_edit::{DocumentMut, Mem, ParseOptions, PrintFault, Watched};
 
 /// Writes the print, if an output gets it too, whether this takes one byte at a time, three, or
 /// all.
@@ -38,16 +38,17 @@ fn in_bites(alloc: Global, document: &DocumentMut, most: usize) -> Result<Vec<u8
     Ok(held)
 }
 
-/// Writes whether the print, parsed again, prints as itself.
+/// Writes whether the print, parsed again in the mode of the document, prints as itself.
 pub fn settles(document: &DocumentMut, out: &mut Answer) {
     match document.print(out.alloc) {
-        Ok(text) => comes_back(text.as_str(), out),
+        Ok(text) => comes_back(text.as_str(), document.is_exact(), out),
         Err(_) => out.refuse(),
     }
 }
 
-fn comes_back(text: &str, out: &mut Answer) {
-    match DocumentMut::from_str(out.alloc, text) {
+fn comes_back(text: &str, is_exact: bool, out: &mut Answer) {
+    let options = ParseOptions::new().exact(is_exact);
+    match DocumentMut::from_str_with(out.alloc, text, options) {
         Ok(document) => is_text(document.print(out.alloc), text, out),
         Err(fault) => refusal::answer(&fault, "settles", out),
     }

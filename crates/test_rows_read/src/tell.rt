@@ -110,15 +110,8 @@ pub fn tell_inserted(inserted: Result<(), Refused<Slot<Item>>>, out: &mut Answer
             tell_slot(&slot.key, &slot.item, out);
             drop(slot);
         }
-        Err(Refused::NoMemory(slot)) => give_back(slot, out),
+        Err(Refused::NoMemory(slot)) => out.given_back(NoMemory(slot)),
     }
-}
-
-/// Notes that memory ran out for the insertion of a slot.
-fn give_back(slot: Slot<Item>, out: &mut Answer) {
-    let Slot { key, item } = slot;
-    drop(key);
-    out.given_back(NoMemory(item));
 }
 
 /// Writes the slot that was found, if one was.

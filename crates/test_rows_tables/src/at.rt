@@ -1,8 +1,9 @@
 //! Items of a document that are found, set and removed by their paths.
 use crate::table;
 use serde_json::Value as Json;
+use std::mem;
 use test_rows_read::steps::{behind, word};
-use test_rows_read::tell::Told;
+use test_rows_read::tell::{Told, tell_taken};
 use test_rows_read::{Answer, make};
 use toml_edit::{ChangeFault, DocumentMut, Item, Key, Value};
 
@@ -22,7 +23,7 @@ fn tell(found: Option<&Item>, words: &[Json], out: &mut Answer) {
     }
 }
 
-/// Sets or removes what is at the path that the second word spells.
+/// Sets, changes or removes what is at the path that the second word spells.
 pub fn change(document: &mut DocumentMut, words: &[Json], out: &mut Answer) {
     match make::path(word(words, 1), out) {
         Some(path) => change_at(document, path.as_slice(), words, out),
@@ -33,9 +34,15 @@ pub fn change(document: &mut DocumentMut, words: &[Json], out: &mut Answer) {
 fn change_at(document: &mut DocumentMut, path: &[Key], words: &[Json], out: &mut Answer) {
     match word(words, 0) {
         "remove_at" => tell_changed(document.remove_at(path), out),
+        "change_at" => tell_taken(document.change_at(path, |item| to_zero(item)), out),
         "set_at" => set(document, path, make::value(behind(words, 2), out), out),
         _ => set_with_headers(document, path, make::value(behind(words, 2), out), out),
     }
+}
+
+/// Writes the value 0 over the item, and returns the old one.
+fn to_zero(item: &mut Item) -> Item {
+    mem::replace(item, toml_edit::value(0_i64))
 }
 
 fn set(document: &mut DocumentMut, path: &[Key], made: Option<Value>, out: &mut Answer) {

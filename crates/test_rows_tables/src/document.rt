@@ -18,9 +18,8 @@ pub fn answer(row: Row<'_>, out: &mut Answer) {
     }
 }
 
-/// Answers rows on the text of a document whose line endings are kept.
-pub fn exact(row: Row<'_>, out: &mut Answer) {
-    let options = ParseOptions::new().exact(true);
+/// Answers rows on the text of a document that is parsed by these options.
+pub fn by_options(options: ParseOptions, row: Row<'_>, out: &mut Answer) {
     match row.question {
         "from_str_prints" => steps::read::<Tables, _>(
             DocumentMut::from_str_with(out.alloc, row.text(), options),
@@ -60,7 +59,7 @@ fn read(read: Result<Document<&str>, ParseFault>, row: Row<'_>, out: &mut Answer
 fn root(document: Document<&str>, row: Row<'_>, out: &mut Answer) {
     match row.question {
         "into_item" => steps::stepped::<Tables, _>(document.into_item(), row, out),
-        "root_prints" => {
+        "root_prints" | "root_fits" => {
             steps::stepped::<Tables, _>(DocumentMut::from(document.into_table()), row, out);
         }
         _ => owning(document.into_mut(out.alloc), row, out),
@@ -107,7 +106,9 @@ impl Tries<DocumentMut> for Tables {
             "clone" => copied::<Tables, _>(document.clone(out.alloc), rest, out),
             "as_table_mut" => table::change(document.as_table_mut(), rest, out),
             "index_or_insert" => indexing::go_into(document, words, out),
-            "set_at" | "set_at_with_headers" | "remove_at" => at::change(document, words, out),
+            "set_at" | "set_at_with_headers" | "remove_at" | "change_at" => {
+                at::change(document, words, out);
+            }
             "set_exact" => document.set_exact(is_true(words)),
             "set_open_end" => document.set_open_end(is_true(words)),
             "set_trailing" => {
@@ -123,7 +124,7 @@ impl Tries<DocumentMut> for Tables {
         match question {
             "steps" => {}
             "settles" => prints::settles(document, out),
-            "fits" => out.told(document.fits(out.alloc)),
+            "fits" | "root_fits" => out.told(document.fits(out.alloc)),
             _ if question.ends_with("prints") => prints::answer(document, out),
             _ => refusal::of_accepted(question, out),
         }

@@ -2,9 +2,16 @@
 use crate::{document, table};
 use test_rows_read::make::{self, Reads};
 use test_rows_read::{Answer, Program, Row};
-use toml_edit::{DocumentMut, Table};
+use toml_edit::{DocumentMut, ParseOptions, Table, Version};
 
-const KINDS: [&str; 5] = ["text", "exact_text", "document", "item", "value"];
+const KINDS: [&str; 6] = [
+    "text",
+    "exact_text",
+    "strict_text",
+    "document",
+    "item",
+    "value",
+];
 
 /// The program that tries rows on tables.
 pub struct Tables;
@@ -17,7 +24,10 @@ impl Program for Tables {
     fn answer(row: Row<'_>, out: &mut Answer) {
         match row.kind {
             "text" => document::answer(row, out),
-            "exact_text" => document::exact(row, out),
+            "exact_text" => document::by_options(ParseOptions::new().exact(true), row, out),
+            "strict_text" => {
+                document::by_options(ParseOptions::new().version(Version::V1_0), row, out);
+            }
             "document" => document::empty(row, out),
             "item" => table::answer(row, out),
             _ => table::read(row, out),

@@ -4,7 +4,7 @@ use serde_json::Value as Json;
 use test_rows_read::steps::{behind, index, word};
 use test_rows_read::tell::{tell_inserted, tell_renamed};
 use test_rows_read::{Answer, make};
-use toml_edit::{Item, Key, Table};
+use toml_edit::{Item, Key, Slot, Table};
 
 /// Renames or moves a key, or inserts a slot. Reports a place where the call may not be made.
 pub fn change(table: &mut Table, words: &[Json], out: &mut Answer) {
@@ -32,6 +32,7 @@ fn move_to(table: &mut Table, key: &str, at: usize, out: &mut Answer) {
 fn insert_at(table: &mut Table, at: usize, key: Option<Key>, made: Option<Item>, out: &mut Answer) {
     match (key, made) {
         (Some(key), Some(item)) if at <= table.slots() => {
+            let Slot { key, item } = out.handed(Slot { key, item });
             tell_inserted(table.insert_at(at, key, item), out);
         }
         _ => out.text("none"),

@@ -3,7 +3,7 @@ use crate::program::Tables;
 use crate::{convert, document, indexing, item, slots, tables};
 use serde_json::Value as Json;
 use test_rows_read::steps::{Asks, Tries, behind, copied, word};
-use test_rows_read::{Answer, Row, key, lines, make, refusal, steps, value};
+use test_rows_read::{Answer, Row, array, key, lines, make, refusal, steps, value};
 use toml_edit::{ArrayOfTables, FromStr, Item, Table, Value};
 
 /// Answers rows on an item that is made from the row's words.
@@ -294,6 +294,7 @@ fn change_item(item: &mut Item, words: &[Json], out: &mut Answer) {
             None => out.text("none"),
         },
         "as_array_of_tables_mut" => tables::change_found(item.as_array_of_tables_mut(), rest, out),
+        "item_as_array_mut" => array::change_found(item.as_array_mut(), rest, out),
         "as_value_mut" => match item.as_value_mut() {
             Some(value) => value::change(value, rest, out),
             None => out.text("none"),

@@ -1,10 +1,10 @@
 //! Rows on items that hold a value, or a table of either kind.
 use crate::program::Values;
-use crate::{array, inline_table, table_like, value};
+use crate::{inline_table, table_like, value};
 use serde_json::Value as Json;
 use test_rows_read::steps::{Tries, behind, word};
 use test_rows_read::tell::tell_old;
-use test_rows_read::{Answer, Row, make, refusal, steps, value as asked};
+use test_rows_read::{Answer, Row, array, make, refusal, steps, value as asked};
 use toml_edit::{AsTableLike, Item, Key, Table};
 
 /// Answers rows on an item that is made from the row's words.

@@ -5,13 +5,11 @@
 //! of rows that hold.
 #![tactic(auto)]
 
-mod array;
 mod document;
 mod inline_entry;
 mod inline_slot;
 mod inline_table;
 mod item;
-mod lines;
 mod program;
 mod rearrange;
 mod table_like;

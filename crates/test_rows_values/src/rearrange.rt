@@ -4,7 +4,7 @@ use serde_json::Value as Json;
 use test_rows_read::steps::{behind, index, word};
 use test_rows_read::tell::{tell_inserted, tell_renamed};
 use test_rows_read::{Answer, make};
-use toml_edit::{InlineTable, Item, Key};
+use toml_edit::{InlineTable, Item, Key, Slot};
 
 /// Renames or moves a key, or inserts a slot. Reports a place where the call may not be made.
 pub fn change(table: &mut InlineTable, words: &[Json], out: &mut Answer) {
@@ -37,8 +37,16 @@ fn insert_at(
     out: &mut Answer,
 ) {
     match (key, made) {
-        (Some(key), Some(Item::Value(value))) if at <= table.slots() => {
-            tell_inserted(table.insert_at(at, key, value), out);
+        (Some(key), Some(item)) if at <= table.slots() => {
+            let Slot { key, item } = out.handed(Slot { key, item });
+            match item {
+                Item::Value(value) => tell_inserted(table.insert_at(at, key, value), out),
+                other => {
+                    drop(key);
+                    drop(other);
+                    out.text("none");
+                }
+            }
         }
         _ => out.text("none"),
     }

@@ -1,10 +1,10 @@
 //! Rows on lone values, and on arrays and inline tables that are made.
+use crate::inline_table;
 use crate::program::Values;
-use crate::{array, inline_table};
 use serde_json::Value as Json;
 use test_rows_read::steps::{Tries, behind, word};
 use test_rows_read::tell::tell_given;
-use test_rows_read::{Answer, Row, make, refusal, steps, value};
+use test_rows_read::{Answer, Row, array, make, refusal, steps, value};
 use toml_edit::{Array, FromStr, InlineTable, Value};
 
 /// Answers rows on a value.

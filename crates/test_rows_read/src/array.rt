@@ -1,13 +1,14 @@
 //! Steps that change arrays.
-use crate::lines;
+use crate::answer::Answer;
+use crate::steps::{behind, index, word};
+use crate::tell::{set_none, tell_given, write};
+use crate::value::change_decor;
+use crate::{array_lines, list, make};
 use serde_json::Value as Json;
 use std::alloc::Global;
 use std::cmp::Ordering;
-use test_rows_read::steps::{behind, index, word};
-use test_rows_read::tell::{set_none, tell_given, write};
-use test_rows_read::value::change_decor;
-use test_rows_read::{Answer, list, make};
-use toml_edit::{Array, Mem, Value};
+use toml_edit_repr::Mem;
+use toml_edit_tree::{Array, Value};
 
 /// Makes a step with an array, if there is one.
 pub fn change_found(array: Option<&mut Array>, words: &[Json], out: &mut Answer) {
@@ -36,7 +37,7 @@ fn change(array: &mut Array, words: &[Json], out: &mut Answer) {
             put_at(array, words, make::value(behind(words, 2), out), out);
         }
         "remove" => remove(array, index(words), out),
-        "push_line" | "insert_line" | "remove_line" => lines::change(array, words, out),
+        "push_line" | "insert_line" | "remove_line" => array_lines::change(array, words, out),
         "get_mut" => lend(array, words, make::value(behind(words, 2), out), out),
         "slot_at_mut" => set_none(array.slot_at_mut(index(words)), out),
         "element_decor_mut" => change_decor_of(array.get_mut(index(words)), behind(words, 2), out),

@@ -1,8 +1,9 @@
 //! Values of an array that are put in and taken out with their lines.
+use crate::answer::Answer;
+use crate::make;
+use crate::steps::{behind, index, word};
 use serde_json::Value as Json;
-use test_rows_read::steps::{behind, index, word};
-use test_rows_read::{Answer, make};
-use toml_edit::{Array, Value};
+use toml_edit_tree::{Array, Value};
 
 /// Puts a value in, or takes one out. Reports a place where the call may not be made.
 pub fn change(array: &mut Array, words: &[Json], out: &mut Answer) {
