@@ -10,6 +10,8 @@
 - Each example of a doc comment is in the function that the comment names.
 - Links, their anchors, paths in backticks, and pages that sources name lead somewhere.
 - Numbers that are marked, as `2,385<!-- rows -->`, are those of the repository. One that ends in zeros is a rounded one.
+- Pages say how many must-fail edits, tests and rows there are, so that none is lost unseen.
+- Each must-fail edit still fits: its file is there, has the old text once, and is changed in no more than one function.
 - The list of files that share code, in DECISIONS between two comments, is that of tools/duplicates.py.
 - Pages are not too large, no sentence is too long, and no word of tools/words.txt is used.
 """
@@ -37,6 +39,8 @@ ALL = 140000
 REFERENCES = ("crates/*", "docs/api/*")
 WORDS = 35
 ROWS = ("test_rows", "test_rows_tables", "test_rows_values")
+# Of what some page says how many there are.
+SAID = ("edits", "tests", "rows", *("rows of " + program for program in ROWS))
 PATH = re.compile(r"(?<![\w./*-])(?:crates|docs|bench|tools|\.ci)/[\w*./-]*[\w*]")
 
 
@@ -229,15 +233,43 @@ class Check:
         return [file for file in self.files if fnmatch.fnmatch(file, pattern)]
 
     def counts(self):
-        """Marked numbers are true."""
-        found = self.numbers()
+        """Marked numbers are true, and those of what is easily lost are marked."""
+        found, said = self.numbers(), set()
         for name in self.pages:
             for line, words, _ in lines_of(self.texts[name]):
                 for digits, word in re.findall(r"([\d,]*)<!-- ((?:(?!-->).)*?) -->", words):
+                    said.add(word)
                     if word in found and not is_about(digits, found[word]):
                         self.fault(name, line, "%s is said of %s, of which there are %d" % (digits or "nothing", word, found[word]))
                     elif word not in found and digits:
                         self.fault(name, line, "no number is known as %s" % word)
+        for word in SAID:
+            if word not in said:
+                self.fault("docs/ASSURANCE.md", 1, "no page says how many %s there are" % word)
+
+    def edits(self):
+        """Each must-fail edit still fits."""
+        for name in self.matching("crates/*/must-fail/*"):
+            crate, texts, changed = "/".join(name.split("/")[:2]), {}, set()
+            if not name.endswith(".edit") or name.count("/") != 3:
+                self.fault(name, 1, "is no must-fail edit")
+            for number, (path, old, new) in enumerate(pairs_of(read(TOP + "/" + name)), 1):
+                file = crate + "/" + path
+                text = texts.get(file) or (read(TOP + "/" + file) if file in self.files else "")
+                if text.count(old) != 1 or old == new:
+                    self.fault(name, 3 * number, "its text %d is in %s %d times" % (number, file, text.count(old)))
+                    break
+                changed |= self.function_at(file, text[: text.index(old)].count("\n") + 1)
+                texts[file] = text.replace(old, new)
+            if len(changed) > 1:
+                self.fault(name, 1, "changes the bodies of %s: make it two edits" % " and ".join(sorted(changed)))
+            if not texts:
+                self.fault(name, 1, "changes nothing")
+
+    def function_at(self, file, line):
+        """The name of the function in whose lines one is, in a set."""
+        known = [item for items in self.functions.values() for item in items if item.file == file]
+        return {item.name for item in known if item.line <= line < item.line + len(item.lines)}
 
     def twice(self):
         """The list of DECISIONS is that of the files that share code."""
@@ -288,6 +320,19 @@ class Check:
             for found in pattern.finditer(text) if pattern.search(text) else ():
                 word = found[1]
                 self.fault(name, text[: found.start()].count("\n") + 1, "says `%s`, not `%s`" % (word, words[word.lower()]))
+
+
+def pairs_of(text):
+    """The pairs of texts of an edit, each with its file."""
+    path, old = "", ""
+    for line in text.split("\n"):
+        word, _, rest = line.partition(": ")
+        if word == "file":
+            path = rest.strip()
+        elif word == "old":
+            old = rest
+        elif word in ("new", "new:"):
+            yield path, old, rest
 
 
 def walked():
@@ -409,11 +454,12 @@ def main():
         for word, number in check.numbers().items():
             print("%s<!-- %s -->" % (format(number, ","), word))
         return 0
-    for part in (check.reference, check.shown, check.examples, check.links, check.mentions, check.counts, check.twice, check.sizes, check.sentences, check.words):
+    for part in (check.reference, check.shown, check.examples, check.links, check.mentions, check.counts, check.edits, check.twice, check.sizes, check.sentences, check.words):
         part()
     for fault in check.faults:
         print(fault)
-    count = len(check.faults)
+    numbers, count = check.numbers(), len(check.faults)
+    print(", ".join("%s %s" % (format(numbers[word], ","), word) for word in SAID))
     print("no faults" if not count else "1 fault" if count == 1 else "%d faults" % count)
     return 1 if count else 0
 

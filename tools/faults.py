@@ -1,5 +1,5 @@
 #!/usr/bin/env python3
-"""Plants ten faults, each by itself, into a copy of the repository, and tries whether tools/check.py notices them.
+"""Plants faults, each by itself, into a copy of the repository, and tries whether tools/check.py notices them.
 
     tools/faults.py [WORD]      plants those whose names hold WORD (all)
 
@@ -48,6 +48,11 @@ class Copy:
             self.before[name] = self.read(name) if os.path.exists(self.top + "/" + name) else None
         with open(self.top + "/" + name, "w", encoding="utf-8") as file:
             file.write(text)
+
+    def forget(self, name):
+        """Removes a file, and remembers what it was."""
+        self.before[name] = self.read(name)
+        os.remove(self.top + "/" + name)
 
     def restore(self):
         for name, text in self.before.items():
@@ -150,6 +155,32 @@ def stale_function(copy):
     copy.replace(["docs/GUIDE.md", "README.md"], shown, r"\1    stale();\n")
 
 
+def dead_edit(copy):
+    """A must-fail edit has a text that its file lost."""
+    copy.replace(copy.names("crates/toml_edit_key/must-fail/*.edit"), r"old: ", "old: lost ")
+
+
+def edit_of_two(copy):
+    """A must-fail edit changes two bodies."""
+    copy.add("crates/toml_edit_fits/must-fail/dotted_root_fits.edit", "file: src/route.rt\nold: && route.room > 0\nnew: && true\n")
+
+
+def lost_edit(copy):
+    """A must-fail edit is gone."""
+    copy.forget(copy.names("crates/toml_edit_key/must-fail/*.edit")[0])
+
+
+def lost_test(copy):
+    """A test is no test any more."""
+    copy.replace(copy.names("crates/test_calls/src/*.rt"), r"#\[test\]\n", "")
+
+
+def unsaid_tests(copy):
+    """No page says how many tests there are."""
+    for _ in range(9):
+        copy.replace(copy.names(*PAGES), r"<!-- tests -->", "")
+
+
 # Each with words of the line that has to be printed.
 FAULTS = {
     stale_example: "the example is not in",
@@ -162,6 +193,11 @@ FAULTS = {
     long_sentence: "a sentence of",
     unlisted_duplicate: "share code",
     stale_function: "differs from that of",
+    dead_edit: "its text 1 is in",
+    edit_of_two: "make it two edits",
+    lost_edit: "is said of edits",
+    lost_test: "is said of tests",
+    unsaid_tests: "no page says how many tests",
 }
 
 
@@ -174,7 +210,7 @@ def main():
         for plant, words in FAULTS.items():
             if word in plant.__name__:
                 plant(copy)
-                is_planted = any(copy.before[name] != copy.read(name) for name in copy.before)
+                is_planted = any(not os.path.exists(folder + "/" + name) or copy.before[name] != copy.read(name) for name in copy.before)
                 new = sorted(line for line in copy.run("check.py") - known if words in line) if is_planted else []
                 print("%s: %s" % (plant.__name__, new[0] if new else "NOT NOTICED" if is_planted else "NOT PLANTED"), flush=True)
                 lost += not new
