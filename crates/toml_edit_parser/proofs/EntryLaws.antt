@@ -1,15 +1,14 @@
 -- The descent along a path: what stands at its first key, and what is added there or further on.
-use Rattle.std.proofs.Common.{◌≡◌, ℕ, zero, suc, ◌+◌, ◌-◌, Bool, true, false, List, [], ◌∷◌, length, cond, refl, sym, ap, ◌∙◌, subst, arith}
+use Rattle.std.proofs.Common.{◌≡◌, ℕ, suc, ◌+◌, ◌-◌, Bool, true, false, List, [], ◌∷◌, length, cond, refl, sym, ap, ◌∙◌, subst, arith}
 use Rattle.std.proofs.Common.{Option, Some, None, is_some, option_map, slice_get}
 use Rattle.std.specs.Prelude.{Result, Ok, Err, if◌then◌else◌}
-use Rattle.std.proofs.lemmas.Option.{same_Some}
 use Rattle.toml_edit_model.specs.Text.{Text, is_empty}
 use Rattle.toml_edit_model.specs.Spelling.{SpellsKey}
 use Rattle.toml_edit_model.specs.Syntax.{Segment, segment_text, path_text}
 use Rattle.toml_edit_model.specs.Paths.{Path, Mention, mention_of, line_mentions, next_start, to_key}
 use Rattle.toml_edit_model.specs.Faults.{duplicate_key}
 use Rattle.toml_edit_model.specs.Tree.{Raw, owned, Decor, unset, Key, InlineFields, Node, nothing, leaf, list, inline, table, tables, Slots}
-use Rattle.toml_edit_model.specs.Tree.{no_slots, slot}
+use Rattle.toml_edit_model.specs.Tree.{no_slots}
 use Rattle.toml_edit_model.specs.TreeOf.{Entry, spanned_form, span_of, key_of, key_extent}
 use Rattle.toml_edit_laws.specs.FlatTree.{with_slot}
 use Rattle.toml_edit_laws.specs.InlineTree.{node_at, with_node, path_fields, change_below, add_last, add_entry, clash_below, entry_clash}

@@ -1,6 +1,6 @@
 -- What the variants of items are seen as.
 use Rattle.std.proofs.Common.{◌≡◌, ℕ, suc, ◌-◌, ◌<◌, true, List, [], ◌∷◌, length, get_or, set, refl, ap, subst, sym, arith, rules, Some}
-use Rattle.toml_edit_model.specs.Tree.{nothing, item, is_value_node}
+use Rattle.toml_edit_model.specs.Tree.{item, is_value_node}
 use Rattle.toml_edit_laws.specs.AddPath.{last_item, with_last}
 use Rattle.toml_edit_tree.specs.declared.array.Array.{Array}
 use Rattle.toml_edit_tree.specs.declared.array_of_tables.ArrayOfTables.{ArrayOfTables, out-ArrayOfTables, roll-ArrayOfTables}
@@ -12,8 +12,7 @@ use Rattle.toml_edit_tree.specs.declared.item.Item.TheVariants as items
 use Rattle.toml_edit_tree.specs.declared.item.Item.TheViews.{roll-Value}
 use Rattle.toml_edit_tree.specs.declared.table.Table.{Table}
 use Rattle.toml_edit_tree.specs.declared.value.Value.{Value, out-Value}
-use Rattle.toml_edit_tree.specs.Containers.{table_node}
-use Rattle.toml_edit_tree.specs.View.{item_view, items_view, table_view, tables_view, value_view}
+use Rattle.toml_edit_tree.specs.View.{item_view, items_view, tables_view, value_view}
 use Rattle.toml_edit_parser.proofs.ViewLaws.{rolled}
 
 value_open : (o : Value-F Item Value Array ArrayOfTables InlineTable Table) → is_value_node (value_view (roll-Value o)) ≡ true

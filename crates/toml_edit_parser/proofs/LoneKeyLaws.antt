@@ -18,11 +18,12 @@ use Rattle.toml_edit_key.specs.Keys.{spanned_key}
 use Rattle.toml_edit_syntax.specs.declared.event.Event.{Event}
 use Rattle.toml_edit_syntax.specs.declared.event.EventKind.{EventKind}
 use Rattle.toml_edit_syntax.specs.declared.event.EventKind.TheVariants as kinds
+use Rattle.toml_edit_syntax.specs.declared.event.Span.{Span}
 use Rattle.toml_edit_syntax.specs.Events.{IsSpanOf}
 use Rattle.toml_edit_syntax.specs.LonePath.{ArePathEvents}
 use Rattle.toml_edit_syntax.specs.ValueEvents.{event, path_events}
 use Rattle.toml_edit_parser.specs.declared.key.PathKey.{PathKey}
-use Rattle.toml_edit_parser.specs.declared.pairs.KeyPath.{KeyPath}
+use Rattle.toml_edit_parser.specs.declared.key.KeyPath.{KeyPath}
 use Rattle.toml_edit_parser.specs.PairRead.{IsEndOfPath, first_before, leaf_of}
 use Rattle.toml_edit_parser.specs.PathRead.{IsFirstKey, IsKeyBefore, IsPathFrom, segment_key}
 use Rattle.toml_edit_parser.specs.ReadKeys.{lone_key}
@@ -129,13 +130,19 @@ none_before : (p : List Segment) → begins_unspaced p ≡ true → first_before
 none_before [] begins = refl
 none_before (s ∷ p) begins = is_empty-nil s.before begins
 
+-- where there is no text
+empty-span : (n : ℕ) (s : Span) → s ≡ record { start = n; end = n } → s ≡ span_at n []
+empty-span n s e =
+    let still : n ≡ n + 0 = omega arith in
+    e ∙ ap (λ (m : ℕ). record { start = n; end = m }) still
+
 pub keys-begin : (t before after : Text) (es : List Event) (done : List Key) (left : KeyPath) → (are : ArePathEvents t before es after)
     → left.before ≡ record { start = length before; end = length before } → left.events.now ≡ es → done ≡ []
     → KeysLeft t before after are.path done left
 keys-begin t before after es done left are at events none =
     let first = none_before are.path are.is.path.begins in
     let here : left.before ≡ span_at (length before) (first_before are.path) =
-    at ∙ ap (λ (x : Text). span_at (length before) x) (sym first) in
+    empty-span (length before) left.before at ∙ ap (λ (x : Text). span_at (length before) x) (sym first) in
     record {
       own = leaf_of left;
       start = length before;

@@ -5,7 +5,7 @@ use Rattle.std.specs.Prelude.{if◌then◌else◌, not, ◌&&◌, option_and_the
 use Rattle.toml_edit_model.specs.Mode.{Mode}
 use Rattle.toml_edit_model.specs.Roles.{Role, ends_path, extends}
 use Rattle.toml_edit_model.specs.Text.{Text}
-use Rattle.toml_edit_model.specs.Syntax.{Segment, segment_text, path_text}
+use Rattle.toml_edit_model.specs.Syntax.{Segment, path_text}
 use Rattle.toml_edit_model.specs.Faults.{duplicate_key}
 use Rattle.toml_edit_model.specs.Paths.{Mention, Source, next_start}
 use Rattle.toml_edit_model.specs.Tree.{Decor, unset, Key, Extent, TableFields, Node, nothing, leaf, list, inline, table, tables, Items}
@@ -21,13 +21,11 @@ use Rattle.toml_edit_laws.specs.AddPath.{with_last, last_key_clash, AreMentionsO
 use Rattle.toml_edit_laws.specs.InPlace.{add_in_place, put_in_place, replace_slot}
 use Rattle.toml_edit_laws.specs.Standing.{Stands}
 use Rattle.toml_edit_laws.proofs.common.Tests.{if-true}
-use Rattle.toml_edit_laws.proofs.common.StandingLaws.{stands-right}
 use Rattle.toml_edit_laws.proofs.building.OneKey.{nothing-new, there-clash, last-changed, last-met, last-clash}
 use Rattle.toml_edit_laws.proofs.building.PlacePaths.{last-in-place, new-in-place, there-in-place}
 use Rattle.toml_edit_error.specs.Report.{Report, fault_of}
 use Rattle.toml_edit_error.specs.Fault.{IfToml}
 use Rattle.toml_edit_error.specs.declared.toml_error.ParseFault.{ParseFault}
-use Rattle.toml_edit_error.specs.declared.toml_error.ParseFault.TheVariants.{Toml, Memory}
 use Rattle.toml_edit_syntax.specs.declared.event.Event.{Event}
 use Rattle.toml_edit_syntax.specs.declared.event.Span.{Span}
 use Rattle.toml_edit_syntax.specs.ValueEvents.{path_events}

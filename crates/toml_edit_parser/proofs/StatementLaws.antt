@@ -8,7 +8,7 @@ use Rattle.std.proofs.lemmas.List.Elements.{Contains-append_left, Contains-appen
 use Rattle.toml_edit_model.specs.Faults.{Fault, own_faults}
 use Rattle.toml_edit_model.specs.Mode.{Mode}
 use Rattle.toml_edit_model.specs.Text.{Text}
-use Rattle.toml_edit_model.specs.Syntax.{Segment, Frame, Value, Header, Statement, key_line, header, IsPath, brackets_text}
+use Rattle.toml_edit_model.specs.Syntax.{Frame, Value, Header, Statement, key_line, header, brackets_text}
 use Rattle.toml_edit_model.specs.Syntax.{closing_brackets, frame_text, opening_brackets, path_text, statement_text, value_text}
 use Rattle.toml_edit_model.specs.Paths.{Mention, Source, path_start}
 use Rattle.toml_edit_model.specs.Tree.{Node, nothing, Slots}

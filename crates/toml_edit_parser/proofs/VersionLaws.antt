@@ -1,14 +1,13 @@
 -- Whether the statement that comes first is one of the version.
-use Rattle.std.proofs.Common.{◌≡◌, ℕ, ◌+◌, ◌-◌, Option, None, Some, Result, Ok, Err, ap, sym, subst, ◌∙◌, true, false, List, [], ◌∷◌, ◌++◌}
-use Rattle.std.proofs.Common.{inl, inr, refl, lit<, arith}
-use Rattle.std.specs.Prelude.{Contains, IfErr, IfSome}
+use Rattle.std.proofs.Common.{◌≡◌, ℕ, ◌+◌, ◌-◌, Option, None, Some, Result, Ok, Err, ap, sym, subst, ◌∙◌, true, false, List, [], ◌++◌}
+use Rattle.std.proofs.Common.{inr, refl, lit<, arith}
+use Rattle.std.specs.Prelude.{Contains, IfSome}
 use Rattle.std.specs.Borrow.{Bor}
 use Rattle.std.proofs.lemmas.List.Elements.{Contains-append_left, Contains-append_right}
-use Rattle.toml_edit_model.specs.Messages.{fault_messages, fault_messages_in}
 use Rattle.toml_edit_model.specs.Mode.{Mode}
 use Rattle.toml_edit_model.specs.Text.{Text}
 use Rattle.toml_edit_model.specs.Syntax.{Statement}
-use Rattle.toml_edit_model.specs.Version.{Version, v1_0, v1_1, is_of_version, late_places}
+use Rattle.toml_edit_model.specs.Version.{Version, v1_0, is_of_version, late_places}
 use Rattle.toml_edit_model.specs.Faults.{Fault, fault, needs_message, late_faults}
 use Rattle.toml_edit_laws.specs.Building.{Builder, faults_at}
 use Rattle.toml_edit_laws.proofs.versions.VersionFaults.{late-named, early-of-none}

@@ -1,5 +1,5 @@
 -- What parsing a text answers, by what reading its statements comes to.
-use Rattle.std.proofs.Common.{◌≡◌, Bool, true, ap, inr, None}
+use Rattle.std.proofs.Common.{◌≡◌, Bool, true, inr}
 use Rattle.toml_edit_model.specs.Mode.{Mode}
 use Rattle.toml_edit_model.specs.Text.{Text}
 use Rattle.toml_edit_model.specs.Syntax.{Document, IsCut}
@@ -10,7 +10,6 @@ use Rattle.toml_edit_model.specs.Tree.{Raw, Slots}
 use Rattle.toml_edit_model.specs.TreeOf.{spanned_in, IsTreeOf}
 use Rattle.toml_edit_laws.proofs.one_cut.Documents.{one_cut}
 use Rattle.toml_edit_error.specs.Fault.{IfToml}
-use Rattle.toml_edit_error.specs.Report.{Report}
 use Rattle.toml_edit_error.specs.declared.toml_error.ParseFault.{ParseFault}
 use Rattle.toml_edit_error.specs.declared.toml_error.ParseFault.TheVariants.{Toml, Memory}
 use Rattle.toml_edit_syntax.specs.Events.{OpensTooMany}

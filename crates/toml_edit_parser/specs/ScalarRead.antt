@@ -1,6 +1,5 @@
 -- What reading a key's text, or a scalar, returns.
-use Rattle.std.specs.Prelude.{◌≡◌, ℕ, ◌+◌, true, false, length, Some, String, string_bytes, Result, Ok, Err}
-use Rattle.std.specs.declared.alloc.Global.{Global}
+use Rattle.std.specs.Prelude.{◌≡◌, ℕ, ◌+◌, true, false, length, Some, Result, Ok, Err}
 use Rattle.toml_edit_model.specs.Text.{Text}
 use Rattle.toml_edit_model.specs.Scalars.{Scalar}
 use Rattle.toml_edit_model.specs.Spelling.{is_in_range}

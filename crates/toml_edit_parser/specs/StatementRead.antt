@@ -7,8 +7,8 @@ use Rattle.std.specs.Borrow.{Bor}
 use Rattle.toml_edit_model.specs.Mode.{Mode, with_return}
 use Rattle.toml_edit_model.specs.Text.{Text}
 use Rattle.toml_edit_model.specs.Syntax as syntax
-use Rattle.toml_edit_model.specs.Syntax.{Frame, Segment, Header, Statement, IsStatement, Document, key_line, opening_brackets}
-use Rattle.toml_edit_model.specs.Syntax.{brackets_text, document_text, statement_text}
+use Rattle.toml_edit_model.specs.Syntax.{Frame, Segment, Header, Statement, IsStatement, key_line, opening_brackets}
+use Rattle.toml_edit_model.specs.Syntax.{brackets_text, statement_text}
 use Rattle.toml_edit_model.specs.Version.{Version, is_of_version}
 use Rattle.toml_edit_model.specs.Faults.{own_faults, late_faults}
 use Rattle.toml_edit_model.specs.Tree.{Raw, Node, nothing, Slots, Tree}

@@ -5,14 +5,13 @@ use Rattle.toml_edit_model.specs.Version.{v1_1}
 use Rattle.toml_edit_model.specs.Syntax.{array, value_text, inline_table}
 use Rattle.toml_edit_model.specs.Faults.{value_faults, elements_faults}
 use Rattle.toml_edit_error.specs.Fault.{IfToml}
-use Rattle.toml_edit_error.specs.Report.{Report}
 use Rattle.toml_edit_syntax.specs.declared.event.EventKind.TheVariants.{After, ArrayClose, InlineTableClose}
 use Rattle.toml_edit_syntax.specs.ValueEvents.{event, elements_events, close_events, shortened, value_at_byte}
 use Rattle.toml_edit_parser.specs.ValueRead.{split_close, AddsElement, EndsArray, IsRead, NamesOne, ReadsValue}
 use Rattle.toml_edit_tree.specs.View.{items_view, value_view, slots_view}
 use Rattle.toml_edit_model.specs.Tree.{Node}
 use Rattle.toml_edit_parser.specs.PairRead.{FrameParts, parts_of}
-use Rattle.toml_edit_parser.proofs.ReadLaws.{head_of, mapped, no_event, too_deep, named}
+use Rattle.toml_edit_parser.proofs.ReadLaws.{head_of, no_event, too_deep, named}
 use Rattle.toml_edit_parser.proofs.HeadLaws.{scalar_read, scalar_refused, array_opened, inline_opened}
 use Rattle.toml_edit_parser.proofs.ScalarElements.{scalar_element}
 use Rattle.toml_edit_parser.proofs.ElementsLaws.{element_read}

@@ -11,8 +11,6 @@ use Rattle.toml_edit_token.specs.Decoded.{IsSpelling, scalar_view}
 use Rattle.toml_edit_token.specs.declared.decode.Scalar as code
 use Rattle.toml_edit_tree.specs.declared.value.Value.TheVariants as values
 use Rattle.toml_edit_parser.specs.ValueRead.{spanned_raw}
-use Rattle.toml_edit_error.specs.Report.{Report}
-use Rattle.toml_edit_parser.proofs.ReadLaws.{mapped}
 use Rattle.toml_edit_parser.proofs.ScalarElements.{place_cut, scalar_refusal, scalar_added, scalar_fits}
 use Rattle.toml_edit_parser.proofs.SplitLaws.{first_in}
 use Rattle.toml_edit_parser.proofs.ViewLaws.{view-Integer}

@@ -12,9 +12,7 @@ use Rattle.toml_edit_slots.specs.Slots.{place}
 use Rattle.toml_edit_tree.specs.declared.item.Item.{Item, the_lemmas}
 use Rattle.toml_edit_tree.specs.Containers.{inline_node}
 use Rattle.toml_edit_tree.specs.View.{inline_view, item_view, slots_view, value_view}
-use Rattle.toml_edit_error.specs.Report.{Report}
 use Rattle.toml_edit_parser.specs.Faults.{fault_message}
-use Rattle.toml_edit_parser.proofs.ReadLaws.{mapped}
 use Rattle.toml_edit_parser.proofs.DescentLaws.{below-refused, dot_in, fits-below, fits-found, fits-in, fits-put, name-refused, no-value}
 use Rattle.toml_edit_parser.proofs.DescentLaws.{on_ok, same-way, stops-empty, stops-other, went-in}
 use Rattle.toml_edit_parser.proofs.EntryLaws.{below-added, inside-added, last-added, some-key, stopped}

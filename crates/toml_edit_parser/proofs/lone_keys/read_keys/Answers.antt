@@ -1,26 +1,30 @@
 -- The keys of the path, one after another.
-use Rattle.std.proofs.Common.{◌≡◌, List, [], ◌∷◌, ◌++◌, length, option_map, sym, ap, subst, ◌∙◌, rules}
+use Rattle.std.proofs.Common.{List, [], ◌∷◌, ◌++◌, length, option_map, refl, sym, ap, subst, ◌∙◌}
 use Rattle.std.proofs.lemmas.Result.{err_from_is_err_and}
 use Rattle.toml_edit_model.specs.OwnedForm.{KeyFits, owned_key, owned_raw}
 use Rattle.toml_edit_model.specs.Spelling.{SpellsKey}
 use Rattle.toml_edit_model.specs.Syntax.{Segment}
 use Rattle.toml_edit_model.specs.Tree.{Decor, Key, HasTrueSpelling}
-use Rattle.toml_edit_parser.specs.ValueRead.{AreIn}
-use Rattle.toml_edit_parser.proofs.LoneKeyLaws.{BecomesKey, KeysLeft, keys-begin, keys-end, keys-next, outer}
+use Rattle.toml_edit_syntax.specs.declared.event.Span.{Span}
+use Rattle.toml_edit_parser.specs.declared.key.KeyPath.{KeyPath}
+use Rattle.toml_edit_parser.proofs.LoneKeyLaws.{KeysLeft, keys-begin, keys-end, keys-next}
 use Rattle.toml_edit_parser.proofs.LonePathLaws.{memory_alone}
 use Rattle.toml_edit_parser.proofs.lone_keys.read_keys.Goals as goal
 
 pub segments-init : goal.segments-init
 segments-init c =
     let are = c.requires.cut in
+    let source = c.args.reader.now.source.now in
     let before = c.args.path.now.before.now in
     let after = c.args.path.now.after.now in
+    let at : Span = record { start = length before; end = length before } in
+    let left : KeyPath = record { prefix = at; suffix = at; before = at; events = c.as_slice.result } in
     record {
       spans = rw c.as_slice.ensures.value c.requires.spans;
-      keys = λ p is. subst (λ (q : List Segment). KeysLeft c.args.reader.now.source.now before after q c.new-keys.result.items c.left)
+      keys = λ p is. subst (λ (q : List Segment). KeysLeft source before after q c.new-keys.result.items left)
           (sym (are.only before p after is).1)
-          (keys-begin c.args.reader.now.source.now before after c.args.path.now.events.items c.new-keys.result.items c.left are (search rules)
-          c.as_slice.ensures.value c.new-keys.ensures.items);
+          (keys-begin source before after c.args.path.now.events.items c.new-keys.result.items left are refl c.as_slice.ensures.value
+          c.new-keys.ensures.items);
     }
 
 pub returns-in_err-key : goal.returns-in_err-key
@@ -58,30 +62,30 @@ segments-preserved c =
           let k = keys-next c.args.reader.now.source.now c.args.path.now.before.now c.args.path.now.after.now p c.segments.keys.items c.segments.left
           c.in_ok-key.field-0
           c.in-Some.inside c.segments.invariant.spans n first c.in-Some.is in
-          k.left _ (c.in_ok-push.ensures.items ∙ ap (λ (x : Key). c.segments.keys.items ++ (x ∷ []))
-          (c.in_ok-with_texts.ensures ∙ k.becomes.owned_is));
+          k.left _ (c.in_ok-push-in-Some.ensures.items ∙ ap (λ (x : Key). c.segments.keys.items ++ (x ∷ []))
+          (c.in_ok-with_texts-in-Some.ensures ∙ k.becomes.owned_is));
     }
 
-pub with_texts-in-None-requires-clause-fits : goal.with_texts-in-None-requires-clause-fits
-with_texts-in-None-requires-clause-fits c =
+pub with_texts-requires-in-None-clause-fits : goal.with_texts-requires-in-None-clause-fits
+with_texts-requires-in-None-clause-fits c =
     let are = c.requires.cut in
     let n = c.segments.invariant.keys are.path are.is in
     let first = c.in_ok-key.ensures.key n.own n.segments n.start n.ends n.stands n.read in
     let k = keys-end c.args.reader.now.source.now c.args.path.now.before.now c.args.path.now.after.now are.path c.segments.keys.items c.segments.left
     c.in_ok-key.field-0
     c.segments.invariant.spans n first c.in-None.is in
-    let leaf = c.with_leaf_decor-key.ensures ∙ ap (λ (d : Decor). record c.in_ok-key.field-0.key { leaf = d }) c.in_ok-outer_decor.ensures in
+    let leaf = c.with_leaf_decor-key.ensures ∙ ap (λ (d : Decor). record c.in_ok-key.field-0.key { leaf = d }) c.in_ok-outer_decor-in-None.ensures in
     subst (λ (x : Key). KeyFits c.args.reader.now.source.now x) (sym leaf) k.becomes.fits
 
-pub with_texts-in-None-requires-clause-spelled : goal.with_texts-in-None-requires-clause-spelled
-with_texts-in-None-requires-clause-spelled c =
+pub with_texts-requires-in-None-clause-spelled : goal.with_texts-requires-in-None-clause-spelled
+with_texts-requires-in-None-clause-spelled c =
     let are = c.requires.cut in
     let n = c.segments.invariant.keys are.path are.is in
     let first = c.in_ok-key.ensures.key n.own n.segments n.start n.ends n.stands n.read in
     let k = keys-end c.args.reader.now.source.now c.args.path.now.before.now c.args.path.now.after.now are.path c.segments.keys.items c.segments.left
     c.in_ok-key.field-0
     c.segments.invariant.spans n first c.in-None.is in
-    let leaf = c.with_leaf_decor-key.ensures ∙ ap (λ (d : Decor). record c.in_ok-key.field-0.key { leaf = d }) c.in_ok-outer_decor.ensures in
+    let leaf = c.with_leaf_decor-key.ensures ∙ ap (λ (d : Decor). record c.in_ok-key.field-0.key { leaf = d }) c.in_ok-outer_decor-in-None.ensures in
     ∣ subst (λ (x : Key). HasTrueSpelling (SpellsKey x.name) (option_map (owned_raw c.args.reader.now.source.now) x.spelling)) (sym leaf)
     k.becomes.spelled ∣₁
 
@@ -93,6 +97,6 @@ returns-in-None c =
     let k = keys-end c.args.reader.now.source.now c.args.path.now.before.now c.args.path.now.after.now p c.segments.keys.items c.segments.left
     c.in_ok-key.field-0
     c.segments.invariant.spans n first c.in-None.is in
-    let leaf = c.with_leaf_decor-key.ensures ∙ ap (λ (d : Decor). record c.in_ok-key.field-0.key { leaf = d }) c.in_ok-outer_decor.ensures in
+    let leaf = c.with_leaf_decor-key.ensures ∙ ap (λ (d : Decor). record c.in_ok-key.field-0.key { leaf = d }) c.in_ok-outer_decor-in-None.ensures in
     k.all _ (c.in_ok-push-in-None.ensures.items ∙ ap (λ (x : Key). c.segments.keys.items ++ (x ∷ []))
     (c.in_ok-with_texts-in-None.ensures ∙ ap (owned_key c.args.reader.now.source.now) leaf ∙ k.becomes.owned_is))

@@ -2,7 +2,6 @@ use Rattle.std.proofs.Common.{None, is_some, sym, ap, subst, ◌∙◌, lit<, re
 use Rattle.toml_edit_model.specs.Version.{v1_1}
 use Rattle.toml_edit_model.specs.OwnedForm.{SlotsFit}
 use Rattle.toml_edit_model.specs.Tree.{Slots}
-use Rattle.toml_edit_laws.specs.FlatTree.{with_slot}
 use Rattle.toml_edit_tree.specs.View.{item_view, slots_view}
 use Rattle.toml_edit_parser.proofs.EntryLaws.{last-put, last-refused}
 use Rattle.toml_edit_parser.proofs.SlotLaws.{fits-with_slot, slots_view-append}

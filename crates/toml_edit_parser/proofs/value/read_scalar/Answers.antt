@@ -1,5 +1,5 @@
 -- The scalar that is read, and what its text is refused with.
-use Rattle.std.proofs.Common.{◌≡◌, ◌+◌, ℕ, false, true, length, Option, Some, sym, ap, subst, ◌∙◌, rules, inr}
+use Rattle.std.proofs.Common.{◌≡◌, ℕ, false, true, Option, Some, sym, ap, subst, ◌∙◌, rules, inr}
 use Rattle.std.specs.Prelude.{IfSome, MatchOption}
 use Rattle.toml_edit_model.specs.Faults.{Fault, range_message}
 use Rattle.toml_edit_model.specs.Version.{v1_1}

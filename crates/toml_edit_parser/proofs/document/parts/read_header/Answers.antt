@@ -7,8 +7,6 @@ use Rattle.toml_edit_syntax.specs.ValueEvents.{shortened}
 use Rattle.toml_edit_repr.specs.Modes.{mode_of}
 use Rattle.toml_edit_parser.specs.PairRead.{PathView}
 use Rattle.toml_edit_parser.specs.ValueRead.{AreIn}
-use Rattle.toml_edit_error.specs.Report.{Report}
-use Rattle.toml_edit_parser.proofs.ReadLaws.{mapped}
 use Rattle.toml_edit_parser.proofs.PairLaws.{fewer, in_drop, in_take, path-too-long}
 use Rattle.toml_edit_parser.proofs.SplitLaws.{first_in}
 use Rattle.toml_edit_parser.proofs.StatementPartLaws.{header-first, header-path, header-read, header_end, key_at, no-header, no-path, third-in}

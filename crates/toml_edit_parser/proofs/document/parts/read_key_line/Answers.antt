@@ -10,8 +10,6 @@ use Rattle.toml_edit_syntax.specs.ValueEvents.{value_at_byte}
 use Rattle.toml_edit_repr.specs.Modes.{mode_of}
 use Rattle.toml_edit_parser.specs.PairRead.{FrameParts, PathView, parts_of}
 use Rattle.toml_edit_parser.specs.ValueRead.{AreIn, spanned_raw}
-use Rattle.toml_edit_error.specs.Report.{Report}
-use Rattle.toml_edit_parser.proofs.ReadLaws.{mapped}
 use Rattle.toml_edit_parser.proofs.ModeLaws.{line-suffix}
 use Rattle.toml_edit_parser.proofs.PairLaws.{frame-in, key-decor, key-whole, no-frame, path-some, short-path, the-frame, value-stands}
 use Rattle.toml_edit_parser.proofs.StatementPartLaws.{line-read, line-refused, line-too-long, path-from}

@@ -17,8 +17,6 @@ use Rattle.toml_edit_syntax.specs.declared.event.Span.{Span}
 use Rattle.toml_edit_repr.specs.Modes.{mode_of}
 use Rattle.toml_edit_parser.specs.StatementParts.{IsLineValue}
 use Rattle.toml_edit_parser.specs.ValueRead.{spanned_raw, split_first}
-use Rattle.toml_edit_error.specs.Report.{Report}
-use Rattle.toml_edit_parser.proofs.ReadLaws.{mapped}
 use Rattle.toml_edit_parser.proofs.ScalarElements.{place_cut, scalar_put, scalar_refusal}
 use Rattle.toml_edit_parser.proofs.SplitLaws.{first_in}
 use Rattle.toml_edit_parser.proofs.ViewLaws.{view-Integer}
