@@ -39,6 +39,15 @@ definitions: ## tries changes of definitions, each of which must be refused
 refusals: ## refuses each allocation of each row in turn (needs the proved programs)
 	tools/refusals.py
 
+cost: ## runs the gate from nothing, and lists what it costs
+	tools/gate_cost.py --anew
+
+coverage: ## lists the functions that no row or test enters
+	tools/coverage.py
+
+planted: ## plants ten bugs, each of which a tool must find
+	tools/planted.py
+
 bench: ## counts instructions and heap (needs the proved program and valgrind)
 	bench/run.py
 	bench/run.py --memory
@@ -46,4 +55,4 @@ bench: ## counts instructions and heap (needs the proved program and valgrind)
 collisions: ## the same with keys that collide
 	bench/collisions.py
 
-.PHONY: help check test edits rows gate pages faults api fmt definitions refusals bench collisions
+.PHONY: help check test edits rows gate pages faults api fmt definitions refusals cost coverage planted bench collisions

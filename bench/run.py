@@ -206,6 +206,24 @@ def instructions(program, text, same=True):
     return int(re.search(r"Collected : (\d+)", said).group(1))
 
 
+def own_instructions(program, text):
+    """Returns how many of the instructions are the program's, and neither the loader's nor those of other libraries."""
+    _, wrote = valgrind(program, text, "callgrind", True)
+    names, current, is_inclusive, count = {}, "", False, 0
+    for line in wrote.split("\n"):
+        word, _, rest = line.partition("=")
+        if word in ("ob", "cob"):
+            number, _, name = rest.partition(" ")
+            names.setdefault(number, name)
+            current = number if word == "ob" else current
+        elif word == "calls":
+            is_inclusive = True
+        elif line[:1] in tuple("+-*0123456789"):
+            count += 0 if is_inclusive or names.get(current) != os.path.abspath(program) else int(line.split()[1])
+            is_inclusive = False
+    return count
+
+
 def peak(program, text, same=True):
     _, wrote = valgrind(program, text, "massif", same)
     return max(int(size) for size in re.findall(r"mem_heap_B=(\d+)", wrote))
@@ -289,6 +307,8 @@ def main():
     if others:
         return print_beside(program, others)
     base = measure(program, "")
+    if measure is instructions:
+        print("The empty text takes %d instructions, of which %d are the program's.\n" % (base, own_instructions(program, "")))
     print("| Document | KB | %s | A byte | Growth |" % ("Instructions" if measure is instructions else "Bytes"))
     print("|---|---|---|---|---|")
     for name, make in KINDS:
