@@ -5,7 +5,7 @@ use Rattle.std.specs.Prelude.{Contains, IfErr, IfOk}
 use Rattle.std.proofs.lemmas.Bool.{false≢true}
 use Rattle.std.proofs.lemmas.Bool.Decides.{nat_tests}
 use Rattle.toml_edit_model.specs.Text.{Text, is_empty}
-use Rattle.toml_edit_model.specs.Syntax.{Segment, is_short}
+use Rattle.toml_edit_model.specs.Syntax.{Segment, is_short, nesting_limit}
 use Rattle.toml_edit_model.specs.Tree.{Key}
 use Rattle.toml_edit_model.specs.Messages.{IsSyntaxFault, syntax_messages}
 use Rattle.toml_edit_model.specs.Lone.{IsLonePath, IsLongPath, MayRefusePath, lone_keys}
@@ -33,14 +33,14 @@ short_of : (p : List Segment) (start : ℕ) → is_empty p ≡ false → length 
 short_of [] start some few = refl
 short_of (s ∷ p) start some few =
     let n = path_count s p start in
-    let short : length (s ∷ p) ≤ 80 = omega (arith, n, few) in
+    let short : length (s ∷ p) ≤ nesting_limit = omega (arith, n, few) in
     grind (arith, nat_tests, short)
 
 long_of : (p : List Segment) (start : ℕ) → is_empty p ≡ false → 238 < length (path_events start p) → is_short p ≡ false
 long_of [] start some many = absurd cc
 long_of (s ∷ p) start some many =
     let n = path_count s p start in
-    let long : 80 < length (s ∷ p) = omega (arith, n, many) in
+    let long : nesting_limit < length (s ∷ p) = omega (arith, n, many) in
     grind (arith, nat_tests, long)
 
 -- ---- answers
