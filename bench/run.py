@@ -262,6 +262,8 @@ def print_beside(program, others):
         counts = {
             (name, tool, it): pool.submit(beside, tool, it, empty[tool, it], make(size * 1024)) for name, make in KINDS for tool, size in tools for it in programs
         }
+        starts = ["%d by %s" % (empty[instructions, it].result(), os.path.basename(it)) for it in programs]
+        print("The empty text takes %s.\n" % ", ".join(["%s instructions %s" % tuple(starts[0].split(" ", 1)), *starts[1:]]))
         heads = ["of %s | Ratio" % os.path.basename(it) for it in others]
         print("| Document | %s |" % " | ".join(["Instructions a byte", *heads, "Bytes a byte", *heads]))
         print("|---" * (3 + 4 * len(others)) + "|")
