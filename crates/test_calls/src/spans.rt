@@ -64,3 +64,18 @@ fn cuts_scalar(alloc: Global) -> bool {
 fn cuts_scalars(rt: HostRuntime) {
     assert!(rt; cuts_scalar(rt.alloc()));
 }
+
+/// Returns `true` if a span is read where it lies in the text, and cuts no character.
+fn reads_spans() -> bool {
+    let (lies, beyond) = (RawString::from_span(4, 8), RawString::from_span(4, 9));
+    let inside = RawString::from_span(1, 2);
+    lies.text_in("k = text") == Some("text")
+        && beyond.text_in("k = text").is_none()
+        && inside.text_in("\u{e9}").is_none()
+        && lies.text_in("").is_none()
+}
+
+#[test]
+fn reads_texts_of_spans(rt: HostRuntime) {
+    assert!(rt; reads_spans());
+}

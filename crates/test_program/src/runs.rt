@@ -4,7 +4,7 @@ use std::alloc::Global;
 use std::io::{Read, Write};
 use test_calls::holding::holds_moved;
 use toml_edit::{Mem, Watched};
-use toml_edit_command::run;
+use toml_edit_command::{end_without_memory, run};
 
 const TEXT: &str = "# a\nk = [1]  # b\n";
 
@@ -63,4 +63,16 @@ fn prints(alloc: Global, words: Vec<String>) -> bool {
 #[test]
 fn prints_a_text(rt: HostRuntime) {
     assert!(rt; holds_moved(rt.alloc(), print_word(rt.alloc()).ok(), prints));
+}
+
+/// Returns `true` if the end without memory has its status and its message.
+fn ends_so(alloc: Global) -> bool {
+    let mut told = Vec::new(alloc);
+    let status = end_without_memory(&mut Watched::new(&mut told));
+    status == 3 && told.as_slice() == b"tomled: out of memory\n".as_slice()
+}
+
+#[test]
+fn ends_without_memory(rt: HostRuntime) {
+    assert!(rt; ends_so(rt.alloc()));
 }

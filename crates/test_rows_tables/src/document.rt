@@ -147,6 +147,7 @@ fn ask(document: &DocumentMut, words: &[Json], out: &mut Answer) {
         "print" => out.made(document.print(out.alloc)),
         "as_item" => table::ask_item(document.as_item(), behind(words, 1), out),
         "get_at" => at::ask(document, words, out),
+        "brackets" => indexing::read_of_document(document, word(words, 1), out),
         "first_misfit" => misfit::tell(document.first_misfit(out.alloc), out),
         _ => table::ask(document.as_table(), words, out),
     }

@@ -58,6 +58,14 @@ fn read_under(item: &Item, key: &str, out: &mut Answer) {
 pub fn change(item: &mut Item, words: &[Json], out: &mut Answer) {
     match word(words, 0) {
         "item_get_mut" => write_found(item, words, out),
+        "item_get_mut_text" | "item_get_mut_owned" => {
+            write_by_text(
+                item,
+                words,
+                String::from_str(out.alloc, word(words, 1)),
+                out,
+            );
+        }
         "item_or_insert" => fill(item, make::item::<Tables>(word(words, 1), out), out),
         _ => go_on(item, words, out),
     }
@@ -70,6 +78,35 @@ fn write_found(item: &mut Item, words: &[Json], out: &mut Answer) {
     match place.parse::<usize>() {
         Ok(at) => write(item.get_mut(at), made, out),
         Err(_) => write(item.get_mut(place), made, out),
+    }
+}
+
+/// Writes an item over the one that a text finds, which is lent or owned.
+fn write_by_text(item: &mut Item, words: &[Json], key: Mem<String>, out: &mut Answer) {
+    let made = make::item::<Tables>(word(words, 2), out);
+    match key {
+        Ok(key) if word(words, 0) == "item_get_mut_owned" => write(item.get_mut(key), made, out),
+        Ok(key) => write(item.get_mut(&key), made, out),
+        Err(_) => {
+            drop(made);
+            out.refuse();
+        }
+    }
+}
+
+/// Writes the item under a key of a table, found by brackets, if it is there.
+pub fn read_of_table(table: &Table, key: &str, out: &mut Answer) {
+    match table.get(key) {
+        Some(_) => table[key].tell(out),
+        None => out.text("none"),
+    }
+}
+
+/// Writes the item under a key of the root, found by brackets, if it is there.
+pub fn read_of_document(document: &DocumentMut, key: &str, out: &mut Answer) {
+    match document.as_table().get(key) {
+        Some(_) => document[key].tell(out),
+        None => out.text("none"),
     }
 }
 

@@ -194,6 +194,7 @@ fn tell_table(table: &Table, words: &[Json], out: &mut Answer) {
         "position" => out.shown_or_none(table.position().as_ref()),
         "decor" => value::ask_decor(table.decor(), word(words, 1), out),
         "span" => out.span(table.span()),
+        "brackets" => indexing::read_of_table(table, word(words, 1), out),
         _ => slots::tell(table, words, out),
     }
 }
@@ -300,7 +301,8 @@ fn change_item(item: &mut Item, words: &[Json], out: &mut Answer) {
             None => out.text("none"),
         },
         "make_value" => item.make_value(),
-        "item_get_mut" | "item_or_insert" | "index_or_insert" => indexing::change(item, words, out),
+        "item_or_insert" | "index_or_insert" => indexing::change(item, words, out),
+        call if call.starts_with("item_get_mut") => indexing::change(item, words, out),
         "into_value" | "into_table" | "into_array_of_tables" => convert::change(item, words, out),
         _ => change_value(item, words, out),
     }

@@ -106,6 +106,7 @@ fn change_any<T: AnyTable>(table: &mut T, words: &[Json], out: &mut Answer) {
         "or_insert_format" => put_formatted(table, words, out),
         "entry" => go_in(&mut table.entry(name), behind(words, 2), out),
         "entry_format" => go_in_formatted(table, words, out),
+        "slot_at" => change_slot_at(table, words, out),
         _ => ask(table, words, out),
     }
 }
@@ -212,8 +213,18 @@ fn change_lent<T: TableLike>(table: &mut T, words: &[Json], out: &mut Answer) {
     }
 }
 
+/// Makes a step with the slot at a place. Reports a place where the call may not be made.
+fn change_slot_at<T: AnyTable>(table: &mut T, words: &[Json], out: &mut Answer) {
+    let at = index(words);
+    if at < table.slots() {
+        change_slot(&mut table.slot_at(at), behind(words, 2), out);
+    } else {
+        out.text("none");
+    }
+}
+
 /// Changes the decor of the key, or the item. The answer to a call that returns nothing is empty.
-fn change_slot<T: TableLike>(slot: &mut TableLikeSlot<'_, T>, words: &[Json], out: &mut Answer) {
+fn change_slot<T: AnyTable>(slot: &mut TableLikeSlot<'_, T>, words: &[Json], out: &mut Answer) {
     let rest = behind(words, 1);
     match word(words, 0) {
         "key" => out.shown(slot.key()),
@@ -232,7 +243,7 @@ fn change_slot<T: TableLike>(slot: &mut TableLikeSlot<'_, T>, words: &[Json], ou
     }
 }
 
-fn insert_at<T: TableLike>(slot: &mut TableLikeSlot<'_, T>, made: Option<Item>, out: &mut Answer) {
+fn insert_at<T: AnyTable>(slot: &mut TableLikeSlot<'_, T>, made: Option<Item>, out: &mut Answer) {
     match made {
         Some(item) => tell_given(slot.insert(item), out),
         None => out.text("no item"),
