@@ -7,6 +7,7 @@
 
 #[cfg(test)]
 mod comparisons;
+mod crowd;
 #[cfg(test)]
 mod displays;
 pub mod holding;

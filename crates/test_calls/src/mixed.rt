@@ -1,5 +1,6 @@
 //! Many calls in a mixed order on tables of either kind. After each, the slots are those of a plain
 //! list.
+use crate::crowd::CROWD;
 use crate::holding::holds_changed;
 use std::alloc::{AllocError, Global};
 use std::fmt::Write;
@@ -228,6 +229,15 @@ fn name_of(alloc: Global, number: u32) -> Mem<String> {
     Ok(name)
 }
 
+/// Returns one of 200 names, of which half collide.
+fn crowded_name(alloc: Global, number: u32) -> Mem<String> {
+    let at = number / 2;
+    match CROWD.get(at as usize) {
+        Some(name) if number % 2 == 0 => String::from_str(alloc, name),
+        _ => name_of(alloc, number),
+    }
+}
+
 /// Makes one of the calls on both, as the number says.
 fn calls<T: Mixed>(
     table: &mut T,
@@ -247,19 +257,23 @@ fn calls<T: Mixed>(
     }
 }
 
-/// Returns after how many of 5,000 calls on 200 names, in an order that looks mixed, there were
-/// nine slots or more, which are found by an index, or `None` if some call left another list.
-fn mixes<T: Mixed>(alloc: Global, table: &mut T) -> Mem<Option<u32>> {
-    let mut pairs = Vec::new(alloc);
+/// Returns after how many of 5,000 calls, in an order that looks mixed, there were nine slots or
+/// more, which are found by an index, or `None` if some call left another list. There are 200 names.
+fn mixes<T: Mixed, N: Fn(u32) -> Mem<String>>(
+    table: &mut T,
+    pairs: &mut Pairs,
+    name: &N,
+) -> Mem<Option<u32>> {
     let mut state: u32 = 1;
     let mut indexed: u32 = 0;
     for at in 0..5000u32 {
         state = state.wrapping_mul(1664525).wrapping_add(1013904223);
         let number = (state >> 8) % 200;
-        let name = name_of(alloc, number)?;
-        let is_right = calls(table, &mut pairs, name, (state >> 24) % 64, at)?;
-        let name = name_of(alloc, number)?;
-        if !is_right || !is_same(table, &pairs) || !finds_in_both(table, &pairs, name.as_str()) {
+        let is_right = calls(table, pairs, name(number)?, (state >> 24) % 64, at)?;
+        if !is_right
+            || !is_same(table, pairs)
+            || !finds_in_both(table, pairs, name(number)?.as_str())
+        {
             return Ok(None);
         }
         if pairs.len() > 8 {
@@ -271,7 +285,31 @@ fn mixes<T: Mixed>(alloc: Global, table: &mut T) -> Mem<Option<u32>> {
 
 /// Most calls are made with an index, which takes memory.
 fn mixes_all<T: Mixed>(alloc: Global, table: &mut T) -> bool {
-    matches!(mixes(alloc, table), Ok(Some(indexed)) if indexed > 4000)
+    let mut pairs = Vec::new(alloc);
+    let mixed = mixes(table, &mut pairs, &|number| name_of(alloc, number));
+    matches!(mixed, Ok(Some(indexed)) if indexed > 4000)
+}
+
+/// Puts 160 names in first, so that all calls are made with trees.
+fn mixes_crowd<T: Mixed>(alloc: Global, table: &mut T) -> bool {
+    let mut pairs = Vec::new(alloc);
+    let filled = fills(alloc, table, &mut pairs);
+    let mixed = mixes(table, &mut pairs, &|number| crowded_name(alloc, number));
+    matches!(filled, Ok(true)) && matches!(mixed, Ok(Some(indexed)) if indexed > 4000)
+}
+
+fn fills<T: Mixed>(alloc: Global, table: &mut T, pairs: &mut Pairs) -> Mem<bool> {
+    for number in 0..160u32 {
+        if !puts_in_both(
+            table,
+            pairs,
+            crowded_name(alloc, number)?,
+            i64::from(number),
+        )? {
+            return Ok(false);
+        }
+    }
+    Ok(true)
 }
 
 #[test]
@@ -286,6 +324,22 @@ fn mixes_inline_tables(rt: HostRuntime) {
             rt.alloc(),
             InlineTable::new(rt.alloc()),
             mixes_all::<InlineTable>
+        )
+    );
+}
+
+#[test]
+fn mixes_crowded_tables(rt: HostRuntime) {
+    assert!(rt; holds_changed(rt.alloc(), Table::new(rt.alloc()), mixes_crowd::<Table>));
+}
+
+#[test]
+fn mixes_crowded_inline_tables(rt: HostRuntime) {
+    assert!(rt;
+        holds_changed(
+            rt.alloc(),
+            InlineTable::new(rt.alloc()),
+            mixes_crowd::<InlineTable>
         )
     );
 }
