@@ -7,6 +7,7 @@
 
 #[cfg(test)]
 mod comparisons;
+#[cfg(test)]
 mod crowd;
 #[cfg(test)]
 mod displays;
