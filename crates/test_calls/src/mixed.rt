@@ -229,11 +229,11 @@ fn name_of(alloc: Global, number: u32) -> Mem<String> {
     Ok(name)
 }
 
-/// Returns one of 200 names, of which half collide.
-fn crowded_name(alloc: Global, number: u32) -> Mem<String> {
+/// Returns one of 200 names. If they are crowded, half of them collide.
+fn mixed_name(alloc: Global, number: u32, is_crowded: bool) -> Mem<String> {
     let at = number / 2;
     match CROWD.get(at as usize) {
-        Some(name) if number % 2 == 0 => String::from_str(alloc, name),
+        Some(name) if is_crowded && number % 2 == 0 => String::from_str(alloc, name),
         _ => name_of(alloc, number),
     }
 }
@@ -259,21 +259,21 @@ fn calls<T: Mixed>(
 
 /// Returns after how many of 5,000 calls, in an order that looks mixed, there were nine slots or
 /// more, which are found by an index, or `None` if some call left another list. There are 200 names.
-fn mixes<T: Mixed, N: Fn(u32) -> Mem<String>>(
+fn mixes<T: Mixed>(
+    alloc: Global,
     table: &mut T,
     pairs: &mut Pairs,
-    name: &N,
+    is_crowded: bool,
 ) -> Mem<Option<u32>> {
     let mut state: u32 = 1;
     let mut indexed: u32 = 0;
     for at in 0..5000u32 {
         state = state.wrapping_mul(1664525).wrapping_add(1013904223);
         let number = (state >> 8) % 200;
-        let is_right = calls(table, pairs, name(number)?, (state >> 24) % 64, at)?;
-        if !is_right
-            || !is_same(table, pairs)
-            || !finds_in_both(table, pairs, name(number)?.as_str())
-        {
+        let name = mixed_name(alloc, number, is_crowded)?;
+        let is_right = calls(table, pairs, name, (state >> 24) % 64, at)?;
+        let name = mixed_name(alloc, number, is_crowded)?;
+        if !is_right || !is_same(table, pairs) || !finds_in_both(table, pairs, name.as_str()) {
             return Ok(None);
         }
         if pairs.len() > 8 {
@@ -286,26 +286,20 @@ fn mixes<T: Mixed, N: Fn(u32) -> Mem<String>>(
 /// Most calls are made with an index, which takes memory.
 fn mixes_all<T: Mixed>(alloc: Global, table: &mut T) -> bool {
     let mut pairs = Vec::new(alloc);
-    let mixed = mixes(table, &mut pairs, &|number| name_of(alloc, number));
-    matches!(mixed, Ok(Some(indexed)) if indexed > 4000)
+    matches!(mixes(alloc, table, &mut pairs, false), Ok(Some(indexed)) if indexed > 4000)
 }
 
-/// Puts 160 names in first, so that all calls are made with trees.
+/// All calls are made with trees, since 160 names are put in first.
 fn mixes_crowd<T: Mixed>(alloc: Global, table: &mut T) -> bool {
     let mut pairs = Vec::new(alloc);
-    let filled = fills(alloc, table, &mut pairs);
-    let mixed = mixes(table, &mut pairs, &|number| crowded_name(alloc, number));
-    matches!(filled, Ok(true)) && matches!(mixed, Ok(Some(indexed)) if indexed > 4000)
+    matches!(fills(alloc, table, &mut pairs), Ok(true))
+        && matches!(mixes(alloc, table, &mut pairs, true), Ok(Some(indexed)) if indexed > 4000)
 }
 
 fn fills<T: Mixed>(alloc: Global, table: &mut T, pairs: &mut Pairs) -> Mem<bool> {
     for number in 0..160u32 {
-        if !puts_in_both(
-            table,
-            pairs,
-            crowded_name(alloc, number)?,
-            i64::from(number),
-        )? {
+        let name = mixed_name(alloc, number, true)?;
+        if !puts_in_both(table, pairs, name, i64::from(number))? {
             return Ok(false);
         }
     }
