@@ -11,7 +11,8 @@
 - Links, their anchors, paths in backticks, and pages that sources name lead somewhere.
 - Numbers that are marked, as `2,385<!-- rows -->`, are those of the repository. One that ends in zeros is a rounded one.
 - Pages say how many must-fail edits, tests and rows there are, so that none is lost unseen.
-- Each must-fail edit still fits: its file is there, has the old text once, and is changed in no more than one function.
+- Each must-fail edit still fits: its file is there, has the old text once, and is changed in no more than one function. So does each bug
+  of tools/bugs.
 - The list of files that share code, in DECISIONS between two comments, is that of tools/duplicates.py.
 - Pages are not too large, no sentence is too long, and no word of tools/words.txt is used.
 """
@@ -265,6 +266,10 @@ class Check:
                 self.fault(name, 1, "changes the bodies of %s: make it two edits" % " and ".join(sorted(changed)))
             if not texts:
                 self.fault(name, 1, "changes nothing")
+        for path, old, _ in pairs_of(read(TOP + "/tools/bugs")):
+            file = "crates/" + path
+            if file not in self.files or read(TOP + "/" + file).count(old) != 1:
+                self.fault("tools/bugs", 1, "the old text is not once in %s: %s" % (file, old))
 
     def function_at(self, file, line):
         """The name of the function in whose lines one is, in a set."""

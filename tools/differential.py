@@ -11,8 +11,9 @@ Each text is made by a grammar, and half of them are then changed somewhere. It 
 - the Rust crate, by the program of `bench/crate`, if that was built.
 
 Of each text: whether it is accepted as TOML 1.0 as the others accept it, and as 1.1 at least where 1.0 does; that it means the same; that
-the print of the print is the print, in the plain and in the exact mode, and that both mean what the text means; and of one that is accepted
-that `set` of a key that is there, `set` of a new one and `remove` change the dictionary so, and no other statement of the text.
+the print of the print is the print, in the plain and in the exact mode, and that both mean what the text means; that the exact print of a
+text without dots and arrays of tables is the text; and of one that is accepted that `get` writes what means the same, and that `set` of a
+key that is there, `set` of a new one and `remove` change the dictionary so, and no other statement of the text.
 
 `EXPLAINED` has the differences that are meant, or faults of the others, each with its reason. Any other one is printed with a shortest text
 that still has it, and the status is then 1.
@@ -317,6 +318,8 @@ class Tries:
         if plain is not None:
             found.extend(self.prints(text, plain, []))
             found.extend(self.prints(text, plain, ["exact"]))
+            found.extend(self.kept(text))
+            found.extend(self.gets(text, plain, Maker(seed)))
             found.extend(self.edits(text, plain, Maker(seed)))
         return found
 
@@ -330,6 +333,24 @@ class Tries:
         came = self.plain(first.stdout.decode())
         if came is None or not conformance.same(meaning, came):
             yield name, "the %s means something else" % name
+
+    def kept(self, text):
+        """A text in which each key has one mention is its own print, in the exact mode."""
+        if not re.search(r"\.|\[\[|^\ufeff", text):
+            printed = ran([self.tomled, "exact", "print"], text).stdout.decode()
+            if printed != text:
+                yield "exact print", "the print is %r" % printed
+
+    def gets(self, text, meaning, chance):
+        """`get` writes a value, or the lines of a table, that mean what is there."""
+        found = [(path, inner) for path, inner in below(meaning) if is_leaf(inner) or isinstance(inner, dict) and all(map(is_leaf, inner.values()))]
+        if found:
+            path, inner = chance.choice(found)
+            name = ".".join(map(spelled, path))
+            wrote = ran([self.tomled, "get", name], text).stdout.decode()
+            came = [self.plain(wrote), (self.plain("it = " + wrote) or {}).get("it")]
+            if not any(it is not None and conformance.same(inner, it) for it in came):
+                yield "get", "get %s: %r" % (name, wrote)
 
     def edits(self, text, meaning, chance):
         """`set` and `remove` change what they should, and no other statement."""
