@@ -255,7 +255,8 @@ def beside(tool, program, base, text):
 
 
 def print_beside(program, others):
-    """Prints, for each kind, what the programs take, and the ratio to each of the others; "-" if one does not print what it read."""
+    """Prints, for each kind, what the programs take, and the ratio to each of the others; "-" if one does not print what it read, or,
+    as massif sees no heap of a program that is linked statically, if nothing was counted."""
     programs, tools = (program, *others), ((instructions, 128), (peak, 1024))
     with concurrent.futures.ThreadPoolExecutor(os.cpu_count()) as pool:
         empty = {(tool, it): pool.submit(tool, it, "") for tool, _ in tools for it in programs}
@@ -275,15 +276,15 @@ def print_beside(program, others):
                 words.append("%.1f" % ours)
                 for it in others:
                     theirs = counts[name, tool, it].result()
-                    words += ["-", "-"] if theirs is None else ["%.1f" % theirs, "%.2f" % (ours / theirs)]
-                    ratios[tool, it] += [] if theirs is None else [ours / theirs]
+                    words += ["-", "-"] if not theirs else ["%.1f" % theirs, "%.2f" % (ours / theirs)]
+                    ratios[tool, it] += [] if not theirs else [ours / theirs]
             print("| %s | %s |" % (name, " | ".join(words)))
             sys.stdout.flush()
         means = ["geometric mean"]
         for tool, _ in tools:
             means.append("")
             for it in others:
-                means += ["", "%.2f" % geometric_mean(ratios[tool, it])]
+                means += ["", "%.2f" % geometric_mean(ratios[tool, it]) if ratios[tool, it] else "-"]
         print("| %s |" % " | ".join(means))
 
 
