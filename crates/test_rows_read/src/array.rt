@@ -37,7 +37,12 @@ fn change(array: &mut Array, words: &[Json], out: &mut Answer) {
             put_at(array, words, make::value(behind(words, 2), out), out);
         }
         "remove" => remove(array, index(words), out),
-        "push_line" | "insert_line" | "remove_line" => array_lines::change(array, words, out),
+        "push_line"
+        | "insert_line"
+        | "remove_line"
+        | "set_line_comment"
+        | "retain_lines"
+        | "remove_comments_before" => array_lines::change(array, words, out),
         "get_mut" => lend(array, words, make::value(behind(words, 2), out), out),
         "slot_at_mut" => set_none(array.slot_at_mut(index(words)), out),
         "element_decor_mut" => change_decor_of(array.get_mut(index(words)), behind(words, 2), out),

@@ -52,7 +52,7 @@ fn change_comments(decor: &mut Decor, words: &[Json], out: &mut Answer) {
 }
 
 /// Writes why the comment is refused, if it is. Notes it if memory ran out.
-fn commented(changed: Result<(), CommentFault>, out: &mut Answer) {
+pub(crate) fn commented(changed: Result<(), CommentFault>, out: &mut Answer) {
     match changed {
         Ok(()) => {}
         Err(CommentFault::Text) => out.shown(&CommentFault::Text),

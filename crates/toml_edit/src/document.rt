@@ -685,7 +685,8 @@ impl DocumentMut {
     ///
     /// What a table or a value has of its own comes before what is below it, and the lines of a
     /// table come before the tables below it. Headers that are printed too early come last, in the
-    /// order of the tree. Takes memory only for the path of the place.
+    /// order of the tree. Of two rules that one place breaks, `Dotted` is named first, and too long
+    /// a path before a decor. Takes memory only for the path of the place.
     ///
     /// # Errors
     ///

@@ -23,10 +23,10 @@ use toml_edit_tree::{Item, Table, Value};
 
 /// Puts the value at the path below the root.
 ///
-/// A value that is there is replaced, and its decor stays; a placeholder is filled. A missing key
-/// is added at the end of its table, with inline tables down to the value if more are missing. A
-/// segment below an array or an array of tables is the number of an element, as
-/// [`number_of`](crate::number_of) reads it.
+/// A value that is there is replaced, and its decor stays. A placeholder in a table is filled, and
+/// one in an array is not found. A missing key is added at the end of its table, in default spelling
+/// and with inline tables down to the value if more are missing. A segment below an array or an array
+/// of tables is the number of an element, as [`number_of`](crate::number_of) reads it.
 ///
 /// # Errors
 ///

@@ -202,7 +202,7 @@ after-is t (Some x) (i, j, found, front, back, le, at, long) =
 
 -- ---- the first newline
 
-prefix-is : (n : Node) → side_text (option_and_then (λ n. (node_decor n).prefix) (if is_value_node n then Some n else None))
+pub prefix-is : (n : Node) → side_text (option_and_then (λ n. (node_decor n).prefix) (if is_value_node n then Some n else None))
     ≡ side_text (node_decor n).prefix
 prefix-is (leaf s spelling d) = refl
 prefix-is (list f xs) = refl

@@ -16,6 +16,8 @@ pub mod LineValueLaws
 pub mod VisitLaws
 pub mod ElementLaws
 pub mod ArrayLineLaws
+pub mod LineCommentLaws
+pub mod LineRetainLaws
 pub mod RetainLaws
 pub mod HoldsLaws
 pub mod SortsLaws

@@ -8,6 +8,8 @@ pub mod ContainerParts
 pub mod TableLending
 pub mod Elements
 pub mod ArrayLines
+pub mod LineComments
+pub mod LinesRetained
 pub mod ElementHolds
 pub mod ElementLending
 pub mod ItemParts

@@ -31,6 +31,8 @@ use toml_edit_repr::{Decor, Mem, RawString};
 use toml_edit_slots::{NoMemory, list};
 
 mod iter;
+mod line_comments;
+mod line_retain;
 mod line_texts;
 mod lines;
 mod sort;

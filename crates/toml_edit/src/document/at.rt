@@ -33,11 +33,12 @@ impl DocumentMut {
 
     /// Puts the value at `path`.
     ///
-    /// A value that is there is replaced, and its decor stays; a placeholder is filled. A missing
-    /// key is added at the end of its table, with inline tables down to the value if more are
-    /// missing. So comments and spacing stay, and only the statement with the path changes, or one
-    /// is added: see [`laws::replaced`](crate::laws::replaced) and
-    /// [`laws::added`](crate::laws::added).
+    /// A value that is there is replaced, and its decor stays. A placeholder in a table is filled,
+    /// and one in an array is not found. A missing key is added at the end of its table, with inline
+    /// tables down to the value if more are missing. It gets the name of the path's key in its
+    /// default spelling, as by [`Key::new`]: `insert_formatted` of a table keeps the spelling. So
+    /// comments and spacing stay, and only the statement with the path changes, or one is added: see
+    /// [`laws::replaced`](crate::laws::replaced) and [`laws::added`](crate::laws::added).
     ///
     /// # Errors
     ///

@@ -108,7 +108,8 @@ impl Array {
     /// Returns the comment after the value at index `at` and its comma, on the same line, or `None`
     /// if there is none or `at` is past the end.
     ///
-    /// It is the text after the `#` up to the end of the line. Nothing is trimmed.
+    /// It is the text after the `#` up to the end of the line. Nothing is trimmed. It is changed by
+    /// [`set_line_comment`](Self::set_line_comment).
     pub fn line_comment(&self, at: usize) -> Option<&str>
         ensures { option_copied result
             ≡ comment_behind at (array_fields self.now) (items_of self.now) }
@@ -153,7 +154,7 @@ fn gaps_around(array: &Array, at: usize, decor: &Decor) -> Mem<(RawString, RawSt
 }
 
 /// Returns the indentation of what is at the place, which is empty for the closing bracket.
-fn next_indent<'a>(array: &Array, at: usize, indent: &'a str) -> &'a str
+pub(crate) fn next_indent<'a>(array: &Array, at: usize, indent: &'a str) -> &'a str
     ensures { result.now
         ≡ (if not (nat_lt at (length (items_of array.now))) then [] else indent.entry.now) }
 {
@@ -205,7 +206,7 @@ fn place_beside(array: &Array, at: usize) -> usize
 }
 
 /// Returns the newline for lines where this gap is.
-fn newline_at(array: &Array, gap: &str) -> &'static str
+pub(crate) fn newline_at(array: &Array, gap: &str) -> &'static str
     ensures { result.now ≡ newline_at gap.now (array_fields array.now) (items_of array.now) }
 {
     if is_broken(gap) {
@@ -238,7 +239,7 @@ fn newline_at_end(array: &Array) -> &'static str
 }
 
 /// Returns the white space that begins the line of the value beside the place.
-fn indent_at(array: &Array, at: usize) -> &str
+pub(crate) fn indent_at(array: &Array, at: usize) -> &str
     ensures { result.now ≡ indent_at at (items_of array.now) }
 {
     match line_begun(array, place_beside(array, at)) {
@@ -308,7 +309,7 @@ fn follow(array: &mut Array, at: usize)
 }
 
 /// Sets the gap after the value at the place.
-fn put_gap_after(array: &mut Array, at: usize, gap: RawString)
+pub(crate) fn put_gap_after(array: &mut Array, at: usize, gap: RawString)
     requires { at < length (items_of array.old) }
     ensures items { items_of array.new
         ≡ with_gap (suc at) gap (array_fields array.old) (items_of array.old) }
@@ -441,7 +442,7 @@ fn with_decor_taken(value: Value, decor: Option<Decor>) -> Value
 }
 
 /// Sets the prefix of the value at the place, if there is one.
-fn set_prefix(array: &mut Array, at: usize, prefix: RawString)
+pub(crate) fn set_prefix(array: &mut Array, at: usize, prefix: RawString)
     ensures items { items_of array.new
         ≡ changed_at at (with_prefix prefix) (items_of array.old) }
     ensures fields { array_fields array.new ≡ array_fields array.old }
@@ -475,7 +476,7 @@ fn set_prefix_only(array: &mut Array, at: usize, prefix: RawString)
 }
 
 /// Returns the gap at the place.
-fn gap_text(array: &Array, at: usize) -> Mem<String>
+pub(crate) fn gap_text(array: &Array, at: usize) -> Mem<String>
     ensures { IfOk result (λ text. string_bytes text
         ≡ gap at (array_fields array.now) (items_of array.now)) }
 {
@@ -521,7 +522,7 @@ fn text_behind(array: &Array, at: usize) -> &str
 }
 
 /// Returns the prefix of the value at the place.
-fn prefix_at(array: &Array, at: usize) -> Option<&RawString>
+pub(crate) fn prefix_at(array: &Array, at: usize) -> Option<&RawString>
     ensures { option_copied result ≡ prefix_at at (items_of array.now) }
 {
     array.get(at)?.decor().prefix()
