@@ -34,6 +34,7 @@ pub fn change(document: &mut DocumentMut, words: &[Json], out: &mut Answer) {
 fn change_at(document: &mut DocumentMut, path: &[Key], words: &[Json], out: &mut Answer) {
     match word(words, 0) {
         "remove_at" => tell_changed(document.remove_at(path), out),
+        "remove_line_at" => tell_changed(document.remove_line_at(path), out),
         "change_at" => tell_taken(document.change_at(path, |item| to_zero(item)), out),
         "set_at" => set(document, path, make::value(behind(words, 2), out), out),
         _ => set_with_headers(document, path, make::value(behind(words, 2), out), out),

@@ -106,7 +106,7 @@ impl Tries<DocumentMut> for Tables {
             "clone" => copied::<Tables, _>(document.clone(out.alloc), rest, out),
             "as_table_mut" => table::change(document.as_table_mut(), rest, out),
             "index_or_insert" => indexing::go_into(document, words, out),
-            "set_at" | "set_at_with_headers" | "remove_at" | "change_at" => {
+            "set_at" | "set_at_with_headers" | "remove_at" | "remove_line_at" | "change_at" => {
                 at::change(document, words, out);
             }
             "set_exact" => document.set_exact(is_true(words)),

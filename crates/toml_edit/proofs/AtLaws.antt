@@ -14,6 +14,7 @@ use Rattle.toml_edit_tree.specs.declared.table.Table.{Table}
 use Rattle.toml_edit_paths.specs.Calls.{Change, ChangesFound, TakesFound, item_inside, replaced_at, replaced_below}
 use Rattle.toml_edit_paths.specs.Changes.{Changes}
 use Rattle.toml_edit_paths.specs.Headed.{set_at_with_headers, set_headed_below}
+use Rattle.toml_edit_paths.specs.Lines.{remove_line_at, remove_line_below}
 use Rattle.toml_edit_paths.specs.declared.fault.ChangeFault.{ChangeFault}
 use Rattle.toml_edit_paths.specs.declared.fault.ChangeFault.TheVariants.{NoSuchPath, WrongKind, Memory}
 use Rattle.toml_edit.specs.DocumentView.{tree_owned}
@@ -68,6 +69,15 @@ module _ (t u : Tree) (trailing : u.trailing ≡ t.trailing) where
   remove-done (k ∷ l ∷ path) h =
       ap (mapped (with_slots t)) h
       ∙ ap done (slots-change (change_slot false k (remove_below (l ∷ path)) (slot_list t.slots) (lookup_slot k (slot_list t.slots))) h)
+
+  pub remove-line-done : (path : List Text) → remove_line_below path (root_item t) ≡ done (root_item u) → remove_line_at path t ≡ done u
+  remove-line-done [] h = cc
+  remove-line-done (k ∷ []) h =
+      ap (mapped (with_slots t)) h ∙ ap done (slots-change (drop_slot k (slot_list t.slots) (present (lookup_slot k (slot_list t.slots))))
+      h)
+  remove-line-done (k ∷ l ∷ path) h =
+      ap (mapped (with_slots t)) h
+      ∙ ap done (slots-change (change_slot false k (remove_line_below (l ∷ path)) (slot_list t.slots) (lookup_slot k (slot_list t.slots))) h)
 
 -- ---- the root that a document lends
 
@@ -127,6 +137,16 @@ module _ (d : DocumentMut) (t w : Table) (fields : fields_view t ≡ (tree_owned
       (ap (remove_below path) (sym was) ∙ h)
       ∙ ap done is)
       (λ q h. ap (mapped (with_slots (tree_owned d))) (ap (remove_below path) (sym was) ∙ h))
+
+  pub remove-line-root : (path : List Text) (r : Result (Unit {0}) ChangeFault)
+      → Changes (remove_line_below path (node_of t)) (node_of t) (node_of w) r
+      → Changes (remove_line_at path (tree_owned d)) (tree_owned d) (tree_under (items.Table w) d.trailing) r
+  remove-line-root path r =
+      changed r (remove_line_below path (node_of t)) (remove_line_at path (tree_owned d))
+      (λ h. remove-line-done (tree_owned d) (tree_view w d.trailing) (sym (trailing-at (item_view d.root) d.trailing)) path
+      (ap (remove_line_below path) (sym was) ∙ h)
+      ∙ ap done is)
+      (λ q h. ap (mapped (with_slots (tree_owned d))) (ap (remove_line_below path) (sym was) ∙ h))
 
   pub headers-root : (path : List Text) (v : Node) (r : Result (Unit {0}) ChangeFault)
       → Changes (set_headed_below v path (node_of t)) (node_of t) (node_of w) r

@@ -8,3 +8,4 @@ pub mod SetLaws
 pub mod AlterLaws
 pub mod ElementViews
 pub mod StepLaws
+pub mod LineLaws

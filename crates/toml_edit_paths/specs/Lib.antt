@@ -4,6 +4,7 @@ pub mod Changes
 pub mod Elements
 pub mod Faults
 pub mod Headed
+pub mod Lines
 -- Cited by private contracts.
 pub mod Items
 pub mod Setting

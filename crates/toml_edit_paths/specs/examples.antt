@@ -1,3 +1,4 @@
 -- Worked examples of changes at a path.
 pub mod Headed
 pub mod Calls
+pub mod Lines

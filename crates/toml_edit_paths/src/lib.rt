@@ -8,6 +8,7 @@ mod find;
 mod make;
 mod put;
 mod take;
+mod take_line;
 
 pub use alter::change;
 pub use element::number_of;
@@ -15,3 +16,4 @@ pub use fault::ChangeFault;
 pub use find::get;
 pub use put::{set, set_with_headers};
 pub use take::remove;
+pub use take_line::remove_line;

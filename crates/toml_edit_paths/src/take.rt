@@ -54,7 +54,7 @@ fn remove_in_table(table: &mut Table, key: &Key, rest: &[Key]) -> Result<(), Cha
 
 /// Removes the item at the path below the item. Fails with `NoSuchPath` alone.
 #[cycle(remove)]
-fn remove_in_item(item: &mut Item, key: &Key, rest: &[Key]) -> Result<(), ChangeFault>
+pub(crate) fn remove_in_item(item: &mut Item, key: &Key, rest: &[Key]) -> Result<(), ChangeFault>
     ensures changes { Changes
         (remove_below (key.now.name ∷ names rest.now) (item_view item.old))
         (item_view item.old) (item_view item.new) result }
@@ -111,7 +111,7 @@ fn remove_in_slots(slots: &mut Slots<Item>, key: &Key, rest: &[Key]) -> Result<(
 }
 
 /// Removes the slot of the key, unless it is a placeholder.
-fn remove_slot(slots: &mut Slots<Item>, key: &str) -> Result<(), ChangeFault>
+pub(crate) fn remove_slot(slots: &mut Slots<Item>, key: &str) -> Result<(), ChangeFault>
     ensures changes { Changes
         (drop_slot key.now (shown_slots slots.old)
         (present (lookup_slot key.now (shown_slots slots.old)))) (shown_slots slots.old)

@@ -5,6 +5,7 @@ ghost use Rattle.toml_edit_tree.specs.View.{item_view, value_view};
 ghost use Rattle.toml_edit_paths.specs.Calls.{ChangesFound, TakesFound, item_inside, replaced_at};
 ghost use Rattle.toml_edit_paths.specs.Changes.{Changes};
 ghost use Rattle.toml_edit_paths.specs.Headed.{set_at_with_headers};
+ghost use Rattle.toml_edit_paths.specs.Lines.{remove_line_at};
 ghost use Rattle.toml_edit_paths.specs.declared.fault.ChangeFault.TheVariants.{NoSuchPath};
 ghost use Rattle.toml_edit.specs.DocumentView.{IsPrintedAs, tree_owned};
 ghost use Rattle.toml_edit_model.specs.Keys.{names};
@@ -121,5 +122,23 @@ impl DocumentMut {
         ensures printed { IsPrintedAs self.new self.old }
     {
         toml_edit_paths::remove(self.as_table_mut(), path)
+    }
+
+    /// Removes the item at `path`, as [`remove_at`](Self::remove_at) does, but an element of an array
+    /// as [`Array::remove_line`] does: with its line, if it is alone there.
+    ///
+    /// The comments above the element and on its line go with it, and those of the elements before
+    /// and after it stay. Takes memory for an element of an array only.
+    ///
+    /// # Errors
+    ///
+    /// Fails with [`ChangeFault::NoSuchPath`] if there is no such item, and with
+    /// [`ChangeFault::Memory`] if out of memory. The document is unchanged then.
+    pub fn remove_line_at(&mut self, path: &[Key]) -> Result<(), ChangeFault>
+        ensures changes { Changes (remove_line_at (names path.now) (tree_owned self.old))
+            (tree_owned self.old) (tree_owned self.new) result }
+        ensures printed { IsPrintedAs self.new self.old }
+    {
+        toml_edit_paths::remove_line(self.as_table_mut(), path)
     }
 }
