@@ -1,3 +1,4 @@
 pub mod renaming
 pub mod comments
 pub mod placing
+pub mod path_calls

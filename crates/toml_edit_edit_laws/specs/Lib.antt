@@ -2,5 +2,8 @@
 pub mod Renaming
 pub mod Comments
 pub mod Placing
+pub mod DottedAdds
+pub mod Staying
+pub mod PathEdits
 -- Worked examples: nothing cites them.
 pub mod examples

@@ -2,3 +2,4 @@
 pub mod Renames
 pub mod HeaderDecors
 pub mod Places
+pub mod Calls

@@ -4,8 +4,11 @@
 
 ghost use Rattle.toml_edit_model.specs.Mode.{Mode};
 ghost use Rattle.toml_edit_edit_laws.specs.Comments.{AfterLine, BeforeLine, HeaderRecommented, HeaderRecommentedMeans, HeaderRecommentedStaysMade, HiddenRecommented, KeepsHeader, LineRecommented, RecommentedMeans, RecommentedStaysMade, RootRecommented};
+ghost use Rattle.toml_edit_edit_laws.specs.DottedAdds.{AddedAfterLines};
+ghost use Rattle.toml_edit_edit_laws.specs.PathEdits.{OneCallMore, RemoveEdits, RootIsNamed, SetAddsAfterLines, SetAddsUnder, SetReplaces, TablesAreNamed};
 ghost use Rattle.toml_edit_edit_laws.specs.Placing.{AbsentStays, InsertedAt, InsertedMeans, InsertedStands, InsertedStaysMade, MovedInside, MovedLine, MovedMeans, MovedOthers, MovedStands, MovedStaysMade, PlacedStays};
 ghost use Rattle.toml_edit_edit_laws.specs.Renaming.{Renamed, RenamedLine, RenamedMeans, RenamedOthers, RenamedStaysMade, RenameRefused};
+ghost use Rattle.toml_edit_edit_laws.specs.Staying.{AfterLinesStays, CommentStays, EditStays, InsertionStays, MoveStays, NothingChanges, OneAfterAnother, RenamingStays};
 
 /// A slot of a steady tree gets another name, which no other slot of its table has: what is printed
 /// elsewhere stays, and of a value one statement changes, by the spelling of that key. All that was
@@ -58,4 +61,36 @@ pub fn moved()
     ensures stands { MovedStands }
     ensures absent { AbsentStays }
     ensures placed { PlacedStays }
+{}
+
+/// A `set_at` at a value, or at a new key of the root or of a table with a printed header, and each
+/// `remove_at` is an edit of a steady tree. At a new key of a table that has lines, such as a dotted
+/// one, `set_at` adds one statement after them. All statements at other paths stay.
+pub fn path_edits()
+    ensures replaces { (mode : Mode) → SetReplaces mode }
+    ensures adds { (mode : Mode) → SetAddsUnder mode }
+    ensures adds_after_lines { (mode : Mode) → SetAddsAfterLines mode }
+    ensures removes { (mode : Mode) → RemoveEdits mode }
+    ensures more { OneCallMore }
+    ensures root { RootIsNamed }
+    ensures named { TablesAreNamed }
+{}
+
+/// A value is added under a new key of a steady tree, in a table that has lines, such as a dotted
+/// one: one statement more is printed, after those lines.
+pub fn added_after_lines()
+    ensures change { (mode : Mode) → AddedAfterLines mode }
+{}
+
+/// The statements of a steady tree that are at none of the paths of some calls, nor below one, stay
+/// as they were, in the same order. This holds of each call by itself, and of calls after calls.
+pub fn others_stay()
+    ensures none { (mode : Mode) → NothingChanges mode }
+    ensures both { (mode : Mode) → OneAfterAnother mode }
+    ensures edit { (mode : Mode) → EditStays mode }
+    ensures after_lines { (mode : Mode) → AfterLinesStays mode }
+    ensures renaming { (mode : Mode) → RenamingStays mode }
+    ensures insertion { (mode : Mode) → InsertionStays mode }
+    ensures moving { (mode : Mode) → MoveStays mode }
+    ensures comment { (mode : Mode) → CommentStays mode }
 {}
