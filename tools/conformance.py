@@ -1,22 +1,23 @@
 #!/usr/bin/env python3
 """Tries the common suite of TOML's texts, toml-test: each valid text means what the suite says, and each invalid one is refused.
 
-    tools/conformance.py [--program FILE] [SUITE]
+    tools/conformance.py [--in FOLDER | --unproved] [SUITE]
 
 SUITE is the folder that has `valid` and `invalid`. Left out, it is where Debian's package `golang-github-burntsushi-toml-dev` puts it.
 Each text is tried as TOML 1.0 and as TOML 1.1. Where the suite lists the files of each version (`files-toml-1.0.0`), these are the texts of
 that version. An older suite has one set of files, and names those that 1.0 lacks in `version.go` beside the folder.
 
-The program writes a meaning as the suite has it: run `rt run < stdin` in crates/test_meaning once, or name another one by `--program`. It
-reads TOML 1.0 where its last argument is `strict`, and ends with 0, or with 1 where it refuses the text. Floats are compared by their
-value, and date-times by their parts.
+The program test_meaning writes a meaning as the suite has it. It is the proved one, after `rt run < stdin` in crates/test_meaning, or the
+one in FOLDER, or one that is built by `--unproved`, which takes a minute. It reads TOML 1.0 where its last argument is `strict`, and ends
+with 0, or with 1 where it refuses the text. Floats are compared by their value, and date-times by their parts.
 
 `KNOWN` has the texts that the program takes otherwise than the suite, with the reason. One that no longer differs is reported too.
 """
-import concurrent.futures, json, os, re, subprocess, sys
+import concurrent.futures, json, os, re, subprocess, sys, tempfile
+
+import unproved
 
 TOP = os.path.dirname(os.path.dirname(os.path.abspath(__file__)))
-PROGRAM = TOP + "/crates/test_meaning/out/test_meaning"
 PACKAGE = "golang-github-burntsushi-toml-dev"
 SUITE = "/usr/share/gocode/src/github.com/BurntSushi/toml/internal/toml-test/tests"
 # How each version is asked for, and the name of the suite's list of its files.
@@ -130,17 +131,14 @@ def try_version(pool, program, suite, version):
 
 
 def main():
-    words, program = sys.argv[1:], PROGRAM
+    words = sys.argv[1:]
     if words[:1] == ["--help"]:
         return print(__doc__.strip())
-    if words[:1] == ["--program"] and words[1:]:
-        program, words = os.path.abspath(words[1]), words[2:]
-    suite = os.path.abspath(words[0] if words else SUITE)
-    if not os.path.isdir(suite + "/valid"):
-        sys.exit("no suite at %s: install Debian's package %s, or name the folder" % (suite, PACKAGE))
-    if not os.path.exists(program):
-        sys.exit("no program at %s: run `rt run < stdin` in crates/test_meaning first, or name another by --program" % program)
-    with concurrent.futures.ThreadPoolExecutor(os.cpu_count()) as pool:
+    with tempfile.TemporaryDirectory() as folder, concurrent.futures.ThreadPoolExecutor(os.cpu_count()) as pool:
+        (program,), words = unproved.programs(["test_meaning"], words, folder)
+        suite = os.path.abspath(words[0] if words else SUITE)
+        if not os.path.isdir(suite + "/valid"):
+            sys.exit("no suite at %s: install Debian's package %s, or name the folder" % (suite, PACKAGE))
         results = [try_version(pool, program, suite, version) for version in VERSIONS]
     differ = sum(count for count, _ in results)
     print("%s; %s" % ("; ".join(line for _, line in results), "%d differ" % differ if differ else "all others as the suite says"))

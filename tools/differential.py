@@ -1,8 +1,8 @@
 #!/usr/bin/env python3
 """Compares the program with other readers of TOML on generated texts, and its edits with those of a dictionary.
 
-    tools/differential.py [--in FOLDER] [COUNT [SEED]]     tries COUNT texts (2000) by a SEED (1)
-    tools/differential.py [--in FOLDER] --text FILE        tries one text
+    tools/differential.py [--in FOLDER | --unproved] [COUNT [SEED]]     tries COUNT texts (2000) by a SEED (1)
+    tools/differential.py [--in FOLDER | --unproved] --text FILE        tries one text
 
 Each text is made by a grammar, and half of them are then changed somewhere. It asks each of these that is there:
 
@@ -18,8 +18,8 @@ key that is there, `set` of a new one and `remove` change the dictionary so, and
 `EXPLAINED` has the differences that are meant, or faults of the others, each with its reason. Any other one is printed with a shortest text
 that still has it, and the status is then 1.
 
-It wants the built programs: run `rt run < stdin` in crates/test_meaning and `rt run -- print < /dev/null` in crates/tomled once, or name
-the folder that has them.
+It wants the programs tomled and test_meaning. They are the proved ones, after `rt run < stdin` in the folder of each, or those in FOLDER, or
+built by `--unproved`, which takes two minutes.
 """
 import concurrent.futures
 import datetime
@@ -32,6 +32,7 @@ import sys
 import tempfile
 
 import conformance
+import unproved
 from conformance import TOP
 
 try:
@@ -453,23 +454,22 @@ def main():
     words = sys.argv[1:]
     if words[:1] == ["--help"]:
         return print(__doc__.strip())
-    programs = [TOP + "/crates/%s/out/%s" % (crate, crate) for crate in ("tomled", "test_meaning")]
-    if words[:1] == ["--in"] and words[1:]:
-        programs, words = [words[1] + "/" + os.path.basename(program) for program in programs], words[2:]
-    for program in programs:
-        if not os.path.exists(program):
-            sys.exit("no program at %s: run `rt run` in crates/%s first" % (program, os.path.basename(program)))
-    if words[:1] == ["--text"]:
-        with open(words[1], encoding="utf-8", newline="") as file:
-            texts = [(file.read(), 0)]
-    else:
-        count, seed = [int(word) for word in words + ["2000", "1"][len(words):]]
-        texts = [(Maker("%d %d" % (seed, number)).text(), number) for number in range(count)]
     with tempfile.TemporaryDirectory() as folder, concurrent.futures.ThreadPoolExecutor(os.cpu_count()) as pool:
+        programs, words = unproved.programs(["tomled", "test_meaning"], words, folder)
+        texts = texts_of(words)
         tries = Tries(folder, *programs)
         found = list(pool.map(lambda task: tries.differences(*task), texts))
         accepted = sum(1 for it in pool.map(lambda task: tries.plain(task[0]), texts) if it is not None)
         return report(tries, texts, found, accepted)
+
+
+def texts_of(words):
+    """The texts that the words say, each with its number."""
+    if words[:1] == ["--text"]:
+        with open(words[1], encoding="utf-8", newline="") as file:
+            return [(file.read(), 0)]
+    count, seed = [int(word) for word in words + ["2000", "1"][len(words):]]
+    return [(Maker("%d %d" % (seed, number)).text(), number) for number in range(count)]
 
 
 def report(tries, texts, found, accepted):

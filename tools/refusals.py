@@ -1,9 +1,12 @@
 #!/usr/bin/env python3
 """Tries all rows, each with each of its allocations refused in turn, and prints how the runs ended.
 
-`tools/refusals.py [STEP [WORD]]` takes the rows of `stdin` of each of the three programs, of the generated ones at the end of the first each
-STEP-th (4), and of all these the ones that hold WORD. It wants the built programs (run `rt run < stdin` in the folder of each once) and a C
-compiler, by which it puts a counting `malloc` and `realloc` before those of the C library.
+    tools/refusals.py [--in FOLDER | --unproved] [STEP [WORD]]
+
+It takes the rows of `stdin` of each of the three programs, of the generated ones at the end of the first each STEP-th (4), and of all these
+the ones that hold WORD. The programs are the proved ones, after `rt run < stdin` in the folder of each, or those in FOLDER, or built by
+`--unproved`, which takes some three minutes. It wants a C compiler too, by which it puts a counting `malloc` and `realloc` before those of
+the C library.
 
 A row is well where each run with a refused allocation ends with status 2 and writes no row as one that doesn't hold, or holds all the same.
 The programs judge what a refused call leaves. They write the row if the call has changed what it was asked of, has given something else
@@ -15,6 +18,8 @@ A row with the step `take_no_memory` is run once more with every allocation behi
 Of a row with steps that has more than 6,000 characters, only each 17th allocation is refused.
 """
 import collections, multiprocessing, os, re, subprocess, sys, tempfile
+
+import unproved
 
 TOP = os.path.dirname(os.path.dirname(os.path.abspath(__file__)))
 PROGRAMS = ["test_rows", "test_rows_tables", "test_rows_values"]
@@ -81,7 +86,7 @@ def runs(program, row, library):
         file.flush()
         first, each = -ROOM if STEP_WITHOUT in row else 1, EACH if len(row) > LONG and '"steps"' in row else 1
         given = {"LD_PRELOAD": library, "ROW": file.name, "FIRST": str(first), "EACH": str(each)}
-        told = subprocess.run([TOP + "/crates/%s/out/%s" % (program, program)], stdin=subprocess.DEVNULL, capture_output=True, env=given).stdout
+        told = subprocess.run([program], stdin=subprocess.DEVNULL, capture_output=True, env=given).stdout
     place = 0
     while place < len(told):
         line = told.index(b"\n", place)
@@ -124,13 +129,16 @@ def rows_of(program, step):
 
 
 def main():
-    step = int(sys.argv[1]) if len(sys.argv) > 1 else 4
-    word = sys.argv[2] if len(sys.argv) > 2 else ""
-    tasks = [(program, row) for program in PROGRAMS for row in rows_of(program, step) if word in row]
+    words = sys.argv[1:]
+    if words[:1] == ["--help"]:
+        return print(__doc__.strip())
     with tempfile.TemporaryDirectory() as folder:
+        programs, words = unproved.programs(PROGRAMS, words, folder)
+        step, word = int(words[0]) if words else 4, words[1] if words[1:] else ""
+        tasks = [(program, row) for program in programs for row in rows_of(os.path.basename(program), step) if word in row]
         library = folder + "/counting.so"
-        words = ["cc", "-O2", "-shared", "-fPIC", "-x", "c", "-", "-o", library, "-ldl"]
-        subprocess.run(words, input=COUNTING.encode(), check=True)
+        linking = ["cc", "-O2", "-shared", "-fPIC", "-x", "c", "-", "-o", library, "-ldl"]
+        subprocess.run(linking, input=COUNTING.encode(), check=True)
         total = collections.Counter()
         with multiprocessing.Pool() as pool:
             for ends, wrong in pool.imap_unordered(sweep, [task + (library,) for task in tasks], chunksize=4):
