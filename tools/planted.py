@@ -1,22 +1,23 @@
 #!/usr/bin/env python3
 """Plants the bugs of `tools/bugs`, each by itself, into the unproved program, and prints which tool finds each, and after how long.
 
-    tools/planted.py [--suite FOLDER] [WORD]     those whose title or file holds WORD (all)
+    tools/planted.py [--suite FOLDER] [--jobs N] [WORD]     those whose title or file holds WORD (all), N at a time (1)
 
-A bug is made in a copy of the repository. The program is built there (`tools/unproved.py`), some four minutes of processor time. Then
-these are run until one of them tells: tools/conformance.py, with the suite of FOLDER if one is given; tools/differential.py, with one seed
-after another, for five minutes; and tools/fuzz.py, for the rest of ten minutes. First comes the program without a bug, of which none may
-tell. It wants what the three tools want.
+A bug is made in a copy of the repository. These are run until one of them tells: tools/conformance.py, with the suite of FOLDER if one is
+given; tools/differential.py, with one seed after another, for five minutes; and tools/fuzz.py, for the rest of ten minutes. Last comes the
+program without a bug, on which each is run once, and none may tell. It wants what the three tools want. What they run is built before
+(`tools/unproved.py`), a minute or two each. Times are those of the processor, so they do not depend on what else it does.
 
 Ends with status 1 unless each bug is found within ten minutes.
 """
+import concurrent.futures
+import itertools
 import os
 import re
 import shutil
 import subprocess
 import sys
 import tempfile
-import time
 
 import fuzz
 import unproved
@@ -24,7 +25,7 @@ from unproved import TOP
 
 # The seconds for all tools, and those after which tools/fuzz.py takes over from tools/differential.py.
 MOST, HALF = 600, 300
-TEXTS, FUZZED = 500, (20, 60, 120)
+TEXTS, FUZZED = 500, 20
 
 
 def bugs():
@@ -34,77 +35,92 @@ def bugs():
     return [dict(line.split(": ", 1) for line in block.split("\n")) for block in blocks]
 
 
-def changed(copy, bug):
-    """Makes the bug in the copy, and returns the file and what it was."""
+def copied(copy, bug):
+    """Copies the repository, with the bug if there is one."""
+    for name in ("crates.txt", "HANDLES"):
+        shutil.copy(TOP + "/" + name, copy)
+    shutil.copytree(TOP + "/crates", copy + "/crates", ignore=shutil.ignore_patterns("out"))
+    if not bug:
+        return
     path = copy + "/crates/" + bug["file"]
     with open(path, encoding="utf-8") as file:
-        before = file.read()
-    if before.count(bug["old"]) != 1:
-        sys.exit("%s: the old text is there %d times: %s" % (bug["file"], before.count(bug["old"]), bug["title"]))
+        text = file.read()
+    if text.count(bug["old"]) != 1:
+        sys.exit("%s: the old text is there %d times: %s" % (bug["file"], text.count(bug["old"]), bug["title"]))
     with open(path, "w", encoding="utf-8") as file:
-        file.write(before.replace(bug["old"], bug["new"]))
-    return path, before
+        file.write(text.replace(bug["old"], bug["new"]))
 
 
-def built(folder):
-    """Builds the programs and the fuzzer in a folder."""
-    for crate in ("test_meaning", "tomled"):
-        made = "%s/%s" % (folder, crate)
-        unproved.module(crate, made + ".bc")
-        unproved.compiled(made + ".bc", made + ".o", ["-O1"])
-        unproved.linked([made + ".o"], made)
-    fuzz.build(folder)
+def built(crate, folder):
+    """Builds the program of a crate in a folder."""
+    made = "%s/%s" % (folder, crate)
+    unproved.module(crate, made + ".bc")
+    unproved.compiled(made + ".bc", made + ".o", ["-O1"])
+    unproved.linked([made + ".o"], made)
 
 
 def tools(folder, suite):
-    """The commands of each tool in turn, and the second at which no more of them is begun."""
-    yield "conformance", [["conformance.py", "--program", folder + "/test_meaning", *suite]], MOST
-    yield "differential", (["differential.py", "--in", folder, str(TEXTS), str(seed)] for seed in range(1, MOST)), HALF
-    yield "fuzz", (["fuzz.py", "--keep", folder, str(seconds)] for seconds in FUZZED), MOST
+    """For each tool in turn, how what it runs is built, its commands, and the second at which no more of them is begun."""
+    differential = (["differential.py", "--in", folder, str(TEXTS), str(seed)] for seed in itertools.count(1))
+    fuzzing = itertools.repeat(["fuzz.py", "--keep", folder, str(FUZZED), "print", "exact", "set"])
+    yield "conformance", lambda: built("test_meaning", folder), [["conformance.py", "--in", folder, *suite]], MOST
+    yield "differential", lambda: built("tomled", folder), differential, HALF
+    yield "fuzz", lambda: fuzz.build(folder), fuzzing, MOST
 
 
-def finder(folder, suite):
+def spent():
+    """The seconds of the processor that all commands have taken so far."""
+    times = os.times()
+    return times.children_user + times.children_system
+
+
+def finder(folder, suite, is_once):
     """The first tool that tells, with the seconds until then, and what it said."""
-    begun = time.time()
-    for tool, commands, until in tools(folder, suite):
+    seconds = 0
+    for tool, build, commands, until in tools(folder, suite):
+        build()
         for command in commands:
-            if time.time() - begun > until:
+            if seconds > until:
                 break
+            begun = spent()
             words = [sys.executable, TOP + "/tools/" + command[0], *command[1:]]
             ran = subprocess.run(words, stdout=subprocess.PIPE, stderr=subprocess.STDOUT, text=True, errors="replace")
+            seconds += spent() - begun
             if ran.returncode:
-                return tool, time.time() - begun, ran.stdout.strip()
-    return None, time.time() - begun, ""
+                return tool, seconds, ran.stdout.strip()
+            if is_once:
+                break
+    return None, seconds, ""
+
+
+def tried(task):
+    """What `finder` finds of the program with a bug, or without one."""
+    bug, suite = task
+    with tempfile.TemporaryDirectory() as copy, tempfile.TemporaryDirectory() as folder:
+        copied(copy, bug)
+        unproved.TOP = copy
+        return finder(folder, suite, not bug)
 
 
 def main():
-    words, suite = sys.argv[1:], []
+    words, suite, jobs = sys.argv[1:], [], 1
     if words[:1] == ["--help"]:
         return print(__doc__.strip())
     if words[:1] == ["--suite"] and words[1:]:
         suite, words = [words[1]], words[2:]
-    asked = [bug for bug in bugs() if not words or words[0] in bug["title"] or words[0] in bug["file"]]
+    if words[:1] == ["--jobs"] and words[1:]:
+        jobs, words = int(words[1]), words[2:]
+    asked = [*(bug for bug in bugs() if not words or words[0] in bug["title"] or words[0] in bug["file"]), None]
     found = 0
-    with tempfile.TemporaryDirectory() as copy:
-        for name in ("crates.txt", "HANDLES"):
-            shutil.copy(TOP + "/" + name, copy)
-        shutil.copytree(TOP + "/crates", copy + "/crates", ignore=shutil.ignore_patterns("out"))
-        unproved.TOP = copy
-        for bug in [None, *asked]:
-            path, before = changed(copy, bug) if bug else (None, None)
-            with tempfile.TemporaryDirectory() as folder:
-                built(folder)
-                tool, seconds, said = finder(folder, suite)
+    with concurrent.futures.ProcessPoolExecutor(jobs) as pool:
+        for bug, (tool, seconds, said) in zip(asked, pool.map(tried, [(bug, suite) for bug in asked])):
             if not bug and tool:
                 sys.exit("%s tells of the program without a bug:\n%s" % (tool, said))
             found += bool(bug and tool and seconds < MOST)
             how = "found by %s after %.0f s" % (tool, seconds) if tool else "NOT FOUND in %.0f s" % seconds
             print("%s: %s" % ("%s (%s)" % (bug["title"], bug["file"].split("/")[0]) if bug else "no bug", how), flush=True)
-            if bug:
-                with open(path, "w", encoding="utf-8") as file:
-                    file.write(before)
-    print("%d of %d bugs were found" % (found, len(asked)))
-    return 0 if found == len(asked) else 1
+    print("%d of %d bugs were found" % (found, len(asked) - 1))
+    return 0 if found == len(asked) - 1 else 1
 
 
 if __name__ == "__main__":
