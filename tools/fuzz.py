@@ -1,17 +1,19 @@
 #!/usr/bin/env python3
-"""Fuzzes `tomled`, led by the blocks that it enters, with the address sanitizer.
+"""Fuzzes the library, led by the blocks that are entered, with the address sanitizer.
 
     tools/fuzz.py [--keep FOLDER] [SECONDS [TARGET..]]     fuzzes each target for so long (60), two processes at a time
     tools/fuzz.py [--keep FOLDER] --replay [TARGET..]      runs the corpus alone
     tools/fuzz.py [--keep FOLDER] --merge TARGET FOLDER..  adds to the corpus the inputs that enter something new
 
-The program is built unproved (`tools/unproved.py`), and runs over and over in one process, with its input and output in memory.
-FOLDER keeps what is built, which takes some three minutes, and what was found. It wants the kit, and Debian's packages `clang` and
+A program is built unproved (`tools/unproved.py`), and runs over and over in one process, with its input and output in memory. FOLDER keeps
+what is built, which takes some two minutes each, and what was found. It wants the kit, and Debian's packages `clang` and
 `libclang-rt-14-dev`. The targets:
 
 - `print`, `exact`: `tomled print` and `tomled exact print` of the input. It ends with 0 or 1, and what it prints is printed again as it is.
 - `set`: `tomled set` with the first line of the input as PATH, the second as VALUE, and the rest as the document. It ends with 0, 1 or
-  2, and what it writes is printed as it is.
+  2. What it writes is accepted, and the print of that is printed as it is.
+- `calls`: up to eight calls on one document, as the steps of a row of `test_rows_tables`. The first byte says how many, and each has a byte
+  for the call and one for each argument; behind them is the document. Where it fits after the calls, its print is accepted.
 
 `tests/corpus` has small inputs, each of which enters something that the others do not; `exact` has those of `print`. Ends with status 1 if
 an input crashes the program, takes more than ten seconds, or breaks what is said above; the input is kept.
@@ -26,8 +28,9 @@ import tempfile
 import unproved
 from unproved import TOP
 
-TARGETS = ("print", "exact", "set")
-CORPUS = {"print": TOP + "/tests/corpus/print", "exact": TOP + "/tests/corpus/print", "set": TOP + "/tests/corpus/set"}
+TARGETS = ("print", "exact", "set", "calls")
+CORPUS = {target: "%s/tests/corpus/%s" % (TOP, "print" if target == "exact" else target) for target in TARGETS}
+PROGRAMS = {target: "test_rows_tables" if target == "calls" else "tomled" for target in TARGETS}
 PACKAGES = "Debian's packages clang and libclang-rt-14-dev"
 WATCHED = ["-O1", "-fsanitize=address", "-fsanitize-coverage=inline-8bit-counters,pc-table,trace-cmp"]
 # The program's own calls of these are led to the driver.
@@ -113,16 +116,27 @@ static int run(const uint8_t *text, size_t length) {
 }
 static void wrong(const char *what) { fprintf(stderr, "wrong: %s\n", what); abort(); }
 
-/* What was written is a print: it is printed as it is. */
-static void is_print(int is_exact) {
+static uint8_t *copied(void) {
+  uint8_t *copy = malloc(size + 1);
+  if (size) memcpy(copy, output, size);
+  return copy;
+}
+/* Prints what was written. */
+static void print_again(int is_exact) {
   size_t length = size;
-  uint8_t *first = malloc(length + 1);
-  if (length) memcpy(first, output, length);
+  uint8_t *text = copied();
   count = 0;
   words[count++] = "tomled";
   if (is_exact) words[count++] = "exact";
   words[count++] = "print";
-  if (run(first, length)) wrong("what was written is refused");
+  if (run(text, length)) wrong("what was written is refused");
+  free(text);
+}
+/* What was written is a print: it is printed as it is. */
+static void is_print(int is_exact) {
+  size_t length = size;
+  uint8_t *first = copied();
+  print_again(is_exact);
   if (size != length || memcmp(first, output, length)) wrong("what was written is printed otherwise");
   free(first);
 }
@@ -137,9 +151,140 @@ static char *line(const uint8_t **at, size_t *length) {
   return made;
 }
 
+/* A row of test_rows_tables, and its steps, which are the calls. */
+typedef struct { char *text; size_t size, room; } Text;
+static Text row, steps;
+static void put(Text *to, const void *text, size_t length) {
+  if (to->room < to->size + length) { to->room = 2 * (to->size + length); to->text = realloc(to->text, to->room); }
+  if (length) memcpy(to->text + to->size, text, length);
+  to->size += length;
+}
+static void put_all(Text *to, const char *text) { put(to, text, strlen(text)); }
+static void put_escaped(Text *to, const uint8_t *text, size_t length) {
+  char code[8];
+  for (size_t at = 0; at < length; at++) {
+    if (text[at] >= 32 && text[at] != '"' && text[at] != '\\' && text[at] != 127) { put(to, text + at, 1); continue; }
+    snprintf(code, sizeof code, "\\u%04x", text[at]); put_all(to, code);
+  }
+}
+
+/* The calls, with a letter for each argument, and what they may be. */
+static const char *const CALLS[] = {
+  "'set_at',%p,%v", "'set_at_with_headers',%p,%v", "'remove_at',%p", "'change_at',%p", "'set_trailing',%t", "'set_exact',%b",
+  "'set_open_end',%b", "'first_misfit'", "'get_values'", "'clone','print'", "%w,'insert',%n,%i", "%w,'insert_formatted',%k,%t,'',%i",
+  "%w,'remove',%n", "%w,'remove_entry',%n", "%w,'rename',%n,%n", "%w,'move_to',%n,%d", "%w,'insert_at',%d,%k,%i", "%w,'sort_values'",
+  "%w,'sort_values_by'", "%w,'retain',%n", "%w,'extend',%k,'',' ',%i", "%w,'clear'", "%w,'fmt'", "%w,'set_implicit',%b",
+  "%w,'set_dotted',%b", "%w,'set_position',%d", "%w,'forget_positions'", "%w,'decor_mut','set_prefix',%t", "%w,'entry',%n,%i",
+  "%w,'entry_with',%n", "%w,'entry_remove',%n", "%w,'vacant',%n,'insert',%i", "%w,'index_or_insert',%n,'becomes',%i",
+  "%w,'slot_mut',%n,'insert',%i", "%w,'slot_mut',%n,'leaf_decor_mut','set_prefix',%t", "%w,'key_mut',%n,'fmt'",
+  "%w,'get_mut',%n,'make_value'", "%w,'get_mut',%n,'into_value'", "%w,'get_mut',%n,'into_table'", "%w,'get_mut',%n,'into_array_of_tables'",
+  "%w,'get_mut',%n,'decor_mut','set_suffix',%t", "%w,'get_mut',%n,'as_array_of_tables_mut','push',%x",
+  "%w,'get_mut',%n,'as_array_of_tables_mut','insert',%d,%x", "%w,'get_mut',%n,'as_array_of_tables_mut','remove',%d",
+  "%w,'get_mut',%n,'as_array_of_tables_mut','slot_at_mut',%d", "%w,'get_mut',%n,'as_array_of_tables_mut','retain',%n",
+};
+static const char *const WAYS[] = {
+  "'as_table_mut'", "'as_table_mut','get_mut','a','as_table_mut'", "'as_table_mut','get_mut','b','as_table_mut'",
+  "'as_table_mut','get_mut','a','as_table_mut','get_mut','b','as_table_mut'",
+  "'as_table_mut','get_mut','a','as_array_of_tables_mut','get_mut','0'",
+};
+static const char *const NAMES[] = {"'a'", "'b'", "'c'", "'d e'", "''", "'\u00e9'"};
+static const char *const PATHS[] = {"'a'", "'b'", "'a.b'", "'a.b.c'", "'a.0'", "'a.0.b'", "'a.1.c'", "'\\u0022d e\\u0022.a'", "''"};
+static const char *const KEYS[] = {"'a'", "'b'", "'\\u0022c\\u0022'", "'\\u0022d e\\u0022'", "'\\u0022\\u0022'"};
+static const char *const VALUES[] = {
+  "'1'", "'\\u0022x\\u0022'", "'[1, [2] ]'", "'{a = 1, b.c = 2}'", "'[{a = 1}]'", "'1979-05-27'", "'-0.0'",
+};
+static const char *const ITEMS[] = {
+  "'1'", "'none'", "'table'", "'array of tables'", "'new {a = 1, b.c = 2}'", "'{b = {c = 1}}'", "'[{a = 1}, {}]'",
+  "'[t]\\na.b = 1\\n[t.c]\\n'", "'[[t]]\\na = 1\\n[[t]]\\n'", "'t.a.b = 1\\n'", "'[t.a]\\nb = 1 # c\\n'",
+};
+static const char *const TEXTS[] = {"''", "' '", "' # c'", "'# c\\n'", "'\\n'", "'\\r\\n'", "'x'", "'# \\r'"};
+static const char *const ROOTS[] = {"''", "'a = 1\\n'", "'[a]\\nb = 1\\n'", "'[[a]]\\n'"};
+static const char *const PLACES[] = {"'0'", "'1'", "'2'", "'9'"};
+static const char *const TRUTHS[] = {"'false'", "'true'"};
+#define ONE_OF(from) from, sizeof from / sizeof *from
+
+/* Takes a byte of the input, and with it one of these. */
+static const char *chosen(const uint8_t **at, size_t *length, const char *const *from, size_t count) {
+  size_t byte = *length ? **at : 0;
+  *at += *length != 0; *length -= *length != 0;
+  return from[byte % count];
+}
+static const char *argument(char letter, const uint8_t **at, size_t *length) {
+  switch (letter) {
+    case 'w': return chosen(at, length, ONE_OF(WAYS));
+    case 'n': return chosen(at, length, ONE_OF(NAMES));
+    case 'p': return chosen(at, length, ONE_OF(PATHS));
+    case 'k': return chosen(at, length, ONE_OF(KEYS));
+    case 'v': return chosen(at, length, ONE_OF(VALUES));
+    case 'i': return chosen(at, length, ONE_OF(ITEMS));
+    case 't': return chosen(at, length, ONE_OF(TEXTS));
+    case 'x': return chosen(at, length, ONE_OF(ROOTS));
+    case 'd': return chosen(at, length, ONE_OF(PLACES));
+    default: return chosen(at, length, ONE_OF(TRUTHS));
+  }
+}
+/* Adds a call to the steps, of which each ' is a quotation mark. */
+static void put_call(const uint8_t **at, size_t *length) {
+  for (const char *call = chosen(at, length, ONE_OF(CALLS)); *call; call++) {
+    const char *part = call, *end = call + 1;
+    if (*call == '%') { part = argument(*++call, at, length); end = part + strlen(part); }
+    for (; part < end; part++) put(&steps, *part == '\'' ? "\"" : part, 1);
+  }
+}
+
+/* Runs a row: the document, the steps, and what ends these. Returns 0 if it holds, 1 if a step has another answer, which `came` then has,
+   2 if the document does not fit after the steps, and else 3, as where it is refused. */
+static Text came;
+static int ended_by(const uint8_t *document, size_t length, const char *end) {
+  static const char OTHER[] = " for  (fits)\n1 rows don't hold\n0 rows hold\n";
+  static const char UNFIT[] = "false (fits)\n1 rows don't hold\n0 rows hold\n";
+  row.size = 0; put_all(&row, "{\"text\": \""); put_escaped(&row, document, length); put_all(&row, "\", \"fits\": true, \"steps\": [");
+  put(&row, steps.text, steps.size); put_all(&row, end); put_all(&row, "]}");
+  int status = run((const uint8_t *) row.text, row.size);
+  if (status < 0 || status > 1) wrong("the status of a row");
+  if (!status) return 0;
+  /* It is told with the row, a newline and four spaces before it. */
+  size_t before = row.size + 5, unfit = sizeof UNFIT - 1, other = sizeof OTHER - 1;
+  if (size == before + unfit && !memcmp(output + before, UNFIT, unfit)) return 2;
+  if (size < before + other || memcmp(output + size - other, OTHER, other)) return 3;
+  came.size = 0; put(&came, output + before, size - before - other);
+  return 1;
+}
+
+static int calls(const uint8_t *text, size_t length) {
+  size_t most = length ? *text % 9 : 0;
+  const uint8_t *at = text + (length != 0), *end = text + length, *document = at;
+  /* The document is behind the calls. */
+  steps.size = 0;
+  for (size_t i = 0, left = end - at; i < most; i++) put_call(&document, &left);
+  size_t rest = end - document;
+  for (size_t i = 0; i < rest; i++) if (document[i] > 127) return -1;
+  steps.size = 0;
+  int ended = ended_by(document, rest, "");
+  if (ended == 3) return 0;
+  if (ended) wrong("what was parsed does not fit");
+  for (size_t i = 0, left = document - at; i < most; i++) {
+    put_all(&steps, i ? ",[" : "["); put_call(&at, &left);
+    ended = ended_by(document, rest, "]");
+    if (ended == 3) wrong("what a row tells");
+    if (ended == 1) { put_all(&steps, ",\"gives\",\""); put_escaped(&steps, (uint8_t *) came.text, came.size); put_all(&steps, "\""); }
+    put_all(&steps, "]");
+  }
+  ended = ended_by(document, rest, "");
+  if (ended == 2) return 0;
+  if (ended) wrong("a call has two answers");
+  came.size = 0;
+  if (ended_by(document, rest, most ? ",[\"print\"]" : "[\"print\"]") > 1) wrong("what prints");
+  row.size = 0; put_all(&row, "{\"text\": \""); put_escaped(&row, (uint8_t *) came.text, came.size);
+  put_all(&row, "\", \"is_refused\": false}");
+  if (run((const uint8_t *) row.text, row.size)) wrong("what fits is refused");
+  return 0;
+}
+
 int LLVMFuzzerTestOneInput(const uint8_t *text, size_t length) {
   static const char *target;
   if (!target) target = getenv("TARGET");
+  if (!strcmp(target, "calls")) return calls(text, length);
   count = 0;
   words[count++] = "tomled";
   if (!strcmp(target, "set")) {
@@ -148,7 +293,7 @@ int LLVMFuzzerTestOneInput(const uint8_t *text, size_t length) {
     int status = run(text, length);
     free(path); free(value);
     if (status < 0 || status > 2) wrong("the status");
-    if (!status) is_print(0);
+    if (!status) { print_again(0); is_print(0); }
     return 0;
   }
   int is_exact = !strcmp(target, "exact");
@@ -162,22 +307,23 @@ int LLVMFuzzerTestOneInput(const uint8_t *text, size_t length) {
 """
 
 
-def build(folder):
-    """Builds the fuzzer, unless the folder has it."""
-    fuzzer = folder + "/fuzzer"
+def build(folder, program="tomled"):
+    """Builds the fuzzer of a program, unless the folder has it."""
+    made = "%s/%s" % (folder, program)
+    fuzzer = made + "-fuzzer"
     if os.path.exists(fuzzer):
         return fuzzer
     clang = shutil.which("clang")
     if not clang:
         sys.exit("no clang: install " + PACKAGES)
-    if not os.path.exists(folder + "/tomled.bc"):
-        unproved.module("tomled", folder + "/tomled.bc")
-    unproved.compiled(folder + "/tomled.bc", folder + "/tomled.o", WATCHED)
+    if not os.path.exists(made + ".bc"):
+        unproved.module(program, made + ".bc")
+    unproved.compiled(made + ".bc", made + ".o", WATCHED)
     renamed = [word for name in LED.items() for word in ("--redefine-sym", "=".join(name))]
-    subprocess.run(["objcopy", *renamed, folder + "/tomled.o"], check=True)
+    subprocess.run(["objcopy", *renamed, made + ".o"], check=True)
     with open(folder + "/driver.c", "w", encoding="utf-8") as file:
         file.write(DRIVER)
-    words = [clang, "-O1", "-fsanitize=address,fuzzer", folder + "/driver.c", folder + "/tomled.o", unproved.kit().KIT + "/c/libos_c.a"]
+    words = [clang, "-O1", "-fsanitize=address,fuzzer", folder + "/driver.c", made + ".o", unproved.kit().KIT + "/c/libos_c.a"]
     ran = subprocess.run([*words, "-o", fuzzer], capture_output=True, text=True)
     if ran.returncode:
         sys.exit("the fuzzer does not link; install %s:\n%s" % (PACKAGES, ran.stderr[-2000:]))
@@ -215,14 +361,14 @@ def main():
         if words[:1] == ["--keep"] and words[1:]:
             folder, words = os.path.abspath(words[1]), words[2:]
             os.makedirs(folder, exist_ok=True)
-        fuzzer = build(folder)
         if words[:1] == ["--merge"] and words[2:]:
             merge = ["-set_cover_merge=1", "-use_counters=0", CORPUS[words[1]], *words[2:]]
-            return 0 if ran(fuzzer, words[1], folder, merge)[0] else 1
+            return 0 if ran(build(folder, PROGRAMS[words[1]]), words[1], folder, merge)[0] else 1
         seconds = None if words[:1] == ["--replay"] else int(words[0]) if words else 60
         targets = words[1:] or TARGETS
+        fuzzers = {program: build(folder, program) for program in sorted({PROGRAMS[target] for target in targets})}
         with concurrent.futures.ThreadPoolExecutor(2) as pool:
-            results = list(pool.map(lambda target: fuzz(fuzzer, target, folder, seconds), targets))
+            results = list(pool.map(lambda target: fuzz(fuzzers[PROGRAMS[target]], target, folder, seconds), targets))
         if folder == made and not all(is_well for is_well, _ in results):
             shutil.copytree(made, TOP + "/fuzz-found", ignore=shutil.ignore_patterns("*.bc", "*.o", "new-*"), dirs_exist_ok=True)
             print("the inputs are kept in fuzz-found")
