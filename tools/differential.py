@@ -11,9 +11,10 @@ Each text is made by a grammar, and half of them are then changed somewhere. It 
 - the Rust crate, by the program of `bench/crate`, if that was built.
 
 Of each text: whether it is accepted as TOML 1.0 as the others accept it, and as 1.1 at least where 1.0 does; that it means the same; that
-the print of the print is the print, in the plain and in the exact mode, and that both mean what the text means; that the exact print of a
-text without dots and arrays of tables is the text; and of one that is accepted that `get` writes what means the same, and that `set` of a
-key that is there, `set` of a new one and `remove` change the dictionary so, and no other statement of the text.
+the print of the print is the print, in the plain and in the exact mode, and that both mean what the text means and have its headers in
+their order; that the plain print has no carriage return outside strings; that the exact print of a text without dots and arrays of tables is
+the text; and of one that is accepted that `get` writes what means the same, and that `set` of a key that is there, `set` of a new one and
+`remove` change the dictionary so, and no other statement of the text, nor what is around a value that is set.
 
 `EXPLAINED` has the differences that are meant, or faults of the others, each with its reason. Any other one is printed with a shortest text
 that still has it, and the status is then 1.
@@ -334,6 +335,10 @@ class Tries:
         came = self.plain(first.stdout.decode())
         if came is None or not conformance.same(meaning, came):
             yield name, "the %s means something else" % name
+        elif headers(text) != headers(first.stdout.decode()):
+            yield name, "the headers of the %s are others, or in another order" % name
+        if not mode and b"\r" in first.stdout and not re.search("\"\"\"|'''", text):
+            yield name, "the %s has a carriage return" % name
 
     def kept(self, text):
         """A text in which each key has one mention is its own print, in the exact mode."""
@@ -374,6 +379,10 @@ class Tries:
                 yield call, "%s: means %s" % (name, json.dumps(came, ensure_ascii=False))
             elif not is_alone(call, chunks(before), chunks(after)):
                 yield call, "%s: changes more than a statement: %r" % (name, after)
+            elif value and path in leaves:
+                old = ran([self.tomled, *mode, "get", words[len(mode) + 2]], before).stdout.decode()
+                if before.count(old[:-1]) == 1 and after != before.replace(old[:-1], words[-1]):
+                    yield call, "%s: changes what is around the value: %r" % (name, after)
 
 
 def is_leaf(meaning):
@@ -415,6 +424,12 @@ def chunks(text):
             made.append(text[start:piece.end()].rstrip("\r\n"))
             start = piece.end()
     return made + ([text[start:]] if text[start:] else [])
+
+
+def headers(text):
+    """What the headers of a text mean, in their order."""
+    lines = [line for line in chunks(text.removeprefix("\ufeff")) if line.lstrip().startswith("[")]
+    return [tagged(tomllib.loads(line)) for line in lines] if tomllib else []
 
 
 def is_alone(call, before, after):
