@@ -429,7 +429,7 @@ def chunks(text):
 def headers(text):
     """What the headers of a text mean, in their order."""
     lines = [line for line in chunks(text.removeprefix("\ufeff")) if line.lstrip().startswith("[")]
-    return [tagged(tomllib.loads(line)) for line in lines] if tomllib else []
+    return [by_tomllib(line) for line in lines] if tomllib else []
 
 
 def is_alone(call, before, after):
