@@ -14,3 +14,4 @@ pub mod PlainReads
 pub mod TailLaws
 pub mod HoldLaws
 pub mod AtLaws
+pub mod EditedLaws

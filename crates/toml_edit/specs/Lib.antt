@@ -1,6 +1,7 @@
 pub mod Roots
 pub mod DocumentView
 pub mod Documents
+pub mod Edited
 pub mod HeadersView
 pub mod DocumentLending
 pub mod Faults

@@ -5,6 +5,7 @@ ghost use Rattle.toml_edit_model.specs.OwnedForm.{IsOver};
 
 use crate::root::table_of;
 use std::alloc::Global;
+use toml_edit_edit_laws::others_stay;
 use toml_edit_error::ParseFault;
 use toml_edit_fits::{Misfit, first_misfit, tree_fits};
 use toml_edit_parser::{ParseOptions, parse_with};
@@ -396,7 +397,7 @@ impl Drop for DocumentMut {
 }
 
 impl DocumentMut {
-    ghost use Rattle.std.specs.Prelude.{◌≡◌, ◌↔◌, ◌⊎◌, if◌then◌else◌, IfOk, IfErr, IsNone, IsOk, IsErrOf, IsTrue, option_map, slice_get, string_bytes};
+    ghost use Rattle.std.specs.Prelude.{◌≡◌, ◌↔◌, ◌⊎◌, [], if◌then◌else◌, IfOk, IfErr, IsNone, IsOk, IsErrOf, IsTrue, option_map, slice_get, string_bytes};
     ghost use Rattle.toml_edit_model.specs.Fits.{FitsIn};
     ghost use Rattle.toml_edit_fits.specs.Misfits.{misfits};
     ghost use Rattle.toml_edit_fits.specs.MisfitViews.{misfit_view};
@@ -408,6 +409,7 @@ impl DocumentMut {
     ghost use Rattle.toml_edit_error.specs.Fault.{IfToml};
     ghost use Rattle.toml_edit.specs.DocumentLending.{LendsRoot};
     ghost use Rattle.toml_edit.specs.DocumentView.{IsPlain, IsPrintedAs, mode_owned, open_owned, print_of, tree_owned};
+    ghost use Rattle.toml_edit.specs.Edited.{IsEditedFrom};
     ghost use Rattle.toml_edit.specs.Documents.{IsOwnedReading, IsOwnedReadingIn, IsRefusal, IsRefusalIn, MeansWhatIsShown, new_tree};
     ghost use Rattle.toml_edit_parser.specs.Options.{mode_of, version_of};
     ghost use Rattle.toml_edit_laws.specs.Commands.{root_item};
@@ -450,11 +452,13 @@ impl DocumentMut {
     pub fn from_str(alloc: Global, text: &str) -> Result<DocumentMut, ParseFault>
         ensures accepted { IfOk result (λ m. IsOwnedReading text.now (tree_owned m)) }
         ensures plain { IfOk result (λ m. IsPlain m) }
+        ensures edits { IfOk result (λ m. IsEditedFrom text.now [] m) }
         // An accepted text is never refused.
         ensures every { (d : Cut) → AcceptedAs text.now d
             → IsOk result ⊎ IsErrOf result ParseFault.Memory }
         ensures refused { IfErr result (λ e. IfToml e (IsRefusal text.now)) }
     {
+        others_stay();
         DocumentMut::from_str_with(alloc, text, ParseOptions::new())
     }
 

@@ -3,7 +3,9 @@
 //! Each function takes nothing and does nothing: its contract is the law, over the definitions
 //! alone. docs/LAWS.md says in words what each one states.
 
-pub use toml_edit_edit_laws::{commented, inserted, moved, renamed};
+pub use toml_edit_edit_laws::{
+    added_after_lines, commented, inserted, moved, others_stay, path_edits, renamed,
+};
 pub use toml_edit_fits::broken;
 pub use toml_edit_laws::{
     added, agree, cut, edits, in_order, late_places, normal, offsets, removed, reparse, replaced,

@@ -1,5 +1,5 @@
 //! Access to items by paths of keys.
-ghost use Rattle.std.specs.Prelude.{◌≡◌, IfErr, option_map};
+ghost use Rattle.std.specs.Prelude.{◌≡◌, IfErr, OnOk, option_map};
 ghost use Rattle.toml_edit_laws.specs.Commands.{item_at, remove_at, root_item, set_at};
 ghost use Rattle.toml_edit_tree.specs.View.{item_view, value_view};
 ghost use Rattle.toml_edit_paths.specs.Calls.{ChangesFound, TakesFound, item_inside, replaced_at};
@@ -8,9 +8,12 @@ ghost use Rattle.toml_edit_paths.specs.Headed.{set_at_with_headers};
 ghost use Rattle.toml_edit_paths.specs.Lines.{remove_line_at};
 ghost use Rattle.toml_edit_paths.specs.declared.fault.ChangeFault.TheVariants.{NoSuchPath};
 ghost use Rattle.toml_edit.specs.DocumentView.{IsPrintedAs, tree_owned};
+ghost use Rattle.toml_edit.specs.Edited.{EditsBy, IsPlainValue, MayBePut};
+ghost use Rattle.toml_edit_edit_laws.specs.PathEdits.{removes, sets};
 ghost use Rattle.toml_edit_model.specs.Keys.{names};
 
 use super::DocumentMut;
+use toml_edit_edit_laws::{others_stay, path_edits};
 use toml_edit_key::Key;
 use toml_edit_paths::ChangeFault;
 use toml_edit_tree::{Item, Value};
@@ -51,7 +54,13 @@ impl DocumentMut {
             (set_at (names path.now) (value_view value) (tree_owned self.old))
             (tree_owned self.old) (tree_owned self.new) result }
         ensures printed { IsPrintedAs self.new self.old }
+        // At most one statement changes or is added where the value may be put.
+        ensures edits { OnOk result (IsPlainValue (value_view value)
+            → MayBePut (tree_owned self.old) (names path.now)
+            → EditsBy (sets (names path.now) (value_view value)) self.old self.new) }
     {
+        others_stay();
+        path_edits();
         let alloc = self.as_table().slots.allocator();
         toml_edit_paths::set(alloc, self.as_table_mut(), path, value)
     }
@@ -120,7 +129,11 @@ impl DocumentMut {
             (tree_owned self.old) (tree_owned self.new) result }
         ensures fault { IfErr result (λ fault. fault ≡ NoSuchPath) }
         ensures printed { IsPrintedAs self.new self.old }
+        // All statements stay but those at the path.
+        ensures edits { OnOk result (EditsBy (removes (names path.now)) self.old self.new) }
     {
+        others_stay();
+        path_edits();
         toml_edit_paths::remove(self.as_table_mut(), path)
     }
 

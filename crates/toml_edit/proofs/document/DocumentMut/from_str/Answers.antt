@@ -6,6 +6,7 @@ use Rattle.toml_edit_error.specs.Fault.{IfToml}
 use Rattle.toml_edit.specs.DocumentView.{open_owned, tree_owned}
 use Rattle.toml_edit.specs.Documents.{IsRefusalIn}
 use Rattle.toml_edit_parser.specs.Options.{mode_of, version_of}
+use Rattle.toml_edit.proofs.EditedLaws.{read-so}
 use Rattle.toml_edit.proofs.PlainReads.{latest-accepts, of-both, plain-owned, plain-owned-end}
 use Rattle.toml_edit.proofs.document.DocumentMut.from_str.Goals as goal
 
@@ -33,3 +34,13 @@ pub returns-clause-refused : goal.returns-clause-refused
 returns-clause-refused c =
     subst (λ v. IfErr c.from_str_with.result (λ e. IfToml e (IsRefusalIn v c.args.text.now))) c.new.ensures.version
     c.from_str_with.ensures.refused
+
+pub returns-clause-edits : goal.returns-clause-edits
+returns-clause-edits c =
+    of-both c.from_str_with.result _ _ _
+    (λ m mode h. read-so c.others_stay.ensures.none c.args.text.now m
+    (plain-owned (mode_of c.new.result) c.new.ensures.mode (version_of c.new.result) c.args.text.now (tree_owned m) (open_owned m) h) (
+      mode ∙ c.new.ensures.mode,
+      plain-owned-end (mode_of c.new.result) c.new.ensures.mode (version_of c.new.result) c.args.text.now (tree_owned m) (open_owned m) h,
+    ))
+    c.from_str_with.ensures.mode c.from_str_with.ensures.accepted

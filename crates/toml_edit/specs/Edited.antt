@@ -1,0 +1,61 @@
+-- What calls by paths leave of a document that was read: which statements stay, and what is printed.
+use Rattle.std.specs.Prelude.{◌≡◌, true, false, List, [], ◌∷◌, ◌++◌, Some, None}
+use Rattle.toml_edit_model.specs.Text.{Text, is_empty}
+use Rattle.toml_edit_model.specs.Mode.{plain}
+use Rattle.toml_edit_model.specs.Paths.{Path}
+use Rattle.toml_edit_model.specs.Tree.{Node, IsWellMade, Tree, is_value_node}
+use Rattle.toml_edit_model.specs.HeaderOrder.{Visit}
+use Rattle.toml_edit_model.specs.Print.{lines_of, print_in}
+use Rattle.toml_edit_model.specs.Slots.{lookup_slot}
+use Rattle.toml_edit_model.specs.Lists.{slot_list}
+use Rattle.toml_edit_laws.specs.Locality.{is_plain_value, has_block}
+use Rattle.toml_edit_laws.specs.Commands.{item_at}
+use Rattle.toml_edit_laws.specs.CommandLaws.{NamesTable}
+use Rattle.toml_edit_edit_laws.specs.PathEdits.{PathCall, AreDone}
+use Rattle.toml_edit_edit_laws.specs.Staying.{StaysButAt}
+use Rattle.toml_edit.specs.DocumentView.{IsPlain, tree_owned}
+use Rattle.toml_edit.specs.Documents.{IsOwnedReading, MeansWhatIsShown}
+use Rattle.toml_edit.specs.declared.document.DocumentMut.{DocumentMut}
+
+-- The tree is what the calls leave of the text's tree, each done at its place. All statements that
+-- are at none of the places, nor below one, are those of the text, in their order.
+pub record IsEditedTree (text : Text) (calls : List PathCall) (left : Tree) : Type 0 where
+  pub tree : Tree
+  pub reading : IsOwnedReading text tree
+  pub places : List Path
+  pub done : AreDone calls places tree left
+  pub stays : StaysButAt plain places tree left
+
+-- A document that keeps no line endings was read from the text and has such a tree.
+pub record IsEditedFrom (text : Text) (calls : List PathCall) (d : DocumentMut) : Type 0 where
+  pub edited : IsEditedTree text calls (tree_owned d)
+  pub plain : IsPlain d
+
+-- The text is the print of such a tree, is accepted, and means what the tree shows.
+pub record IsEditedText (text : Text) (calls : List PathCall) (out : Text) : Type 0 where
+  pub left : Tree
+  pub edited : IsEditedTree text calls left
+  pub print : out ≡ print_in plain false left
+  pub back : MeansWhatIsShown plain false left
+
+-- a document so edited is so edited by a call more
+abbrev pub EditsBy : PathCall → DocumentMut → DocumentMut → Type 0
+EditsBy c d e =
+    (text : Text) (calls : List PathCall) → IsEditedFrom text calls d
+    → IsEditedFrom text (calls ++ (c ∷ [])) e
+
+-- a well-made value that is no dotted inline table
+abbrev pub IsPlainValue : Node → Type 0
+IsPlainValue n = (is_plain_value n ≡ true) × IsWellMade n
+
+-- where a value may be put so that one statement changes or is added: a value is there, or the key
+-- is new, in the root, in a table whose header is printed, or in one that has lines, as a dotted
+-- table has
+pub data MayBePut (t : Tree) (path : List Text) : Type 0 where
+  at_value : (old : Node) → item_at path t ≡ Some old → is_value_node old ≡ true → MayBePut t path
+  in_block : (front : List Text) (k : Text) (w : Visit) → path ≡ front ++ (k ∷ [])
+      → NamesTable t front w → lookup_slot k (slot_list w.slots) ≡ None
+      → has_block plain w ≡ true → MayBePut t path
+  after_lines : (front : List Text) (k : Text) (w : Visit) → path ≡ front ++ (k ∷ [])
+      → NamesTable t front w → lookup_slot k (slot_list w.slots) ≡ None
+      → is_empty (lines_of plain w) ≡ false → MayBePut t path
