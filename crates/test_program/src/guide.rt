@@ -241,7 +241,7 @@ fn prints_what_fits(rt: HostRuntime) {
 }
 
 /// Returns `true` if this text came of an edit.
-fn is_edited(edited: Result<String, EditFault>, wanted: &str) -> bool {
+pub fn is_edited(edited: Result<String, EditFault>, wanted: &str) -> bool {
     match edited {
         Ok(text) => text.as_str() == wanted,
         Err(_) => false,
@@ -249,17 +249,17 @@ fn is_edited(edited: Result<String, EditFault>, wanted: &str) -> bool {
 }
 
 /// Returns `true` if there was nothing to be edited.
-fn is_missing(edited: Result<String, EditFault>) -> bool {
+pub fn is_missing(edited: Result<String, EditFault>) -> bool {
     matches!(edited, Err(EditFault::Missing))
 }
 
 /// Returns `true` if the text that was to be edited is refused.
-fn is_refused(edited: Result<String, EditFault>) -> bool {
+pub fn is_refused(edited: Result<String, EditFault>) -> bool {
     matches!(edited, Err(EditFault::Toml(_)))
 }
 
 /// Returns `true` if the key that was to be added is there.
-fn is_present(edited: Result<String, EditFault>) -> bool {
+pub fn is_present(edited: Result<String, EditFault>) -> bool {
     matches!(edited, Err(EditFault::Present))
 }
 

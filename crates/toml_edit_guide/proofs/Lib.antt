@@ -9,3 +9,4 @@ pub mod NormalLaws
 pub mod RemovalLaws
 pub mod SlotLaws
 pub mod ViewLaws
+pub mod PrintLaws

@@ -1,6 +1,8 @@
 -- Why the text of a document is not edited.
 use Rattle.std.specs.Prelude.{◌≡◌, true, ◌++◌, List, None, codes, is_some, option_and_then}
 use Rattle.toml_edit.specs.Documents.{IsOwnedReading, IsRefusal}
+use Rattle.toml_edit.specs.change.declared.fault.ChangeFault as changing
+use Rattle.toml_edit.specs.change.declared.fault.ChangeFault.TheVariants as changings
 use Rattle.toml_edit.specs.error.declared.toml_error.ParseFault as parsing
 use Rattle.toml_edit.specs.error.declared.toml_error.ParseFault.TheVariants as parsings
 use Rattle.toml_edit.specs.model.Excerpt.{excerpt}
@@ -31,6 +33,12 @@ fault_text Unfit = codes "does not fit" ++ newline
 abbrev pub parsing_fault : parsing.ParseFault → EditFault
 parsing_fault (parsings.Toml e) = Toml e
 parsing_fault parsings.Memory = Memory
+
+-- a fault of a change, passed on
+abbrev pub changing_fault : changing.ChangeFault → EditFault
+changing_fault changings.NoSuchPath = Missing
+changing_fault changings.WrongKind = Missing
+changing_fault changings.Memory = Memory
 
 -- memory ran out, or a tree does not fit
 abbrev pub FailsToFit : Type 0 → EditFault → Type 0

@@ -17,3 +17,4 @@ pub mod Reports
 pub mod Sets
 pub mod Sorts
 pub mod Spellings
+pub mod Values

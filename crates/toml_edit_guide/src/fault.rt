@@ -2,7 +2,7 @@
 use std::alloc::AllocError;
 use std::error::Error;
 use std::fmt;
-use toml_edit::{ParseFault, TomlError};
+use toml_edit::{ChangeFault, ParseFault, TomlError};
 
 /// The reason why the text of a document was not edited.
 #[derive(Debug, Drop)]
@@ -63,5 +63,21 @@ impl From<AllocError> for EditFault {
 
     fn from(_refused: AllocError) -> EditFault {
         EditFault::Memory
+    }
+}
+
+/// Returns `EditFault::Missing` where there is no such path, or an item of another kind, or
+/// `EditFault::Memory`.
+impl From<ChangeFault> for EditFault {
+    ghost use Rattle.std.specs.Prelude.{◌≡◌};
+    ghost use Rattle.toml_edit_guide.specs.Faults.{changing_fault};
+
+    ghost from_gives = { λ fault e. e ≡ changing_fault fault };
+
+    fn from(fault: ChangeFault) -> EditFault {
+        match fault {
+            ChangeFault::NoSuchPath | ChangeFault::WrongKind => EditFault::Missing,
+            ChangeFault::Memory => EditFault::Memory,
+        }
     }
 }

@@ -8,6 +8,7 @@ pub mod changing;
 pub mod dates;
 pub mod documents;
 pub mod editing;
+pub mod edits;
 pub mod either_table;
 pub mod exchanging;
 pub mod fault;
