@@ -2,6 +2,7 @@
 C = toml_edit
 RT = PATH="/opt/rattle/bin:$$PATH" rt
 ROWS = test_rows test_rows_tables test_rows_values
+PEERS = tomlplusplus toml11
 
 help: ## lists these commands
 	@sed -n 's/^\([a-z]*\):.*## /\1\t/p' Makefile
@@ -52,7 +53,11 @@ bench: ## counts instructions and heap (needs the proved program and valgrind)
 	bench/run.py
 	bench/run.py --memory
 
+peers: ## builds the programs of toml++ and toml11, and counts beside them (needs the same, and g++)
+	for name in $(PEERS); do (cd bench/$$name && mkdir -p target && g++ -O2 -std=c++17 -o target/$$name main.cpp) || exit; done
+	bench/run.py $(foreach name,$(PEERS),--peers bench/$(name)/target/$(name))
+
 collisions: ## the same with keys that collide
 	bench/collisions.py
 
-.PHONY: help check test edits rows gate pages faults api fmt definitions refusals cost coverage planted bench collisions
+.PHONY: help check test edits rows gate pages faults api fmt definitions refusals cost coverage planted bench peers collisions

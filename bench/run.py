@@ -6,14 +6,23 @@ It counts with valgrind's callgrind and massif, so the numbers are the same on e
 run `rt run` in crates/tomled once, or name another program as the first argument.
 
     bench/run.py [--memory] [PROGRAM]
-    bench/run.py --beside OTHER [--beside OTHER ..] [PROGRAM]
+    bench/run.py --beside OTHER [--beside OTHER ..] [--peers OTHER ..] [PROGRAM]
                                               instructions at 128 KB and memory at 1 MB, beside those of other programs that read
                                               a document and print it, such as that of bench/crate ("-" if not as it was)
+    bench/run.py --peers OTHER [--peers OTHER ..] [PROGRAM]
+                                              instructions at 128 KB of printing a document and of parsing it alone, beside those of
+                                              programs with the words `print` and `parse`, such as that of bench/toml11 ("-" if what
+                                              one prints does not mean the same, or if it takes more than three seconds); the program
+                                              parses alone as `get` of a key that is not there
 """
-import concurrent.futures, math, os, re, subprocess, sys, tempfile
+import concurrent.futures, functools, math, os, re, subprocess, sys, tempfile
 
 TOP = os.path.dirname(os.path.dirname(os.path.abspath(__file__)))
 SIZES = (64, 128, 256)
+# What a program is run with, and the status that it has to end with: to print a document, and to parse it alone.
+PRINT, PARSE, PEER_PARSE = (("print",), 0), (("get", "absent"), 2), (("parse",), 0)
+# The most seconds of a processor that a peer may take, without valgrind.
+PATIENCE = 3
 KEYS = (10000, 20000)
 
 
@@ -185,24 +194,24 @@ KINDS = (
 )
 
 
-def valgrind(program, text, tool, same):
+def valgrind(program, text, tool, same, how=PRINT):
     """Runs the program on the text, and answers what valgrind says and what the tool writes. The program has to print the same text again, or
-    at least to succeed."""
+    at least to end with the status that is wanted."""
     with tempfile.TemporaryDirectory() as folder:
         source, out = os.path.join(folder, "in.toml"), os.path.join(folder, "out")
         with open(source, "w") as file:
             file.write(text)
         with open(source) as file:
-            words = ["valgrind", "--tool=" + tool, "--%s-out-file=%s" % (tool, out), program, "print"]
+            words = ["valgrind", "--tool=" + tool, "--%s-out-file=%s" % (tool, out), program, *how[0]]
             run = subprocess.run(words, stdin=file, capture_output=True)
-        if run.returncode or same and run.stdout.decode() != text:
-            raise ValueError("%s did not print what it read" % program)
+        if run.returncode != how[1] or same and run.stdout.decode() != text:
+            raise ValueError("%s did not print what it read, or not end as it should" % program)
         with open(out) as file:
             return run.stderr.decode(), file.read()
 
 
-def instructions(program, text, same=True):
-    said, _ = valgrind(program, text, "callgrind", same)
+def instructions(program, text, same=True, how=PRINT):
+    said, _ = valgrind(program, text, "callgrind", same, how)
     return int(re.search(r"Collected : (\d+)", said).group(1))
 
 
@@ -249,43 +258,87 @@ def prints_same(program, text):
     return run.returncode == 0 and run.stdout == text.encode()
 
 
-def beside(tool, program, base, text):
-    """Returns what the program takes for each byte of the text, or None if it does not print what it read."""
-    return (tool(program, text) - base.result()) / len(text) if prints_same(program, text) else None
+def is_parsed(program, text, how):
+    """Whether the program ends in time and as it should. If it prints, that has to mean what the text means."""
+    words = ["sh", "-c", 'ulimit -t %d; exec "$0" "$@"' % PATIENCE, program, *how[0]]
+    run = subprocess.run(words, input=text.encode(), capture_output=True)
+    if run.returncode != how[1] or how != PRINT:
+        return run.returncode == how[1]
+    import tomllib
+    try:
+        return tomllib.loads(run.stdout.decode()) == tomllib.loads(text)
+    except tomllib.TOMLDecodeError:
+        return False
 
 
-def print_beside(program, others):
-    """Prints, for each kind, what the programs take, and the ratio to each of the others; "-" if one does not print what it read, or,
-    as massif sees no heap of a program that is linked statically, if nothing was counted."""
-    programs, tools = (program, *others), ((instructions, 128), (peak, 1024))
+class Column:
+    """What a program takes for each byte of each kind of document, or None where it does not do what it should; and if this stands beside
+    the column of `tomled`, the ratio of that one to it."""
+
+    def __init__(self, pool, head, program, count, size, is_right, own=None, has_ratios=False):
+        self.head, self.own, self.has_ratios = head, own, has_ratios
+        self.base = pool.submit(count, program, "")
+        self.counts = {name: pool.submit(self.count, program, count, make(size * 1024), is_right) for name, make in KINDS}
+
+    def count(self, program, count, text, is_right):
+        return (count(program, text) - self.base.result()) / len(text) if is_right(program, text) else None
+
+    def ratio(self, name):
+        count = self.counts[name].result()
+        return self.own.counts[name].result() / count if self.own and count else None
+
+    def heads(self):
+        return [self.head] + ["Ratio"] * self.has_ratios
+
+    def cells(self, name):
+        """The number, of a peer without decimals, and its ratio. Massif sees no heap of a program that is linked statically, so nothing may
+        have been counted."""
+        count = self.counts[name].result()
+        if not self.own:
+            return ["%.1f" % count]
+        if not count:
+            return ["-"] * (1 + self.has_ratios)
+        return ["%.1f" % count, "%.2f" % self.ratio(name)] if self.has_ratios else ["%.0f" % count]
+
+    def means(self):
+        ratios = [ratio for ratio in map(self.ratio, self.counts) if ratio]
+        mean = "%.2f" % geometric_mean(ratios) if ratios else "-" if self.own else ""
+        return [""] * self.has_ratios + [mean]
+
+
+def columns(pool, program, others, peers):
+    """The columns of the table: instructions of printing, those of parsing alone, and memory."""
+    def parsed(name, it, how, own=None):
+        return Column(pool, name, it, functools.partial(instructions, same=False, how=how), 128, functools.partial(is_parsed, how=how), own)
+
+    def of(it):
+        return "of " + os.path.basename(it)
+
+    made = [Column(pool, "Instructions a byte", program, instructions, 128, prints_same)]
+    made += [Column(pool, of(it), it, instructions, 128, prints_same, made[0], True) for it in others]
+    made += [parsed(of(it), it, PRINT, made[0]) for it in peers]
+    if peers:
+        made.append(parsed("Parsed alone", program, PARSE))
+        made += [parsed(of(it), it, PEER_PARSE, made[-1]) for it in peers]
+    if others:
+        made.append(Column(pool, "Bytes a byte", program, peak, 1024, prints_same))
+        made += [Column(pool, of(it), it, peak, 1024, prints_same, made[-1], True) for it in others]
+    return made
+
+
+def print_beside(program, others, peers):
+    """Prints, for each kind, what the programs take, and below it the means of the ratios."""
     with concurrent.futures.ThreadPoolExecutor(os.cpu_count()) as pool:
-        empty = {(tool, it): pool.submit(tool, it, "") for tool, _ in tools for it in programs}
-        counts = {
-            (name, tool, it): pool.submit(beside, tool, it, empty[tool, it], make(size * 1024)) for name, make in KINDS for tool, size in tools for it in programs
-        }
-        starts = ["%d by %s" % (empty[instructions, it].result(), os.path.basename(it)) for it in programs]
+        made = columns(pool, program, others, peers)
+        starts = ["%d by %s" % (column.base.result(), os.path.basename(it)) for column, it in zip(made, (program, *others, *peers))]
         print("The empty text takes %s.\n" % ", ".join(["%s instructions %s" % tuple(starts[0].split(" ", 1)), *starts[1:]]))
-        heads = ["of %s | Ratio" % os.path.basename(it) for it in others]
-        print("| Document | %s |" % " | ".join(["Instructions a byte", *heads, "Bytes a byte", *heads]))
-        print("|---" * (3 + 4 * len(others)) + "|")
-        ratios = {(tool, it): [] for tool, _ in tools for it in others}
+        heads = [head for column in made for head in column.heads()]
+        print("| Document | %s |" % " | ".join(heads))
+        print("|---" * (1 + len(heads)) + "|")
         for name, _ in KINDS:
-            words = []
-            for tool, _ in tools:
-                ours = counts[name, tool, program].result()
-                words.append("%.1f" % ours)
-                for it in others:
-                    theirs = counts[name, tool, it].result()
-                    words += ["-", "-"] if not theirs else ["%.1f" % theirs, "%.2f" % (ours / theirs)]
-                    ratios[tool, it] += [] if not theirs else [ours / theirs]
-            print("| %s | %s |" % (name, " | ".join(words)))
+            print("| %s | %s |" % (name, " | ".join(cell for column in made for cell in column.cells(name))))
             sys.stdout.flush()
-        means = ["geometric mean"]
-        for tool, _ in tools:
-            means.append("")
-            for it in others:
-                means += ["", "%.2f" % geometric_mean(ratios[tool, it]) if ratios[tool, it] else "-"]
-        print("| %s |" % " | ".join(means))
+        print("| geometric mean | %s |" % " | ".join(cell for column in made for cell in column.means()))
 
 
 def print_help():
@@ -298,17 +351,18 @@ def main():
     if "--help" in sys.argv:
         return print_help()
     words = [word for word in sys.argv[1:] if word != "--memory"]
-    others = []
-    while words[:1] == ["--beside"] and words[1:]:
-        others.append(words[1])
+    beside = {"--beside": [], "--peers": []}
+    while words[:1] and words[0] in beside and words[1:]:
+        beside[words[0]].append(words[1])
         words = words[2:]
+    others, peers = beside.values()
     measure = peak if "--memory" in sys.argv else instructions
     program = words[0] if words else os.path.join(TOP, "crates/tomled/out/tomled")
-    for it in (program, *others):
+    for it in (program, *others, *peers):
         if not os.path.exists(it):
             sys.exit("no program at %s: run `rt run` in crates/tomled first, or build the other program" % it)
-    if others:
-        return print_beside(program, others)
+    if others or peers:
+        return print_beside(program, others, peers)
     base = measure(program, "")
     if measure is instructions:
         print("The empty text takes %d instructions, of which %d are the program's.\n" % (base, own_instructions(program, "")))
