@@ -4,9 +4,9 @@ use Rattle.toml_edit_model.specs.Text.{Text}
 use Rattle.toml_edit_model.specs.Tree.{Raw, Node, nothing, leaf, list, inline, table, tables, TableFields, Slots, Tree}
 use Rattle.toml_edit_model.specs.Slots.{Slot, lookup_slot}
 use Rattle.toml_edit_model.specs.Lists.{slot_list, slots_from}
-use Rattle.toml_edit_laws.specs.Commands.{Answer, Refusal, done, refused, no_such_path, wrong_kind, mapped, root_slots, root_item}
-use Rattle.toml_edit_laws.specs.Commands.{with_slots, change_slot, drop_slot, present, set_below, set_at, remove_below, remove_at}
-use Rattle.toml_edit_laws.proofs.commands.Setting.{was-mapped}
+use Rattle.toml_edit_edit_laws.specs.Commands.{Answer, Refusal, done, refused, no_such_path, wrong_kind, mapped, root_slots, root_item}
+use Rattle.toml_edit_edit_laws.specs.Commands.{with_slots, change_slot, drop_slot, present, set_below, set_at, remove_below, remove_at}
+use Rattle.toml_edit_edit_laws.proofs.commands.Setting.{was-mapped}
 use Rattle.toml_edit_tree.specs.View.{fields_view, item_view, table_slots, tree_view}
 use Rattle.toml_edit_tree.specs.declared.item.Item.{the_lemmas}
 use Rattle.toml_edit_tree.specs.declared.item.Item.TheVariants as items

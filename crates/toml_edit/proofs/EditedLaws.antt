@@ -5,7 +5,7 @@ use Rattle.toml_edit_model.specs.Text.{Text}
 use Rattle.toml_edit_model.specs.Mode.{Mode, plain}
 use Rattle.toml_edit_model.specs.Paths.{Path, to_key}
 use Rattle.toml_edit_model.specs.Tree.{Node, Tree}
-use Rattle.toml_edit_laws.specs.Commands.{Answer, done, set_at, remove_at}
+use Rattle.toml_edit_edit_laws.specs.Commands.{Answer, done, set_at, remove_at}
 use Rattle.toml_edit_laws.specs.EditLists.{named_path}
 use Rattle.toml_edit_edit_laws.specs.PathEdits.{PathCall, sets, removes, called, path_of_call, NamesSlot, OneCallMore, RemoveEdits, SetAddsAfterLines}
 use Rattle.toml_edit_edit_laws.specs.PathEdits.{SetAddsUnder, SetReplaces}

@@ -9,7 +9,7 @@ use Rattle.toml_edit_tree.specs.declared.item.Item.TheVariants as items
 use Rattle.toml_edit_tree.specs.declared.table.Table.{Table}
 use Rattle.toml_edit.specs.Roots.{is_table, tree_at, tree_under}
 use Rattle.toml_edit.specs.declared.document.DocumentMut.{DocumentMut}
-use Rattle.toml_edit_laws.specs.Commands.{root_item}
+use Rattle.toml_edit_edit_laws.specs.Commands.{root_item}
 
 -- what a table is seen as
 pub view-table : (t : Table) → item_view (items.Table t) ≡ table (fields_view t) (table_slots t)

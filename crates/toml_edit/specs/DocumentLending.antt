@@ -13,7 +13,7 @@ use Rattle.toml_edit_tree.specs.declared.item.Item.{Item}
 use Rattle.toml_edit_tree.specs.declared.item.Item.TheVariants as items
 use Rattle.toml_edit_tree.specs.declared.table.Table.{Table}
 use Rattle.toml_edit_tree.specs.contracts.table.Table.{the_row as table_row}
-use Rattle.toml_edit_laws.specs.Commands.{root_item}
+use Rattle.toml_edit_edit_laws.specs.Commands.{root_item}
 
 -- the document ends with the final root of r
 abbrev pub LendsRoot : MutBor DocumentMut → MutBor Table → Fml

@@ -9,8 +9,8 @@ use Rattle.toml_edit_model.specs.Print.{lines_of, print_in}
 use Rattle.toml_edit_model.specs.Slots.{lookup_slot}
 use Rattle.toml_edit_model.specs.Lists.{slot_list}
 use Rattle.toml_edit_laws.specs.Locality.{is_plain_value, has_block}
-use Rattle.toml_edit_laws.specs.Commands.{item_at}
-use Rattle.toml_edit_laws.specs.CommandLaws.{NamesTable}
+use Rattle.toml_edit_edit_laws.specs.Commands.{item_at}
+use Rattle.toml_edit_edit_laws.specs.CommandLaws.{NamesTable}
 use Rattle.toml_edit_edit_laws.specs.PathEdits.{PathCall, AreDone}
 use Rattle.toml_edit_edit_laws.specs.Staying.{StaysButAt}
 use Rattle.toml_edit.specs.DocumentView.{IsPlain, tree_owned}

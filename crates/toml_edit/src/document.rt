@@ -113,7 +113,7 @@ impl<S: SourceText> Document<S> {
     ghost use Rattle.toml_edit.specs.DocumentView.{IsPlainRead, mode_owned, mode_read, open_owned, open_read, source, tree_owned, tree_read};
     ghost use Rattle.toml_edit.specs.Documents.{IsOwnedTreeWith, IsReading, IsReadingIn, IsRefusal, IsRefusalIn, PrintsMeaningOf};
     ghost use Rattle.toml_edit_parser.specs.Options.{mode_of, version_of};
-    ghost use Rattle.toml_edit_laws.specs.Commands.{root_item};
+    ghost use Rattle.toml_edit_edit_laws.specs.Commands.{root_item};
     ghost use Rattle.toml_edit_tree.specs.Held.{held_left};
     ghost use Rattle.toml_edit_model.specs.Iterating.{filled_pairs};
     ghost use Rattle.toml_edit_model.specs.Lists.{slot_list};
@@ -412,7 +412,7 @@ impl DocumentMut {
     ghost use Rattle.toml_edit.specs.Edited.{IsEditedFrom};
     ghost use Rattle.toml_edit.specs.Documents.{IsOwnedReading, IsOwnedReadingIn, IsRefusal, IsRefusalIn, MeansWhatIsShown, new_tree};
     ghost use Rattle.toml_edit_parser.specs.Options.{mode_of, version_of};
-    ghost use Rattle.toml_edit_laws.specs.Commands.{root_item};
+    ghost use Rattle.toml_edit_edit_laws.specs.Commands.{root_item};
     ghost use Rattle.toml_edit_tree.specs.Held.{held_left};
     ghost use Rattle.toml_edit_model.specs.Iterating.{filled_pairs};
     ghost use Rattle.toml_edit_model.specs.Lists.{slot_list};

@@ -10,11 +10,11 @@ use Rattle.toml_edit_model.specs.Tree.{Node, Tree}
 use Rattle.toml_edit_model.specs.Normal.{has_open_end}
 use Rattle.toml_edit_model.specs.Print.{print_in}
 use Rattle.toml_edit_laws.specs.Locality.{is_plain_value}
-use Rattle.toml_edit_laws.specs.Commands.{Answer, done, set_at, remove_at}
-use Rattle.toml_edit_laws.specs.CommandLaws.{IsRead, ChangesStatement, AddsStatement, DropsStatements, made_below}
-use Rattle.toml_edit_laws.proofs.commands.Setting.{done-is, set_changes, set_adds}
-use Rattle.toml_edit_laws.proofs.commands.Removing.{remove_drops, remove_element_drops, remove_changes}
-use Rattle.toml_edit_laws.proofs.commands.Filled.{read_has_no_placeholders}
+use Rattle.toml_edit_edit_laws.specs.Commands.{Answer, done, set_at, remove_at}
+use Rattle.toml_edit_edit_laws.specs.CommandLaws.{IsRead, ChangesStatement, AddsStatement, DropsStatements, made_below}
+use Rattle.toml_edit_edit_laws.proofs.commands.Setting.{done-is, set_changes, set_adds}
+use Rattle.toml_edit_edit_laws.proofs.commands.Removing.{remove_drops, remove_element_drops, remove_changes}
+use Rattle.toml_edit_edit_laws.proofs.commands.Filled.{read_has_no_placeholders}
 use Rattle.toml_edit_laws.proofs.print_of_read.PrintOfRead.{print_normal}
 use Rattle.toml_edit.specs.Documents.{opens}
 use Rattle.toml_edit_command.specs.Edits.{Sets, Removes, DropsInside}

@@ -10,8 +10,8 @@ use Rattle.toml_edit_model.specs.Keys.{new_key}
 use Rattle.toml_edit_model.specs.Slots.{Slot, keyed, lookup_slot}
 use Rattle.toml_edit_model.specs.Lists.{slot_list}
 use Rattle.toml_edit_laws.specs.Locality.{into_element, Leads, has_block}
-use Rattle.toml_edit_laws.specs.Commands.{done, number_of, set_below, set_at, remove_below, remove_at}
-use Rattle.toml_edit_laws.specs.CommandLaws.{NamesTable, ChangesStatement, AddsStatement, DropsStatements, made_below}
+use Rattle.toml_edit_edit_laws.specs.Commands.{done, number_of, set_below, set_at, remove_below, remove_at}
+use Rattle.toml_edit_edit_laws.specs.CommandLaws.{NamesTable, ChangesStatement, AddsStatement, DropsStatements, made_below}
 
 -- A claim about the key that ends a path in a table that the walk of the print enters: about the
 -- table's path, the visit of that table, the key, and the keys below it.

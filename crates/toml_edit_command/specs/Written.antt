@@ -9,8 +9,8 @@ use Rattle.toml_edit_model.specs.Normal.{normal_in, normal_text_in}
 use Rattle.toml_edit_model.specs.Fits.{FitsIn}
 use Rattle.toml_edit_model.specs.Print.{print_in}
 use Rattle.toml_edit_model.specs.Tree.{Tree}
-use Rattle.toml_edit_laws.specs.Commands.{Refusal, done, refused, get_text, set_at, remove_at}
-use Rattle.toml_edit_laws.specs.CommandLaws.{IsRead}
+use Rattle.toml_edit_edit_laws.specs.Commands.{Refusal, done, refused, get_text, set_at, remove_at}
+use Rattle.toml_edit_edit_laws.specs.CommandLaws.{IsRead}
 use Rattle.toml_edit.specs.DocumentView.{mode_owned, open_owned, tree_owned}
 use Rattle.toml_edit.specs.Documents.{HasNormalText, MeansWhatIsShown, opens}
 use Rattle.toml_edit.specs.declared.document.DocumentMut.{DocumentMut}

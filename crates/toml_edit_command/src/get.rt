@@ -3,7 +3,7 @@ ghost use Rattle.std.specs.Prelude.{◌≡◌, ◌++◌, false, IfErr, OnOk};
 ghost use Rattle.std.specs.Io.KnownBytes.{Appends};
 ghost use Rattle.toml_edit_model.specs.Text.{newline};
 ghost use Rattle.toml_edit_model.specs.Keys.{names};
-ghost use Rattle.toml_edit_laws.specs.Commands as commands;
+ghost use Rattle.toml_edit_edit_laws.specs.Commands as commands;
 ghost use Rattle.toml_edit_tree.specs.Containers.{tables_node};
 ghost use Rattle.toml_edit_tree.specs.View.{item_view, tables_view};
 ghost use Rattle.toml_edit_command.specs.Run.{written};

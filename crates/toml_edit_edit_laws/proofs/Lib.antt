@@ -1,3 +1,4 @@
+pub mod commands
 pub mod renaming
 pub mod comments
 pub mod placing

@@ -1,4 +1,6 @@
--- Cited by the laws.
+-- Cited by the laws, and by contracts of calls by paths.
+pub mod Commands
+pub mod CommandLaws
 pub mod Renaming
 pub mod Comments
 pub mod Placing

@@ -12,8 +12,8 @@ use Rattle.toml_edit_model.specs.Slots.{keyed, lookup_slot}
 use Rattle.toml_edit_model.specs.Lists.{slot_list}
 use Rattle.toml_edit_laws.specs.Locality.{Turn, root_visit, is_plain_value, has_block}
 use Rattle.toml_edit_laws.specs.EditLists.{Edit, replace, add, remove, remove_element, after, Applies, named_path}
-use Rattle.toml_edit_laws.specs.Commands.{Answer, done, number_of, item_at, set_at, remove_at}
-use Rattle.toml_edit_laws.specs.CommandLaws.{Goes, NamesTable, made_below}
+use Rattle.toml_edit_edit_laws.specs.Commands.{Answer, done, number_of, item_at, set_at, remove_at}
+use Rattle.toml_edit_edit_laws.specs.CommandLaws.{Goes, NamesTable, made_below}
 use Rattle.toml_edit_edit_laws.specs.DottedAdds.{OneLineMore}
 use Rattle.toml_edit_edit_laws.specs.Staying.{StaysButAt}
 

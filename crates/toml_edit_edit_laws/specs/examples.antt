@@ -1,5 +1,6 @@
--- Worked renamings, places and changes of comments.
+-- Worked renamings, places, changes of comments and calls by paths.
 pub mod Renames
 pub mod HeaderDecors
 pub mod Places
 pub mod Calls
+pub mod Commands

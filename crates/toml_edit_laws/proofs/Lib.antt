@@ -15,7 +15,6 @@ pub mod normal_texts
 pub mod versions
 pub mod read_trees
 pub mod print_by_visits
-pub mod commands
 pub mod reading
 pub mod one_cut
 pub mod slots

@@ -23,8 +23,6 @@ pub mod Versions
 pub mod TextsFit
 pub mod ReadTrees
 pub mod PrintByVisits
-pub mod Commands
-pub mod CommandLaws
 -- Cited by contracts of other crates, and by the proofs of these laws.
 pub mod Standing
 pub mod AddPath

@@ -1,4 +1,3 @@
--- Worked examples of edits of trees and of the program's commands.
+-- Worked examples of edits of trees.
 pub mod Edits
-pub mod Commands
 pub mod Orders

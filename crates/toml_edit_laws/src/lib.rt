@@ -5,7 +5,6 @@
 ghost use Rattle.toml_edit_model.specs.Mode.{Mode};
 ghost use Rattle.toml_edit_laws.specs.AcceptedPrints.{PrintAgrees, PrintIsCut};
 ghost use Rattle.toml_edit_laws.specs.Building.{Building, HasTree, Runs};
-ghost use Rattle.toml_edit_laws.specs.CommandLaws.{DecimalsName, GetAfterSet, OneTextNames, PathsHaveWays, ReadHasNoPlaceholders, RemoveChanges, RemoveDrops, RemoveElementDrops, RemoveFinds, RemoveKeepsItems, RemoveKeepsTheRest, RemoveReadsBack, RemoveRefuses, RemovedWasThere, SetAdds, SetChanges, SetKeepsItems, SetKeepsTheRest, SetReadsBack, SetRefuses, SetSteps, WaysHavePaths};
 ghost use Rattle.toml_edit_laws.specs.DefaultSpellings.{DefaultSpellings};
 ghost use Rattle.toml_edit_laws.specs.EditLists.{EditsStayLocal};
 ghost use Rattle.toml_edit_laws.specs.Extents.{ExtentsLie};
@@ -223,43 +222,4 @@ pub fn taken_roots_mean()
 /// that one walk collects, in order of place.
 pub fn written_print()
     ensures { (mode : Mode) → PrintByVisits mode }
-{}
-
-/// `set` at a path of the tree of what was read changes the statement of the value there, in its
-/// frame, or adds one for a new key in the root or in a table that has a header. All but the item
-/// at the path stays, and the print reads back where the tree fits.
-pub fn command_sets()
-    ensures change { (mode : Mode) → SetChanges mode }
-    ensures new_key { (mode : Mode) → SetAdds mode }
-    ensures rest { SetKeepsTheRest }
-    ensures items { SetKeepsItems }
-    ensures back { (mode : Mode) → SetReadsBack mode }
-    ensures steps { SetSteps }
-    ensures found { GetAfterSet }
-    ensures refuses { SetRefuses }
-{}
-
-/// `remove` at a path of the tree of what was read leaves out the statements of the slot or element
-/// there, and of all below it, or changes that of the value that holds it. All else stays, and the
-/// print reads back where the tree fits.
-pub fn command_removes()
-    ensures slot { (mode : Mode) → RemoveDrops mode }
-    ensures element { (mode : Mode) → RemoveElementDrops mode }
-    ensures inside { (mode : Mode) → RemoveChanges mode }
-    ensures rest { RemoveKeepsTheRest }
-    ensures items { RemoveKeepsItems }
-    ensures back { (mode : Mode) → RemoveReadsBack mode }
-    ensures finds { RemoveFinds }
-    ensures was_there { RemovedWasThere }
-    ensures refuses { RemoveRefuses }
-{}
-
-/// A number is named by its decimal alone, and each way from the root is gone by a path. In what
-/// was read, each path to a table goes a way, and no slot is a placeholder.
-pub fn command_paths()
-    ensures one_text { OneTextNames }
-    ensures decimals { DecimalsName }
-    ensures ways { WaysHavePaths }
-    ensures tables { (mode : Mode) → PathsHaveWays mode }
-    ensures filled { (mode : Mode) → ReadHasNoPlaceholders mode }
 {}

@@ -7,8 +7,8 @@ use Rattle.toml_edit_model.specs.ArrayCalls.{written_at}
 use Rattle.toml_edit_model.specs.Slots.{Slot, changed, lookup_slot, with_item}
 use Rattle.toml_edit_model.specs.Lists.{is_item, items_in, on_items, on_slots, only, slots_in}
 use Rattle.toml_edit_model.specs.Keys.{names}
-use Rattle.toml_edit_laws.specs.Commands.{Answer, done, mapped, present, second, and_then, item_below, element_of, change_slot}
-use Rattle.toml_edit_laws.specs.Commands.{change_element}
+use Rattle.toml_edit_edit_laws.specs.Commands.{Answer, done, mapped, present, second, and_then, item_below, element_of, change_slot}
+use Rattle.toml_edit_edit_laws.specs.Commands.{change_element}
 use Rattle.toml_edit_slots.specs.Slots as held
 use Rattle.toml_edit_slots.specs.declared.slots.Slot as held_slot
 use Rattle.toml_edit_tree.specs.Indexed.{shown_slots}

@@ -1,7 +1,7 @@
 -- Changes of a part of an item, as changes of the item.
 use Rattle.std.proofs.Common.{◌≡◌, ap, subst}
 use Rattle.std.specs.Prelude.{Result, Ok, Err}
-use Rattle.toml_edit_laws.specs.Commands.{Answer, mapped}
+use Rattle.toml_edit_edit_laws.specs.Commands.{Answer, mapped}
 use Rattle.toml_edit_paths.specs.Changes.{Changes}
 use Rattle.toml_edit_paths.specs.declared.fault.ChangeFault.{ChangeFault}
 use Rattle.toml_edit_paths.specs.declared.fault.ChangeFault.TheVariants.{NoSuchPath, WrongKind, Memory}

@@ -4,10 +4,10 @@ use Rattle.std.proofs.Common.{set, Option, Some, None, arith}
 use Rattle.std.specs.Prelude.{if◌then◌else◌, slice_get, is_some, option_map, remove, Result}
 use Rattle.toml_edit_model.specs.Text.{Text}
 use Rattle.toml_edit_model.specs.Tree.{Node, nothing, leaf, list, inline, table, tables}
-use Rattle.toml_edit_laws.specs.Commands.{Answer, done, number_of, kept_item, at_number, element_of, change_element, drop_element}
+use Rattle.toml_edit_edit_laws.specs.Commands.{Answer, done, number_of, kept_item, at_number, element_of, change_element, drop_element}
 use Rattle.toml_edit_model.specs.Shown.{is_table_node}
 use Rattle.toml_edit_model.specs.ArrayCalls.{written_at, removed_at}
-use Rattle.toml_edit_laws.proofs.commands.Apart.{named}
+use Rattle.toml_edit_edit_laws.proofs.commands.Apart.{named}
 use Rattle.toml_edit_laws.proofs.common.OptionSteps.{map_some, some-is}
 use Rattle.toml_edit_tree.specs.Containers.{table_in}
 use Rattle.toml_edit_tree.specs.View.{item_view}

@@ -4,7 +4,7 @@ use Rattle.toml_edit_model.specs.Lists.{item_list, items_from, on_slots, slots_i
 use Rattle.toml_edit_model.specs.Slots.{Slot}
 use Rattle.toml_edit_model.specs.Text.{Text}
 use Rattle.toml_edit_model.specs.Tree.{Node, nothing, leaf, list, inline, table, tables, is_value_node}
-use Rattle.toml_edit_laws.specs.Commands.{done, mapped, element_of, remove_child}
+use Rattle.toml_edit_edit_laws.specs.Commands.{done, mapped, element_of, remove_child}
 use Rattle.toml_edit_laws.proofs.common.OptionSteps.{map_some, some-is}
 use Rattle.toml_edit_laws.proofs.locality.Slots.{items_from-list}
 use Rattle.toml_edit_tree.specs.ArrayLines.{fields_removed, line_removed}

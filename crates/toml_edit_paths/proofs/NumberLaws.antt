@@ -9,9 +9,9 @@ use Rattle.std.proofs.lemmas.Bool.{cases_lt, ne_eqb}
 use Rattle.std.proofs.lemmas.Fmt.{decimal_digit, decimal_is_IsNumeral, decimal-digits_value, first_decimal}
 use Rattle.std.proofs.lemmas.Str.Parse.{numerals_by_value, tells_digits}
 use Rattle.toml_edit_model.specs.Text.{Text, same_text}
-use Rattle.toml_edit_laws.specs.Commands.{number_of}
+use Rattle.toml_edit_edit_laws.specs.Commands.{number_of}
 use Rattle.toml_edit_laws.proofs.common.Tests.{if-true, same_text-refl}
-use Rattle.toml_edit_laws.proofs.commands.Apart.{number-text}
+use Rattle.toml_edit_edit_laws.proofs.commands.Apart.{number-text}
 use Rattle.toml_edit_paths.specs.Elements.{IsNumberOf}
 
 -- a text that is the decimal of its value names that

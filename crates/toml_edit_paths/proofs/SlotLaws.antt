@@ -8,7 +8,7 @@ use Rattle.toml_edit_model.specs.Slots.{keyed, changed}
 use Rattle.toml_edit_model.specs.Lists.{slot_list, slots_from}
 use Rattle.toml_edit_model.specs.Text.{Text, same_text}
 use Rattle.toml_edit_model.specs.Tree.{Key, Node, nothing, leaf, list, inline, table, tables, no_slots, slot}
-use Rattle.toml_edit_laws.specs.Commands.{Answer, done, refused, no_such_path, mapped, change_slot, drop_slot, present}
+use Rattle.toml_edit_edit_laws.specs.Commands.{Answer, done, refused, no_such_path, mapped, change_slot, drop_slot, present}
 use Rattle.toml_edit_laws.proofs.common.OptionSteps.{some-is}
 use Rattle.toml_edit_laws.proofs.common.Tests.{same_text-is, same_text-swap}
 use Rattle.toml_edit_laws.proofs.locality.Slots.{slots_from-list}

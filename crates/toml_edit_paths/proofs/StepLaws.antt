@@ -8,8 +8,8 @@ use Rattle.toml_edit_model.specs.Slots.{Slot, lookup_slot}
 use Rattle.toml_edit_model.specs.Text.{Text}
 use Rattle.toml_edit_model.specs.Tree.{Key, Node, nothing, leaf, list, inline, table, tables, is_value_node}
 use Rattle.toml_edit_model.specs.Keys.{names}
-use Rattle.toml_edit_laws.specs.Commands.{Answer, refused, no_such_path, mapped, child, child_changed, change_element, change_slot}
-use Rattle.toml_edit_laws.specs.Commands.{drop_element, drop_slot, element_of, present, remove_below, second}
+use Rattle.toml_edit_edit_laws.specs.Commands.{Answer, refused, no_such_path, mapped, child, child_changed, change_element, change_slot}
+use Rattle.toml_edit_edit_laws.specs.Commands.{drop_element, drop_slot, element_of, present, remove_below, second}
 use Rattle.toml_edit_laws.proofs.common.OptionSteps.{some-is}
 use Rattle.toml_edit_laws.proofs.locality.Slots.{slots_from-list, items_from-list}
 use Rattle.toml_edit_slots.specs.declared.slots.Slot as held_slot

@@ -5,8 +5,8 @@ use Rattle.std.specs.Prelude.{◌≡◌, Bool, false, List, [], ◌∷◌, Optio
 use Rattle.toml_edit_model.specs.Slots.{Slot, lookup_slot}
 use Rattle.toml_edit_model.specs.Text.{Text}
 use Rattle.toml_edit_model.specs.Tree.{Node, Tree}
-use Rattle.toml_edit_laws.specs.Commands.{Answer, done, mapped, present, second, and_then, item_below, element_of, change_slot}
-use Rattle.toml_edit_laws.specs.Commands.{change_element, child_changed, root_item, with_slots}
+use Rattle.toml_edit_edit_laws.specs.Commands.{Answer, done, mapped, present, second, and_then, item_below, element_of, change_slot}
+use Rattle.toml_edit_edit_laws.specs.Commands.{change_element, child_changed, root_item, with_slots}
 use Rattle.toml_edit_tree.specs.View.{item_view}
 use Rattle.toml_edit_tree.specs.declared.item.Item.{Item}
 

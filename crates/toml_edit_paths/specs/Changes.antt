@@ -3,8 +3,8 @@ use Rattle.std.specs.Prelude.{◌≡◌, Bool, false, List, [], ◌∷◌, Resul
 use Rattle.toml_edit_model.specs.Text.{Text}
 use Rattle.toml_edit_model.specs.Tree.{Node}
 use Rattle.toml_edit_model.specs.Slots.{Slot, lookup_slot}
-use Rattle.toml_edit_laws.specs.Commands.{Answer, done, refused, no_such_path, wrong_kind, present, element_of, change_slot, change_element}
-use Rattle.toml_edit_laws.specs.Commands.{drop_slot, drop_element, remove_below}
+use Rattle.toml_edit_edit_laws.specs.Commands.{Answer, done, refused, no_such_path, wrong_kind, present, element_of, change_slot, change_element}
+use Rattle.toml_edit_edit_laws.specs.Commands.{drop_slot, drop_element, remove_below}
 use Rattle.toml_edit_paths.specs.declared.fault.ChangeFault.{ChangeFault}
 use Rattle.toml_edit_paths.specs.declared.fault.ChangeFault.TheVariants.{NoSuchPath, WrongKind, Memory}
 

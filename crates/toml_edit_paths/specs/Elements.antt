@@ -2,7 +2,7 @@
 use Rattle.std.specs.Prelude.{◌≡◌, ℕ, ◌^◌, ◌≤◌, Bool, List, Option, Some, None, option_map}
 use Rattle.toml_edit_model.specs.Text.{Text}
 use Rattle.toml_edit_model.specs.Tree.{Node}
-use Rattle.toml_edit_laws.specs.Commands.{number_of, element_of}
+use Rattle.toml_edit_edit_laws.specs.Commands.{number_of, element_of}
 
 -- It is the number that the text names, or none where the text names none below 2^64.
 abbrev pub IsNumberOf : Text → Option ℕ → Type 0

@@ -4,7 +4,7 @@ use Rattle.toml_edit_model.specs.Conversions.{new_table}
 use Rattle.toml_edit_model.specs.Keys.{new_key}
 use Rattle.toml_edit_model.specs.Text.{Text}
 use Rattle.toml_edit_model.specs.Tree.{TableFields, Node, nothing, table, tables, no_slots, slot, Tree}
-use Rattle.toml_edit_laws.specs.Commands.{Answer, done, mapped, child_changed, root_item, set_below, set_here, with_slots}
+use Rattle.toml_edit_edit_laws.specs.Commands.{Answer, done, mapped, child_changed, root_item, set_below, set_here, with_slots}
 
 -- A new table, by the rest of the path below its key: the last one has a header, and those above it
 -- exist only for it.

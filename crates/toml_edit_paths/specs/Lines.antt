@@ -4,8 +4,8 @@ use Rattle.toml_edit_model.specs.Text.{Text}
 use Rattle.toml_edit_model.specs.Tree.{ArrayFields, Node, list, Tree, is_value_node}
 use Rattle.toml_edit_model.specs.Slots.{Slot, lookup_slot}
 use Rattle.toml_edit_model.specs.Lists.{item_list, items_from}
-use Rattle.toml_edit_laws.specs.Commands.{Answer, done, refused, no_such_path, mapped, present, element_of, change_slot, child_changed}
-use Rattle.toml_edit_laws.specs.Commands.{drop_slot, remove_child, root_item, with_slots}
+use Rattle.toml_edit_edit_laws.specs.Commands.{Answer, done, refused, no_such_path, mapped, present, element_of, change_slot, child_changed}
+use Rattle.toml_edit_edit_laws.specs.Commands.{drop_slot, remove_child, root_item, with_slots}
 use Rattle.toml_edit_tree.specs.ArrayLines.{fields_removed, line_removed}
 
 -- the array without the element that is found, and without its line

@@ -3,7 +3,7 @@ ghost use Rattle.std.specs.Prelude.{◌∷◌};
 ghost use Rattle.toml_edit_model.specs.Lists.{is_item, only};
 ghost use Rattle.toml_edit_model.specs.Slots.{lookup_slot};
 ghost use Rattle.toml_edit_model.specs.Keys.{names};
-ghost use Rattle.toml_edit_laws.specs.Commands.{and_then, item_below, present};
+ghost use Rattle.toml_edit_edit_laws.specs.Commands.{and_then, item_below, present};
 ghost use Rattle.toml_edit_tree.specs.Containers.{table_node};
 ghost use Rattle.toml_edit_tree.specs.Indexed.{shown_slots};
 ghost use Rattle.toml_edit_tree.specs.View.{item_view, table_view};

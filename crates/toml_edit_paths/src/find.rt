@@ -2,8 +2,8 @@
 ghost use Rattle.std.specs.Prelude.{◌≡◌, option_map};
 ghost use Rattle.toml_edit_model.specs.Slots.{lookup_slot};
 ghost use Rattle.toml_edit_model.specs.Keys.{names};
-ghost use Rattle.toml_edit_laws.specs.Commands as commands;
-ghost use Rattle.toml_edit_laws.specs.Commands.{item_below, present};
+ghost use Rattle.toml_edit_edit_laws.specs.Commands as commands;
+ghost use Rattle.toml_edit_edit_laws.specs.Commands.{item_below, present};
 ghost use Rattle.toml_edit_tree.specs.Indexed.{shown_slots};
 ghost use Rattle.toml_edit_tree.specs.View.{item_view};
 

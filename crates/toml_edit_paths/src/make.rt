@@ -5,7 +5,7 @@ ghost use Rattle.toml_edit_model.specs.Keys.{new_key, names};
 ghost use Rattle.toml_edit_model.specs.Slots.{keyed};
 ghost use Rattle.toml_edit_model.specs.Text.{one};
 ghost use Rattle.toml_edit_model.specs.Tree.{no_slots, slot, table};
-ghost use Rattle.toml_edit_laws.specs.CommandLaws.{made_below};
+ghost use Rattle.toml_edit_edit_laws.specs.CommandLaws.{made_below};
 ghost use Rattle.toml_edit_slots.specs.Slots.{place};
 ghost use Rattle.toml_edit_tree.specs.Indexed.{shown_slots};
 ghost use Rattle.toml_edit_tree.specs.View.{item_view};

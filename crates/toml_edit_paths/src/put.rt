@@ -4,7 +4,7 @@ ghost use Rattle.toml_edit_model.specs.Conversions.{with_decor};
 ghost use Rattle.toml_edit_model.specs.Slots.{lookup_slot};
 ghost use Rattle.toml_edit_model.specs.Tree.{node_decor, nothing};
 ghost use Rattle.toml_edit_model.specs.Keys.{names};
-ghost use Rattle.toml_edit_laws.specs.Commands.{change_slot, set_below, set_here};
+ghost use Rattle.toml_edit_edit_laws.specs.Commands.{change_slot, set_below, set_here};
 ghost use Rattle.toml_edit_tree.specs.Containers.{table_node};
 ghost use Rattle.toml_edit_tree.specs.Indexed.{shown_slots};
 ghost use Rattle.toml_edit_tree.specs.View.{item_view, table_view, value_view};

@@ -4,7 +4,7 @@ ghost use Rattle.toml_edit_model.specs.Slots.{lookup_slot};
 ghost use Rattle.toml_edit_model.specs.Text.{Text};
 ghost use Rattle.toml_edit_model.specs.Tree.{Node};
 ghost use Rattle.toml_edit_model.specs.Keys.{names};
-ghost use Rattle.toml_edit_laws.specs.Commands.{drop_slot, present, remove_below};
+ghost use Rattle.toml_edit_edit_laws.specs.Commands.{drop_slot, present, remove_below};
 ghost use Rattle.toml_edit_tree.specs.Containers.{table_node};
 ghost use Rattle.toml_edit_tree.specs.Indexed.{shown_slots};
 ghost use Rattle.toml_edit_tree.specs.View.{item_view, table_view};

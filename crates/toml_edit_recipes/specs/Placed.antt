@@ -1,6 +1,6 @@
 -- What is set or removed at a path that a text spells.
 use Rattle.std.specs.Prelude.{◌≡◌, List}
-use Rattle.toml_edit.specs.laws.Commands.{done, remove_at, set_at}
+use Rattle.toml_edit.specs.edits.Commands.{done, remove_at, set_at}
 use Rattle.toml_edit.specs.model.Keys.{names}
 use Rattle.toml_edit.specs.model.Text.{Text}
 use Rattle.toml_edit.specs.model.Tree.{Key, Node, Tree}

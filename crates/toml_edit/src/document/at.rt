@@ -1,6 +1,6 @@
 //! Access to items by paths of keys.
 ghost use Rattle.std.specs.Prelude.{◌≡◌, IfErr, OnOk, option_map};
-ghost use Rattle.toml_edit_laws.specs.Commands.{item_at, remove_at, root_item, set_at};
+ghost use Rattle.toml_edit_edit_laws.specs.Commands.{item_at, remove_at, root_item, set_at};
 ghost use Rattle.toml_edit_tree.specs.View.{item_view, value_view};
 ghost use Rattle.toml_edit_paths.specs.Calls.{ChangesFound, TakesFound, item_inside, replaced_at};
 ghost use Rattle.toml_edit_paths.specs.Changes.{Changes};

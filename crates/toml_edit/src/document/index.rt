@@ -9,7 +9,7 @@ ghost use Rattle.toml_edit_tree.specs.View.{item_view};
 ghost use Rattle.toml_edit_tree.specs.declared.index.IndexFault.TheVariants.{Memory};
 ghost use Rattle.toml_edit.specs.DocumentLending.{LendsUnder};
 ghost use Rattle.toml_edit.specs.DocumentView.{tree_owned};
-ghost use Rattle.toml_edit_laws.specs.Commands.{root_item};
+ghost use Rattle.toml_edit_edit_laws.specs.Commands.{root_item};
 
 use super::DocumentMut;
 use std::alloc::Global;

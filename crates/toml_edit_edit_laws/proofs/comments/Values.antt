@@ -17,7 +17,7 @@ use Rattle.toml_edit_laws.proofs.locality.Made.{replaced_stays_made, split-made}
 use Rattle.toml_edit_laws.proofs.locality.Replacing.{replaced}
 use Rattle.toml_edit_laws.proofs.locality.Slots.{Found, found}
 use Rattle.toml_edit_laws.proofs.locality.Sound.{Steady, steady-parts, leads-made, leads-sound, sound-slot}
-use Rattle.toml_edit_laws.proofs.commands.Keeping.{decor-made}
+use Rattle.toml_edit_edit_laws.proofs.commands.Keeping.{decor-made}
 use Rattle.toml_edit_edit_laws.proofs.renaming.Along.{edited-same}
 use Rattle.toml_edit_edit_laws.specs.Comments.{LineRecommented, RecommentedStaysMade}
 

@@ -12,11 +12,11 @@ use Rattle.toml_edit_model.specs.Lists.{slot_list, slots_from, item_list, items_
 use Rattle.toml_edit_model.specs.ArrayCalls.{written_at}
 use Rattle.toml_edit_model.specs.Shown.{is_table_node}
 use Rattle.toml_edit_laws.specs.Locality.{is_plain_value}
-use Rattle.toml_edit_laws.specs.Commands.{Answer, done, mapped, element_of, present, child, item_below, change_slot, change_element}
-use Rattle.toml_edit_laws.specs.Commands.{child_changed, drop_slot, drop_element, remove_child, set_below, remove_below, set_at, remove_at, with_slots}
-use Rattle.toml_edit_laws.proofs.commands.Keeping.{present-is, set_keeps_the_rest, remove_keeps_the_rest}
-use Rattle.toml_edit_laws.proofs.commands.Finding.{some-and, some-second}
-use Rattle.toml_edit_laws.proofs.commands.Setting.{was-mapped, done-is, Stands, below-stands}
+use Rattle.toml_edit_edit_laws.specs.Commands.{Answer, done, mapped, element_of, present, child, item_below, change_slot, change_element}
+use Rattle.toml_edit_edit_laws.specs.Commands.{child_changed, drop_slot, drop_element, remove_child, set_below, remove_below, set_at, remove_at, with_slots}
+use Rattle.toml_edit_edit_laws.proofs.commands.Keeping.{present-is, set_keeps_the_rest, remove_keeps_the_rest}
+use Rattle.toml_edit_edit_laws.proofs.commands.Finding.{some-and, some-second}
+use Rattle.toml_edit_edit_laws.proofs.commands.Setting.{was-mapped, done-is, Stands, below-stands}
 use Rattle.toml_edit_laws.proofs.common.OptionSteps.{some-is}
 
 -- ---- the decor

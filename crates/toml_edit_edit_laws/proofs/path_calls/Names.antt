@@ -7,8 +7,8 @@ use Rattle.toml_edit_model.specs.HeaderOrder.{Visit, visit_of}
 use Rattle.toml_edit_model.specs.Slots.{keyed, lookup_slot}
 use Rattle.toml_edit_model.specs.Lists.{slot_list}
 use Rattle.toml_edit_laws.specs.Locality.{Turn, into_table, into_element, Leads, root_visit, element_count}
-use Rattle.toml_edit_laws.specs.CommandLaws.{Goes}
-use Rattle.toml_edit_laws.specs.Commands.{done}
+use Rattle.toml_edit_edit_laws.specs.CommandLaws.{Goes}
+use Rattle.toml_edit_edit_laws.specs.Commands.{done}
 use Rattle.toml_edit_edit_laws.specs.PathEdits.{PathCall, called, path_of_call, NamesSlot, AreDone, OneCallMore, RootIsNamed, TablesAreNamed}
 
 pub root_is_named : RootIsNamed

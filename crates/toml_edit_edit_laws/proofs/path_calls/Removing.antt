@@ -13,13 +13,13 @@ use Rattle.toml_edit_model.specs.Lists.{slot_list, slots_from, item_list, items_
 use Rattle.toml_edit_model.specs.ArrayCalls.{removed_at}
 use Rattle.toml_edit_laws.specs.Locality.{root_visit, edited}
 use Rattle.toml_edit_laws.specs.EditLists.{replace, remove, remove_element}
-use Rattle.toml_edit_laws.specs.Commands.{done, mapped, child_changed, element_of, item_below, change_slot, drop_slot, drop_element}
-use Rattle.toml_edit_laws.specs.Commands.{root_item, remove_below, with_slots, remove_at}
-use Rattle.toml_edit_laws.proofs.commands.Finding.{removed_was_there, remove_finds}
-use Rattle.toml_edit_laws.proofs.commands.Going.{goes-along, changed-same, element-there}
-use Rattle.toml_edit_laws.proofs.commands.Removing.{remove-goes-down}
-use Rattle.toml_edit_laws.proofs.commands.Setting.{done-is, was-mapped}
-use Rattle.toml_edit_laws.proofs.commands.Apart.{skip}
+use Rattle.toml_edit_edit_laws.specs.Commands.{done, mapped, child_changed, element_of, item_below, change_slot, drop_slot, drop_element}
+use Rattle.toml_edit_edit_laws.specs.Commands.{root_item, remove_below, with_slots, remove_at}
+use Rattle.toml_edit_edit_laws.proofs.commands.Finding.{removed_was_there, remove_finds}
+use Rattle.toml_edit_edit_laws.proofs.commands.Going.{goes-along, changed-same, element-there}
+use Rattle.toml_edit_edit_laws.proofs.commands.Removing.{remove-goes-down}
+use Rattle.toml_edit_edit_laws.proofs.commands.Setting.{done-is, was-mapped}
+use Rattle.toml_edit_edit_laws.proofs.commands.Apart.{skip}
 use Rattle.toml_edit_laws.proofs.locality.Slots.{Found, found as found-in}
 use Rattle.toml_edit_laws.proofs.locality.Sound.{leads-made, leads-sound, sound-slot, Steady, steady-parts}
 use Rattle.toml_edit_edit_laws.specs.PathEdits.{removes, GoesTo, IsEdit, RemoveEdits}

@@ -11,10 +11,10 @@ use Rattle.toml_edit_model.specs.Slots.{Slot, keyed, with_item, lookup_slot, cha
 use Rattle.toml_edit_model.specs.Lists.{slot_list, slots_from}
 use Rattle.toml_edit_laws.specs.Locality.{root_visit, edited, is_plain_value}
 use Rattle.toml_edit_laws.specs.EditLists.{Edit, replace, add, after, Applies, named_path}
-use Rattle.toml_edit_laws.specs.Commands.{done, mapped, change_slot, root_item, set_below, set_at, with_slots}
-use Rattle.toml_edit_laws.specs.CommandLaws.{NamesTable, made_below}
-use Rattle.toml_edit_laws.proofs.commands.Going.{goes-along}
-use Rattle.toml_edit_laws.proofs.commands.Setting.{done-is, made-below-is}
+use Rattle.toml_edit_edit_laws.specs.Commands.{done, mapped, change_slot, root_item, set_below, set_at, with_slots}
+use Rattle.toml_edit_edit_laws.specs.CommandLaws.{NamesTable, made_below}
+use Rattle.toml_edit_edit_laws.proofs.commands.Going.{goes-along}
+use Rattle.toml_edit_edit_laws.proofs.commands.Setting.{done-is, made-below-is}
 use Rattle.toml_edit_laws.proofs.common.OptionSteps.{some-is}
 use Rattle.toml_edit_laws.proofs.locality.Slots.{Found, found}
 use Rattle.toml_edit_laws.proofs.locality.Sound.{leads-made, leads-sound, sound-slot, Steady, steady-parts}

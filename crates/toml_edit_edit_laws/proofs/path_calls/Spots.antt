@@ -8,11 +8,11 @@ use Rattle.toml_edit_model.specs.Slots.{keyed, lookup_slot}
 use Rattle.toml_edit_model.specs.Lists.{slot_list, item_list}
 use Rattle.toml_edit_model.specs.Shown.{is_table_node}
 use Rattle.toml_edit_laws.specs.Locality.{Turn, into_table, into_element, Leads, root_visit, element_count}
-use Rattle.toml_edit_laws.specs.Commands.{number_of, element_of, present, second, item_below}
-use Rattle.toml_edit_laws.specs.CommandLaws.{Goes}
-use Rattle.toml_edit_laws.proofs.commands.Keeping.{present-is, item-parts}
-use Rattle.toml_edit_laws.proofs.commands.Apart.{Named, named}
-use Rattle.toml_edit_laws.proofs.commands.Finding.{some-and, some-second}
+use Rattle.toml_edit_edit_laws.specs.Commands.{number_of, element_of, present, second, item_below}
+use Rattle.toml_edit_edit_laws.specs.CommandLaws.{Goes}
+use Rattle.toml_edit_edit_laws.proofs.commands.Keeping.{present-is, item-parts}
+use Rattle.toml_edit_edit_laws.proofs.commands.Apart.{Named, named}
+use Rattle.toml_edit_edit_laws.proofs.commands.Finding.{some-and, some-second}
 use Rattle.toml_edit_laws.proofs.common.OptionSteps.{some-is}
 use Rattle.toml_edit_edit_laws.specs.PathEdits.{NamesSlot}
 

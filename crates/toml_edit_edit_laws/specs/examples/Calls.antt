@@ -17,7 +17,7 @@ use Rattle.toml_edit_model.specs.examples.ComputedTree.{tree_of}
 use Rattle.toml_edit_model.specs.examples.Parts.{line, head, document, a, b, d, x, one_value, two_value, plain_int}
 use Rattle.toml_edit_laws.specs.Locality.{into_table, edited, texts}
 use Rattle.toml_edit_laws.specs.EditLists.{replace, add, remove, remove_element}
-use Rattle.toml_edit_laws.specs.CommandLaws.{made_below}
+use Rattle.toml_edit_edit_laws.specs.CommandLaws.{made_below}
 use Rattle.toml_edit_laws.specs.examples.Edits.{three_lines}
 use Rattle.toml_edit_edit_laws.specs.PathEdits.{sets, removes, IsEditAt}
 use Rattle.toml_edit_edit_laws.specs.Staying.{away_from}

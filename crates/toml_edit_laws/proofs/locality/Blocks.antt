@@ -46,7 +46,7 @@ stands_first a b = int_le (place a) (place b)
 abbrev pub IsSteadyBlock : Block → Type 0
 IsSteadyBlock b = (not (is_headed b) || has_steady_header (bare b)) ≡ true
 
-all-places : (P : Visit → Type 0) (seen : ℤ) (vs : List Visit) → AllByRecursion (λ v. v.fields.is_dotted ≡ false → P v) vs
+pub all-places : (P : Visit → Type 0) (seen : ℤ) (vs : List Visit) → AllByRecursion (λ v. v.fields.is_dotted ≡ false → P v) vs
     → AllByRecursion (λ (p : PlacedVisit). P p.1) (places_from seen vs)
 all-places P seen [] h = tt
 all-places P seen (v ∷ vs) h = by_test v.fields.is_dotted refl (all-places P seen vs h.1) (all-places P (place_of seen v) vs h.1)
@@ -58,7 +58,7 @@ all-places P seen (v ∷ vs) h = by_test v.fields.is_dotted refl (all-places P s
     by_test true e x y = x
     by_test false e x y = (h.0 e, y)
 
-own-place : (seen : ℤ) (z : Option ℤ) → is_some z ≡ true → unwrap_or z seen ≡ unwrap_or z (pos 0)
+pub own-place : (seen : ℤ) (z : Option ℤ) → is_some z ≡ true → unwrap_or z seen ≡ unwrap_or z (pos 0)
 own-place seen None h = absurd cc
 own-place seen (Some z) h = refl
 
@@ -97,7 +97,7 @@ module _ (mode : Mode) where
   IsSteadyTable v = ((v.fields.is_dotted || not (has_header mode v)) || has_steady_header v) ≡ true
 
   -- a header's text doesn't depend on what was printed before
-  own-prefix : (x y : Text) (r : Option Raw) → has_own_prefix r ≡ true → shown_side mode x r ≡ shown_side mode y r
+  pub own-prefix : (x y : Text) (r : Option Raw) → has_own_prefix r ≡ true → shown_side mode x r ≡ shown_side mode y r
   own-prefix x y None h = absurd cc
   own-prefix x y (Some (owned t)) h = refl
   own-prefix x y (Some (span i j)) h = absurd cc
@@ -131,7 +131,7 @@ module _ (mode : Mode) where
       by_test false h = refl
 
   -- the printed statements of tables in an order
-  abbrev placed_printed : PlacedVisit → List Printed
+  abbrev pub placed_printed : PlacedVisit → List Printed
   placed_printed p = block_printed (block_of p.1)
 
   tables-same : (d : Bool) (ps : List PlacedVisit) → AllByRecursion (λ p. IsSteadyBlock (block_of p.1)) ps → printed_tables mode d ps
@@ -143,14 +143,14 @@ module _ (mode : Mode) where
 
   -- ---- places
 
-  abbrev has_placed_header : PlacedVisit → Bool
+  abbrev pub has_placed_header : PlacedVisit → Bool
   has_placed_header p = has_header mode p.1
 
   -- the table has a header, and its place is its own position
-  abbrev IsOwnPlace : PlacedVisit → Type 0
+  abbrev pub IsOwnPlace : PlacedVisit → Type 0
   IsOwnPlace p = (is_root p.1 ≡ false) × (p.0 ≡ place (block_of p.1))
 
-  own-places : (seen : ℤ) (vs : List Visit) → AllByRecursion IsBelowRoot vs → AllByRecursion IsSteadyTable vs
+  pub own-places : (seen : ℤ) (vs : List Visit) → AllByRecursion IsBelowRoot vs → AllByRecursion IsSteadyTable vs
       → AllByRecursion IsOwnPlace (filter has_placed_header (places_from seen vs))
   own-places seen [] b h = tt
   own-places seen (v ∷ vs) b h =
@@ -175,10 +175,10 @@ module _ (mode : Mode) where
       by_test false false s x y e = rw e y
 
   -- the tables with headers in their places are the headed blocks
-  abbrev block_at : PlacedVisit → Block
+  abbrev pub block_at : PlacedVisit → Block
   block_at p = block_of p.1
 
-  blocks-in_places : (seen : ℤ) (vs : List Visit) → map block_at (filter has_placed_header (places_from seen vs))
+  pub blocks-in_places : (seen : ℤ) (vs : List Visit) → map block_at (filter has_placed_header (places_from seen vs))
       ≡ filter is_headed (blocks vs)
   blocks-in_places seen [] = refl
   blocks-in_places seen (v ∷ vs) =
@@ -234,7 +234,7 @@ module _ (mode : Mode) where
   flat-at [] = refl
   flat-at (p ∷ ps) = ap (λ xs. placed_printed p ++ xs) (flat-at ps)
 
-  same-order : (ps : List PlacedVisit) → AllByRecursion IsOwnPlace ps → map block_at (sorted_by comes_before ps)
+  pub same-order : (ps : List PlacedVisit) → AllByRecursion IsOwnPlace ps → map block_at (sorted_by comes_before ps)
       ≡ sorted_by stands_first (map block_at ps)
   same-order ps h =
       ap (λ xs. map block_at xs) (sorted-alike IsOwnPlace comes_before (λ p q. stands_first (block_at p) (block_at q)) agree ps h)

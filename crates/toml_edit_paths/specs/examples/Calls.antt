@@ -8,7 +8,7 @@ use Rattle.toml_edit_model.specs.Print.{print}
 use Rattle.toml_edit_model.specs.TreeOf.{owned_form}
 use Rattle.toml_edit_model.specs.examples.ComputedTree.{tree_of}
 use Rattle.toml_edit_model.specs.examples.Parts.{line, head, document, pair_of, a, b, x, one_value, plain_key, plain_int, root_of, all_true}
-use Rattle.toml_edit_laws.specs.Commands.{Answer, done, refused, root_item, shown_item}
+use Rattle.toml_edit_edit_laws.specs.Commands.{Answer, done, refused, root_item, shown_item}
 use Rattle.toml_edit_paths.specs.Calls.{item_inside, replaced_at}
 
 abbrev writes : Text → Answer Tree → Bool

@@ -7,7 +7,7 @@ use Rattle.toml_edit_model.specs.Print.{print}
 use Rattle.toml_edit_model.specs.Text.{Text, same_text}
 use Rattle.toml_edit_model.specs.Tree.{ArrayFields, Node, nothing, list, no_slots, owned, slot, Tree}
 use Rattle.toml_edit_model.specs.examples.Parts.{all_true, owned_decor, plain_int, plain_key, root_of}
-use Rattle.toml_edit_laws.specs.Commands.{Answer, done, refused}
+use Rattle.toml_edit_edit_laws.specs.Commands.{Answer, done, refused}
 use Rattle.toml_edit_paths.specs.Lines.{remove_line_at}
 
 abbrev writes : Text → Answer Tree → Bool

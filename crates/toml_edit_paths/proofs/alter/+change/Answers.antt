@@ -6,7 +6,7 @@ use Rattle.toml_edit_model.specs.Slots.{lookup_slot}
 use Rattle.toml_edit_model.specs.Text.{Text}
 use Rattle.toml_edit_model.specs.Tree.{nothing, is_value_node}
 use Rattle.toml_edit_model.specs.Keys.{names}
-use Rattle.toml_edit_laws.specs.Commands.{and_then, element_of, item_below, present, second}
+use Rattle.toml_edit_edit_laws.specs.Commands.{and_then, element_of, item_below, present, second}
 use Rattle.toml_edit_slots.specs.Slots.{place}
 use Rattle.toml_edit_tree.specs.Indexed.{shown_slots, with_slots}
 use Rattle.toml_edit_tree.specs.View.{item_view}

@@ -2,7 +2,7 @@
 use Rattle.std.proofs.Common.{refl}
 use Rattle.toml_edit_model.specs.Slots.{lookup_slot}
 use Rattle.toml_edit_model.specs.Keys.{names}
-use Rattle.toml_edit_laws.specs.Commands.{and_then, item_below, present}
+use Rattle.toml_edit_edit_laws.specs.Commands.{and_then, item_below, present}
 use Rattle.toml_edit_tree.specs.Containers.{table_node}
 use Rattle.toml_edit_tree.specs.Indexed.{shown_slots}
 use Rattle.toml_edit_tree.specs.View.{table_view}

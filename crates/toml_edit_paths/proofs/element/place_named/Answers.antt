@@ -1,7 +1,7 @@
 -- The element that a number names.
 use Rattle.std.proofs.Common.{◌≡◌, ap, sym, ◌∙◌, subst, true, false, Some, None, arith}
 use Rattle.toml_edit_model.specs.Text.{Text}
-use Rattle.toml_edit_laws.specs.Commands.{number_of}
+use Rattle.toml_edit_edit_laws.specs.Commands.{number_of}
 use Rattle.toml_edit_tree.specs.declared.item.Item.{Item}
 use Rattle.toml_edit_tree.specs.View.{item_view}
 use Rattle.toml_edit_paths.specs.Elements.{IsNumberOf}

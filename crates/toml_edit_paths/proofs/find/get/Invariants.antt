@@ -1,6 +1,6 @@
 -- What is left of the path leads on from what its front led to.
 use Rattle.std.proofs.Common.{◌≡◌, drop}
-use Rattle.toml_edit_laws.specs.Commands as commands
+use Rattle.toml_edit_edit_laws.specs.Commands as commands
 use Rattle.toml_edit_tree.specs.View.{item_view}
 use Rattle.toml_edit_paths.proofs.find.get.Given as goal
 use Rattle.toml_edit_model.specs.Keys.{names}

@@ -7,7 +7,7 @@ use Rattle.toml_edit_model.specs.Lists.{items_in, slots_in}
 use Rattle.toml_edit_model.specs.Slots.{keyed}
 use Rattle.toml_edit_model.specs.Text.{Text}
 use Rattle.toml_edit_model.specs.Tree.{nothing, is_value_node}
-use Rattle.toml_edit_laws.specs.Commands.{change_element, child_changed, element_of}
+use Rattle.toml_edit_edit_laws.specs.Commands.{change_element, child_changed, element_of}
 use Rattle.toml_edit_slots.specs.Slots.{place}
 use Rattle.toml_edit_tree.specs.declared.item.Item.{Item}
 use Rattle.toml_edit_tree.specs.Indexed.{shown_slots}

@@ -1,6 +1,6 @@
 -- What is made below a placeholder.
 use Rattle.std.proofs.Common.{ap, ◌∙◌, sym}
-use Rattle.toml_edit_laws.specs.Commands.{done}
+use Rattle.toml_edit_edit_laws.specs.Commands.{done}
 use Rattle.toml_edit_tree.specs.View.{item_view}
 use Rattle.toml_edit_paths.specs.Setting.{set_by}
 use Rattle.toml_edit_paths.proofs.SetLaws.{made-is}

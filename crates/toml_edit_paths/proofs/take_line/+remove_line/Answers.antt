@@ -5,7 +5,7 @@ use Rattle.toml_edit_model.specs.Keys.{names}
 use Rattle.toml_edit_model.specs.Lists.{items_in}
 use Rattle.toml_edit_model.specs.Text.{Text}
 use Rattle.toml_edit_model.specs.Tree.{is_value_node}
-use Rattle.toml_edit_laws.specs.Commands.{change_slot}
+use Rattle.toml_edit_edit_laws.specs.Commands.{change_slot}
 use Rattle.toml_edit_slots.specs.Slots.{place}
 use Rattle.toml_edit_tree.specs.declared.item.Item.{Item}
 use Rattle.toml_edit_tree.specs.Elements.{listed}

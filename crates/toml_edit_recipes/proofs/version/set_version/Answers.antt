@@ -1,7 +1,7 @@
 -- The keys of the path are those that were parsed.
 use Rattle.std.proofs.Common.{◌≡◌, None, sym, ◌∙◌}
 use Rattle.toml_edit.specs.DocumentView.{tree_owned}
-use Rattle.toml_edit.specs.laws.Commands.{done, set_at}
+use Rattle.toml_edit.specs.edits.Commands.{done, set_at}
 use Rattle.toml_edit.specs.model.Scalars.{string}
 use Rattle.toml_edit.specs.model.Tree.{leaf, unset}
 use Rattle.toml_edit.specs.model.Keys.{names}

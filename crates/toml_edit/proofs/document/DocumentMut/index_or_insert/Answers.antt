@@ -15,7 +15,7 @@ use Rattle.toml_edit.specs.DocumentView.{tree_owned}
 use Rattle.toml_edit.specs.declared.document.DocumentMut.{DocumentMut}
 use Rattle.toml_edit.proofs.RootLaws.{root-under, trailing-at, tree-under}
 use Rattle.toml_edit.proofs.document.DocumentMut.index_or_insert.Goals as goal
-use Rattle.toml_edit_laws.specs.Commands.{root_item}
+use Rattle.toml_edit_edit_laws.specs.Commands.{root_item}
 
 on_err : {A E : Type 0} {P : Type 0} (r : Result A E) → P → OnErr r P
 on_err (Ok x) p = tt

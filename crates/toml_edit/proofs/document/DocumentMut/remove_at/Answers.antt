@@ -1,7 +1,7 @@
 -- The document's tree is what `remove` makes of it.
 use Rattle.std.proofs.Common.{refl}
 use Rattle.std.proofs.lemmas.Result.{on_ok_weaker}
-use Rattle.toml_edit_laws.specs.Commands.{remove_at}
+use Rattle.toml_edit_edit_laws.specs.Commands.{remove_at}
 use Rattle.toml_edit.specs.DocumentView.{tree_owned}
 use Rattle.toml_edit.proofs.AtLaws.{remove-root}
 use Rattle.toml_edit.proofs.EditedLaws.{done-where-ok, removed-so}
