@@ -1,22 +1,24 @@
 -- The laws of `get`, `set` and `remove` on the tree of what was read.
-use Rattle.std.specs.Prelude.{◌≡◌, ◌⊎◌, ℕ, ◌^◌, ◌<◌, Bool, true, false, if◌then◌else◌, List, [], ◌∷◌, ◌++◌, length, Some, None}
+use Rattle.std.specs.Prelude.{◌≡◌, ◌⊎◌, ℕ, ◌^◌, ◌<◌, Bool, true, false, if◌then◌else◌, List, [], ◌∷◌, ◌++◌, length, map, Some, None}
 use Rattle.std.specs.Fmt.{decimal}
+use Rattle.std.specs.List.{AllByRecursion}
 use Rattle.toml_edit_model.specs.Mode.{Mode, plain}
 use Rattle.toml_edit_model.specs.Text.{Text, newline, one, same_text}
 use Rattle.toml_edit_model.specs.Syntax.{Frame, Statement, key_line, Document, IsDocument, IsCut, value_text, document_text}
 use Rattle.toml_edit_model.specs.Paths.{Path, to_key}
+use Rattle.toml_edit_model.specs.Spelling.{SpellsKey}
 use Rattle.toml_edit_model.specs.Accepted.{is_accepted}
 use Rattle.toml_edit_model.specs.Normal.{has_open_end, normal_last, normal_in}
 use Rattle.toml_edit_model.specs.Meaning.{SameFacts, meaning}
 use Rattle.toml_edit_model.specs.Shown.{shown_meaning}
 use Rattle.toml_edit_model.specs.Fits.{FitsIn}
 use Rattle.toml_edit_model.specs.Tree.{Key, TableFields, Node, nothing, leaf, list, inline, table, tables, Items, Slots, no_slots, slot}
-use Rattle.toml_edit_model.specs.Tree.{Tree, IsWellMade, SlotsAreWellMade, is_value_node}
+use Rattle.toml_edit_model.specs.Tree.{Tree, HasTrueSpelling, IsWellMade, SlotsAreWellMade, is_value_node}
 use Rattle.toml_edit_model.specs.TreeOf.{owned_in, IsTreeOf}
 use Rattle.toml_edit_model.specs.HeaderOrder.{Visit}
 use Rattle.toml_edit_model.specs.Print.{value_of, line_statement, Printed, printed, printed_table, printed_line, print_in, document_in}
 use Rattle.toml_edit_model.specs.Conversions.{new_inline}
-use Rattle.toml_edit_model.specs.Keys.{new_key}
+use Rattle.toml_edit_model.specs.Keys.{cleared_key, names, new_key}
 use Rattle.toml_edit_model.specs.Slots.{Slot, keyed, lookup_slot}
 use Rattle.toml_edit_model.specs.Lists.{slot_list, item_list, is_item}
 use Rattle.toml_edit_laws.specs.Locality.{Turn, into_table, into_element, Leads, root_visit, StaysSteady, value_line, AreOutside}
@@ -40,12 +42,16 @@ pub record NamesTable (t : Tree) (path : List Text) (v : Visit) : Type 0 where
   pub goes : Goes way path
   pub leads : Leads way (root_visit t) v
 
+-- each key has its default spelling, or one that spells its name
+abbrev pub AreSpelled : List Key → Type 0
+AreSpelled path = AllByRecursion (λ k. HasTrueSpelling (SpellsKey k.name) k.spelling) path
+
 -- ---- the rest of the tree
 
 -- a value below new keys: inline tables down to it
-abbrev pub made_below : List Text → Node → Node
+abbrev pub made_below : List Key → Node → Node
 made_below [] v = v
-made_below (k ∷ more) v = inline new_inline (slot (new_key k) (made_below more v) no_slots)
+made_below (k ∷ more) v = inline new_inline (slot (cleared_key k) (made_below more v) no_slots)
 
 -- one slot's item is another, and related to it: the key, and all before and after, stay
 pub record OneSlotChanges (R : Node → Node → Type 0) (k : Text)
@@ -61,15 +67,15 @@ pub record OneSlotChanges (R : Node → Node → Type 0) (k : Text)
   pub related : R old new
 
 -- a slot more at the end, for a key that had none
-pub record OneSlotMore (R : Node → Node → Type 0) (k : Text)
+pub record OneSlotMore (R : Node → Node → Type 0) (k : Key)
     (xs ys : List (Slot Node)) : Type 0 where
   pub new : Node
-  pub is_new : lookup_slot k xs ≡ None
-  pub second : ys ≡ xs ++ one (keyed (new_key k) new)
+  pub is_new : lookup_slot k.name xs ≡ None
+  pub second : ys ≡ xs ++ one (keyed (cleared_key k) new)
   pub related : R nothing new
 
-abbrev pub OneSlot : (Node → Node → Type 0) → Text → List (Slot Node) → List (Slot Node) → Type 0
-OneSlot R k xs ys = OneSlotChanges R k xs ys ⊎ OneSlotMore R k xs ys
+abbrev pub OneSlot : (Node → Node → Type 0) → Key → List (Slot Node) → List (Slot Node) → Type 0
+OneSlot R k xs ys = OneSlotChanges R k.name xs ys ⊎ OneSlotMore R k xs ys
 
 -- one element is another, at the place that the text names
 pub record OneItem (R : Node → Node → Type 0) (k : Text) (xs ys : List Node) : Type 0 where
@@ -84,26 +90,26 @@ pub record OneItem (R : Node → Node → Type 0) (k : Text) (xs ys : List Node)
 
 -- The second item is the first but for what a segment leads to, and that is so related; a missing
 -- key may be made.
-abbrev pub OnlyChild : (Node → Node → Type 0) → Text → Node → Node → Type 0
+abbrev pub OnlyChild : (Node → Node → Type 0) → Key → Node → Node → Type 0
 OnlyChild R k (table f ss) m =
     (xs : Slots) × (m ≡ table f xs) × OneSlot R k (slot_list ss) (slot_list xs)
 OnlyChild R k (inline f ss) m =
     (xs : Slots) × (m ≡ inline f xs) × OneSlot R k (slot_list ss) (slot_list xs)
 OnlyChild R k (list f xs) m =
-    (ys : Items) × (m ≡ list f ys) × OneItem R k (item_list xs) (item_list ys)
+    (ys : Items) × (m ≡ list f ys) × OneItem R k.name (item_list xs) (item_list ys)
 OnlyChild R k (tables e xs) m =
-    (ys : Items) × (m ≡ tables e ys) × OneItem R k (item_list xs) (item_list ys)
+    (ys : Items) × (m ≡ tables e ys) × OneItem R k.name (item_list xs) (item_list ys)
 OnlyChild R k nothing m =
-    (n : Node) × (m ≡ inline new_inline (slot (new_key k) n no_slots)) × R nothing n
+    (n : Node) × (m ≡ inline new_inline (slot (cleared_key k) n no_slots)) × R nothing n
 OnlyChild R k (leaf s r d) m = ⊥
 
 -- The second item is the first but at the path.
-abbrev pub OnlyAt : (Node → Node → Type 0) → List Text → Node → Node → Type 0
+abbrev pub OnlyAt : (Node → Node → Type 0) → List Key → Node → Node → Type 0
 OnlyAt R [] n m = R n m
 OnlyAt R (k ∷ path) n m = OnlyChild (OnlyAt R path) k n m
 
 -- so it is with two trees
-pub record OnlyTreeAt (R : Node → Node → Type 0) (path : List Text) (t u : Tree) : Type 0 where
+pub record OnlyTreeAt (R : Node → Node → Type 0) (path : List Key) (t u : Tree) : Type 0 where
   pub root : u.root ≡ t.root
   pub trailing : u.trailing ≡ t.trailing
   pub at : OnlyAt R path (root_item t) (root_item u)
@@ -112,17 +118,17 @@ pub record OnlyTreeAt (R : Node → Node → Type 0) (path : List Text) (t u : T
 -- `set` changes the item at the path alone, and the tree stays as its types see to.
 abbrev pub SetKeepsTheRest : Type 0
 SetKeepsTheRest =
-    (t u : Tree) (path : List Text) (v : Node) → SlotsAreWellMade t.slots → IsWellMade v
-    → set_at path v t ≡ done u
+    (t u : Tree) (path : List Key) (v : Node) → SlotsAreWellMade t.slots → IsWellMade v
+    → AreSpelled path → set_at path v t ≡ done u
     → OnlyTreeAt (λ old new. set_here v old ≡ done new) path t u
 
--- Below a table, an inline table or a placeholder, `set` goes down a segment as `index_or_insert`
--- does: it makes the place, sets what is there by the rest of the path, and writes it back.
+-- Below a table, an inline table or a placeholder, `set` goes down a key of default spelling as
+-- `index_or_insert` does: it makes the place, sets what is there by the rest of the path, and writes it back.
 abbrev pub SetSteps : Type 0
 SetSteps =
-    (v : Node) (k : Text) (path : List Text) (n m x : Node) → index_or_inserted k n ≡ Some m
+    (v : Node) (k : Text) (path : List Key) (n m x : Node) → index_or_inserted k n ≡ Some m
     → item_under k m ≡ Some x
-    → set_below v (k ∷ path) n ≡ mapped (λ y. with_indexed (text k) y m) (set_below v path x)
+    → set_below v (new_key k ∷ path) n ≡ mapped (λ y. with_indexed (text k) y m) (set_below v path x)
 
 -- a slot, or an element, that is there no more
 pub record OneSlotLess (k : Text) (xs ys : List (Slot Node)) : Type 0 where
@@ -158,7 +164,7 @@ abbrev pub RemoveKeepsTheRest : Type 0
 RemoveKeepsTheRest =
     (t u : Tree) (path : List Text) (k : Text) → SlotsAreWellMade t.slots
     → remove_at (path ++ (k ∷ [])) t ≡ done u
-    → OnlyTreeAt (IsWithout k) path t u
+    → OnlyTreeAt (IsWithout k) (map new_key path) t u
 
 -- ---- other paths
 
@@ -170,8 +176,8 @@ are_apart _ _ = false
 -- `set` changes nothing at a path that is neither above, at nor below its own.
 abbrev pub SetKeepsItems : Type 0
 SetKeepsItems =
-    (t u : Tree) (path : List Text) (v : Node) → set_at path v t ≡ done u
-    → (q : List Text) → are_apart q path ≡ true → item_at q u ≡ item_at q t
+    (t u : Tree) (path : List Key) (v : Node) → set_at path v t ≡ done u
+    → (q : List Text) → are_apart q (names path) ≡ true → item_at q u ≡ item_at q t
 
 -- `remove` changes nothing at a path that is neither above, at nor below that of what holds the
 -- slot or the element.
@@ -194,8 +200,8 @@ DecimalsName = (i : ℕ) → i < 2 ^ 64 → number_of (decimal i) ≡ Some i
 -- What `set` left is what `get` finds.
 abbrev pub GetAfterSet : Type 0
 GetAfterSet =
-    (t u : Tree) (path : List Text) (v : Node) → is_value_node v ≡ true → set_at path v t ≡ done u
-    → get_text path u ≡ done (value_text (value_of plain v) ++ newline)
+    (t u : Tree) (path : List Key) (v : Node) → is_value_node v ≡ true → set_at path v t ≡ done u
+    → get_text (names path) u ≡ done (value_text (value_of plain v) ++ newline)
 
 -- `remove` finds what `get` finds, and returns no other refusal.
 abbrev pub RemoveFinds : Type 0
@@ -282,10 +288,10 @@ module _ (mode : Mode) where
   -- in its frame.
   abbrev pub SetChanges : Type 0
   SetChanges =
-      (d : Document) (t : Tree) (path : List Text) (v : Visit) (k : Text) (l : Key) (old : Node)
-      (inner : List Text) (value n : Node)
-      → IsRead d t → NamesTable t path v → lookup_slot k (slot_list v.slots) ≡ Some (keyed l old)
-      → is_value_node old ≡ true
+      (d : Document) (t : Tree) (path : List Key) (v : Visit) (k l : Key) (old : Node)
+      (inner : List Key) (value n : Node)
+      → IsRead d t → NamesTable t (names path) v
+      → lookup_slot k.name (slot_list v.slots) ≡ Some (keyed l old) → is_value_node old ≡ true
       → is_plain_value value ≡ true → set_below value inner old ≡ done n
       → (u : Tree) × (set_at (path ++ (k ∷ inner)) value t ≡ done u)
       × ChangesStatement d t u (to_key v.path l.name) old n × StaysSteady mode t u
@@ -314,12 +320,12 @@ module _ (mode : Mode) where
   -- `set` of a new key, or below one, in the root or in a table that has a header.
   abbrev pub SetAdds : Type 0
   SetAdds =
-      (d : Document) (t : Tree) (path : List Text) (v : Visit) (k : Text) (more : List Text)
+      (d : Document) (t : Tree) (path : List Key) (v : Visit) (k : Key) (more : List Key)
       (value : Node)
-      → IsRead d t → NamesTable t path v → lookup_slot k (slot_list v.slots) ≡ None
+      → IsRead d t → NamesTable t (names path) v → lookup_slot k.name (slot_list v.slots) ≡ None
       → is_plain_value value ≡ true → has_block mode v ≡ true
       → (u : Tree) × (set_at (path ++ (k ∷ more)) value t ≡ done u)
-      × AddsStatement d t u v (new_key k) (made_below more value) × StaysSteady mode t u
+      × AddsStatement d t u v (cleared_key k) (made_below more value) × StaysSteady mode t u
 
   -- ---- remove
 
@@ -359,8 +365,8 @@ module _ (mode : Mode) where
   -- After `set`, or `remove`, the tree reads back where it fits.
   abbrev pub SetReadsBack : Type 0
   SetReadsBack =
-      (t u : Tree) (path : List Text) (v : Node) → SlotsAreWellMade t.slots → IsWellMade v
-      → set_at path v t ≡ done u → FitsIn mode u
+      (t u : Tree) (path : List Key) (v : Node) → SlotsAreWellMade t.slots → IsWellMade v
+      → AreSpelled path → set_at path v t ≡ done u → FitsIn mode u
       → (is_open : Bool) → ReadsBack u is_open
 
   abbrev pub RemoveReadsBack : Type 0
@@ -433,5 +439,5 @@ IsWhy no_such_path path n = Stops (λ k x. (is_listing x ≡ true) × (child k x
 
 abbrev pub SetRefuses : Type 0
 SetRefuses =
-    (t : Tree) (path : List Text) (v : Node) (r : Refusal) → set_at path v t ≡ refused r
-    → IsWhy r path (root_item t)
+    (t : Tree) (path : List Key) (v : Node) (r : Refusal) → set_at path v t ≡ refused r
+    → IsWhy r (names path) (root_item t)

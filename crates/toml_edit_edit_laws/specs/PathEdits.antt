@@ -7,13 +7,13 @@ use Rattle.toml_edit_model.specs.Tree.{Key, TableFields, Node, table, Slots, Slo
 use Rattle.toml_edit_model.specs.HeaderOrder.{Visit, visit_of}
 use Rattle.toml_edit_model.specs.Print.{lines_of}
 use Rattle.toml_edit_model.specs.Fits.{is_steady_in}
-use Rattle.toml_edit_model.specs.Keys.{new_key}
+use Rattle.toml_edit_model.specs.Keys.{cleared_key, names}
 use Rattle.toml_edit_model.specs.Slots.{keyed, lookup_slot}
 use Rattle.toml_edit_model.specs.Lists.{slot_list}
 use Rattle.toml_edit_laws.specs.Locality.{Turn, root_visit, is_plain_value, has_block}
 use Rattle.toml_edit_laws.specs.EditLists.{Edit, replace, add, remove, remove_element, after, Applies, named_path}
 use Rattle.toml_edit_edit_laws.specs.Commands.{Answer, done, number_of, item_at, set_at, remove_at}
-use Rattle.toml_edit_edit_laws.specs.CommandLaws.{Goes, NamesTable, made_below}
+use Rattle.toml_edit_edit_laws.specs.CommandLaws.{AreSpelled, Goes, NamesTable, made_below}
 use Rattle.toml_edit_edit_laws.specs.DottedAdds.{OneLineMore}
 use Rattle.toml_edit_edit_laws.specs.Staying.{StaysButAt}
 
@@ -21,7 +21,7 @@ use Rattle.toml_edit_edit_laws.specs.Staying.{StaysButAt}
 
 -- a call of `set_at`, or of `remove_at`
 pub data PathCall : Type 0 where
-  sets : List Text → Node → PathCall
+  sets : List Key → Node → PathCall
   removes : List Text → PathCall
 
 abbrev pub called : PathCall → Tree → Answer Tree
@@ -29,7 +29,7 @@ called (sets path v) t = set_at path v t
 called (removes path) t = remove_at path t
 
 abbrev pub path_of_call : PathCall → List Text
-path_of_call (sets path v) = path
+path_of_call (sets path v) = names path
 path_of_call (removes path) = path
 
 -- A path of names leads to the place of a slot of a table on the walk, which is there or not, or
@@ -58,14 +58,14 @@ abbrev pub GoesTo : List Turn → Text → List Text → List Text → Type 0
 GoesTo way k inner path = (front : List Text) × Goes way front × (path ≡ front ++ (k ∷ inner))
 
 -- A value is replaced at the path, or one that the path goes into, and the key stays; or a new key
--- is added, in its default spelling, with inline tables down to the value. What is removed is a
+-- is added, in the spelling that the path has, with inline tables down to the value. What is removed is a
 -- slot, an element, or something inside a value.
 abbrev pub IsEditAt : PathCall → Edit → Type 0
 IsEditAt (sets path v) (replace way k f n) =
-    (inner : List Text) × GoesTo way k inner path × ((l : Key) → f l ≡ l)
+    (inner : List Text) × GoesTo way k inner (names path) × ((l : Key) → f l ≡ l)
 IsEditAt (sets path v) (add way k n) =
-    (inner : List Text) × GoesTo way k.name inner path × (k ≡ new_key k.name)
-    × (n ≡ made_below inner v)
+    (front : List Key) × (l : Key) × (inner : List Key) × Goes way (names front)
+    × (path ≡ front ++ (l ∷ inner)) × (k ≡ cleared_key l) × (n ≡ made_below inner v)
 IsEditAt (removes path) (replace way k f n) =
     (x : Text) × (inner : List Text) × GoesTo way k (x ∷ inner) path × ((l : Key) → f l ≡ l)
 IsEditAt (removes path) (remove way k) = GoesTo way k [] path
@@ -87,18 +87,18 @@ module _ (mode : Mode) where
   -- `set_at` at a value, or inside one.
   abbrev pub SetReplaces : Type 0
   SetReplaces =
-      (t u : Tree) (path : List Text) (v old : Node) → SlotsAreWellMade t.slots
+      (t u : Tree) (path : List Key) (v old : Node) → SlotsAreWellMade t.slots
       → is_steady_in mode t ≡ true → IsWellMade v → is_plain_value v ≡ true
-      → item_at path t ≡ Some old → is_value_node old ≡ true
+      → item_at (names path) t ≡ Some old → is_value_node old ≡ true
       → set_at path v t ≡ done u → IsEdit (sets path v) t u
 
   -- `set_at` at a new key of the root, or of a table whose header is printed, or below one.
   abbrev pub SetAddsUnder : Type 0
   SetAddsUnder =
-      (t u : Tree) (path : List Text) (w : Visit) (k : Text) (more : List Text) (v : Node)
+      (t u : Tree) (path : List Key) (w : Visit) (k : Key) (more : List Key) (v : Node)
       → SlotsAreWellMade t.slots → is_steady_in mode t ≡ true → IsWellMade v
-      → is_plain_value v ≡ true → NamesTable t path w
-      → lookup_slot k (slot_list w.slots) ≡ None → has_block mode w ≡ true
+      → is_plain_value v ≡ true → AreSpelled (k ∷ more) → NamesTable t (names path) w
+      → lookup_slot k.name (slot_list w.slots) ≡ None → has_block mode w ≡ true
       → set_at (path ++ (k ∷ more)) v t ≡ done u → IsEdit (sets (path ++ (k ∷ more)) v) t u
 
   -- `remove_at`, whatever is removed.
@@ -111,13 +111,13 @@ module _ (mode : Mode) where
   -- them.
   abbrev pub SetAddsAfterLines : Type 0
   SetAddsAfterLines =
-      (t u : Tree) (path : List Text) (w : Visit) (k : Text) (more : List Text) (v : Node)
+      (t u : Tree) (path : List Key) (w : Visit) (k : Key) (more : List Key) (v : Node)
       → SlotsAreWellMade t.slots → is_steady_in mode t ≡ true → IsWellMade v
-      → is_plain_value v ≡ true → (names : NamesTable t path w)
-      → lookup_slot k (slot_list w.slots) ≡ None → is_empty (lines_of mode w) ≡ false
+      → is_plain_value v ≡ true → AreSpelled (k ∷ more) → NamesTable t (names path) w
+      → lookup_slot k.name (slot_list w.slots) ≡ None → is_empty (lines_of mode w) ≡ false
       → set_at (path ++ (k ∷ more)) v t ≡ done u
-      → OneLineMore mode t u w (new_key k) (made_below more v)
-      × StaysButAt mode (to_key w.path k ∷ []) t u
+      → OneLineMore mode t u w (cleared_key k) (made_below more v)
+      × StaysButAt mode (to_key w.path k.name ∷ []) t u
 
 -- A call after others is one more of them.
 abbrev pub OneCallMore : Type 0

@@ -7,10 +7,10 @@ use Rattle.std.proofs.lemmas.Fmt.{decimal_is_IsNumeral}
 use Rattle.toml_edit_model.specs.Mode.{plain}
 use Rattle.toml_edit_model.specs.Text.{Text, newline, same_text}
 use Rattle.toml_edit_model.specs.Syntax.{value_text}
-use Rattle.toml_edit_model.specs.Tree.{Decor, Node, nothing, leaf, list, inline, table, tables, Items, Slots, no_slots, slot, is_value_node}
+use Rattle.toml_edit_model.specs.Tree.{Decor, Key, Node, nothing, leaf, list, inline, table, tables, Items, Slots, no_slots, slot, is_value_node}
 use Rattle.toml_edit_model.specs.Print.{value_of}
 use Rattle.toml_edit_model.specs.Conversions.{new_inline, with_decor}
-use Rattle.toml_edit_model.specs.Keys.{new_key}
+use Rattle.toml_edit_model.specs.Keys.{cleared_key, names as names_of, new_key}
 use Rattle.toml_edit_model.specs.Slots.{Slot, keyed, with_item, lookup_slot, changed}
 use Rattle.toml_edit_model.specs.Lists.{slot_list, slots_from, item_list, items_from, is_item}
 use Rattle.toml_edit_model.specs.ArrayCalls.{written_at}
@@ -49,7 +49,7 @@ ways_have_paths (into_element k i ∷ way) h = (refl, decimals_name i h.0, ways_
 
 -- ---- get after set
 
-module _ (makes : Bool) (k : Text) (go : Node → Answer Node)
+module _ (makes : Bool) (k : Key) (go : Node → Answer Node)
     (fills : (a b : Node) → go a ≡ done b → is_item b ≡ true)
     (keeps_value : (a b : Node) → go a ≡ done b → is_value_node a ≡ true → is_value_node b ≡ true)
     (keeps_table : (a b : Node) → go a ≡ done b → is_table_node a ≡ true → is_table_node b ≡ true) where
@@ -60,106 +60,106 @@ module _ (makes : Bool) (k : Text) (go : Node → Answer Node)
     is : go old ≡ done new
     there : o ≡ Some new
 
-  slot-went : (ss : Slots) (o : Option (Slot Node)) (xs : List (Slot Node)) → lookup_slot k (slot_list ss) ≡ o
+  slot-went : (ss : Slots) (o : Option (Slot Node)) (xs : List (Slot Node)) → lookup_slot k.name (slot_list ss) ≡ o
       → change_slot makes k go (slot_list ss) o ≡ done xs
-      → WentTo (present (lookup_slot k xs))
+      → WentTo (present (lookup_slot k.name xs))
   slot-went ss None xs e h = by_makes makes h
     where
-      by_makes : (b : Bool) → mapped (λ m. slot_list ss ++ (keyed (new_key k) m ∷ [])) (missing b (go nothing)) ≡ done xs
-          → WentTo (present (lookup_slot k xs))
+      by_makes : (b : Bool) → mapped (λ m. slot_list ss ++ (keyed (cleared_key k) m ∷ [])) (missing b (go nothing)) ≡ done xs
+          → WentTo (present (lookup_slot k.name xs))
       by_makes false h = absurd cc
       by_makes true h =
-          let m = was-mapped (λ m. slot_list ss ++ (keyed (new_key k) m ∷ [])) (go nothing) xs h in
+          let m = was-mapped (λ m. slot_list ss ++ (keyed (cleared_key k) m ∷ [])) (go nothing) xs h in
           record {
             old = nothing;
             new = m.from;
             is = m.is;
-            there = ap (λ ys. present (lookup_slot k ys)) m.gives ∙ ap present (slot-last k m.from (slot_list ss) e)
-                ∙ item-present (new_key k) m.from (fills nothing m.from m.is);
+            there = ap (λ ys. present (lookup_slot k.name ys)) m.gives ∙ ap present (slot-last k m.from (slot_list ss) e)
+                ∙ item-present (cleared_key k) m.from (fills nothing m.from m.is);
           }
   slot-went ss (Some s) xs e h =
-      let m = was-mapped (λ m. changed k (with_item m) (slot_list ss)) (go s.item) xs h in
+      let m = was-mapped (λ m. changed k.name (with_item m) (slot_list ss)) (go s.item) xs h in
       record {
         old = s.item;
         new = m.from;
         is = m.is;
-        there = ap (λ ys. present (lookup_slot k ys)) m.gives ∙ ap present (slot-same k m.from (slot_list ss) s e)
+        there = ap (λ ys. present (lookup_slot k.name ys)) m.gives ∙ ap present (slot-same k.name m.from (slot_list ss) s e)
             ∙ item-present s.key m.from (fills s.item m.from m.is);
       }
 
   item-went : (is : Node → Bool) → ((a b : Node) → go a ≡ done b → is a ≡ true → is b ≡ true)
       → (xs : Items) (o : Option (ℕ × Node)) (ys : List Node)
-      → element_of is k (item_list xs) ≡ o → change_element go (item_list xs) o ≡ done ys → WentTo (second (element_of is k ys))
+      → element_of is k.name (item_list xs) ≡ o → change_element go (item_list xs) o ≡ done ys → WentTo (second (element_of is k.name ys))
   item-went is keeps xs None ys e h = absurd cc
   item-went is keeps xs (Some y) ys e h =
       let m = was-mapped (λ m. written_at y.0 m (item_list xs)) (go y.1) ys h in
-      let r = named is k (item_list xs) y e in
+      let r = named is k.name (item_list xs) y e in
       record {
         old = y.1;
         new = m.from;
         is = m.is;
-        there = ap (λ zs. second (element_of is k zs)) m.gives
-            ∙ ap second (names is k (written_at y.0 m.from (item_list xs)) y.0 m.from r.number
+        there = ap (λ zs. second (element_of is k.name zs)) m.gives
+            ∙ ap second (names is k.name (written_at y.0 m.from (item_list xs)) y.0 m.from r.number
             (place-same y.0 (λ old. m.from) (item_list xs) y.1 r.item) (keeps y.1 m.from m.is r.kind));
       }
 
-  went : (n m : Node) → child_changed makes k go n ≡ done m → WentTo (child k m)
+  went : (n m : Node) → child_changed makes k go n ≡ done m → WentTo (child k.name m)
   went (table f ss) m h =
-      let b = was-mapped (λ xs. table f (slots_from xs)) (change_slot makes k go (slot_list ss) (lookup_slot k (slot_list ss))) m h in
-      let w = slot-went ss (lookup_slot k (slot_list ss)) b.from refl b.is in
+      let b = was-mapped (λ xs. table f (slots_from xs)) (change_slot makes k go (slot_list ss) (lookup_slot k.name (slot_list ss))) m h in
+      let w = slot-went ss (lookup_slot k.name (slot_list ss)) b.from refl b.is in
       record {
         old = w.old;
         new = w.new;
         is = w.is;
-        there = ap (child k) b.gives
-            ∙ ap (λ xs. present (lookup_slot k xs)) (slot_list-from b.from) ∙ w.there;
+        there = ap (child k.name) b.gives
+            ∙ ap (λ xs. present (lookup_slot k.name xs)) (slot_list-from b.from) ∙ w.there;
       }
   went (inline f ss) m h =
-      let b = was-mapped (λ xs. inline f (slots_from xs)) (change_slot makes k go (slot_list ss) (lookup_slot k (slot_list ss))) m h in
-      let w = slot-went ss (lookup_slot k (slot_list ss)) b.from refl b.is in
+      let b = was-mapped (λ xs. inline f (slots_from xs)) (change_slot makes k go (slot_list ss) (lookup_slot k.name (slot_list ss))) m h in
+      let w = slot-went ss (lookup_slot k.name (slot_list ss)) b.from refl b.is in
       record {
         old = w.old;
         new = w.new;
         is = w.is;
-        there = ap (child k) b.gives
-            ∙ ap (λ xs. present (lookup_slot k xs)) (slot_list-from b.from) ∙ w.there;
+        there = ap (child k.name) b.gives
+            ∙ ap (λ xs. present (lookup_slot k.name xs)) (slot_list-from b.from) ∙ w.there;
       }
   went (list f xs) m h =
-      let b = was-mapped (λ ns. list f (items_from ns)) (change_element go (item_list xs) (element_of is_value_node k (item_list xs))) m
+      let b = was-mapped (λ ns. list f (items_from ns)) (change_element go (item_list xs) (element_of is_value_node k.name (item_list xs))) m
       h in
-      let w = item-went is_value_node keeps_value xs (element_of is_value_node k (item_list xs)) b.from refl b.is in
+      let w = item-went is_value_node keeps_value xs (element_of is_value_node k.name (item_list xs)) b.from refl b.is in
       record {
         old = w.old;
         new = w.new;
         is = w.is;
-        there = ap (child k) b.gives
-            ∙ ap (λ ys. second (element_of is_value_node k ys)) (item_list-from b.from) ∙ w.there;
+        there = ap (child k.name) b.gives
+            ∙ ap (λ ys. second (element_of is_value_node k.name ys)) (item_list-from b.from) ∙ w.there;
       }
   went (tables e xs) m h =
-      let b = was-mapped (λ ns. tables e (items_from ns)) (change_element go (item_list xs) (element_of is_table_node k (item_list xs))) m
+      let b = was-mapped (λ ns. tables e (items_from ns)) (change_element go (item_list xs) (element_of is_table_node k.name (item_list xs))) m
       h in
-      let w = item-went is_table_node keeps_table xs (element_of is_table_node k (item_list xs)) b.from refl b.is in
+      let w = item-went is_table_node keeps_table xs (element_of is_table_node k.name (item_list xs)) b.from refl b.is in
       record {
         old = w.old;
         new = w.new;
         is = w.is;
-        there = ap (child k) b.gives
-            ∙ ap (λ ys. second (element_of is_table_node k ys)) (item_list-from b.from) ∙ w.there;
+        there = ap (child k.name) b.gives
+            ∙ ap (λ ys. second (element_of is_table_node k.name ys)) (item_list-from b.from) ∙ w.there;
       }
   went (leaf s r d) m h = absurd cc
   went nothing m h = by_makes makes h
     where
-      by_makes : (b : Bool) → mapped (λ x. inline new_inline (slot (new_key k) x no_slots)) (missing b (go nothing)) ≡ done m
-          → WentTo (child k m)
+      by_makes : (b : Bool) → mapped (λ x. inline new_inline (slot (cleared_key k) x no_slots)) (missing b (go nothing)) ≡ done m
+          → WentTo (child k.name m)
       by_makes false h = absurd cc
       by_makes true h =
-          let b = was-mapped (λ x. inline new_inline (slot (new_key k) x no_slots)) (go nothing) m h in
+          let b = was-mapped (λ x. inline new_inline (slot (cleared_key k) x no_slots)) (go nothing) m h in
           record {
             old = nothing;
             new = b.from;
             is = b.is;
-            there = ap (child k) b.gives ∙ ap present (if-true (same_text k k) (Some (keyed (new_key k) b.from)) None (same_text-refl k))
-                ∙ item-present (new_key k) b.from (fills nothing b.from b.is);
+            there = ap (child k.name) b.gives ∙ ap present (if-true (same_text k.name k.name) (Some (keyed (cleared_key k) b.from)) None (same_text-refl k.name))
+                ∙ item-present (cleared_key k) b.from (fills nothing b.from b.is);
           }
 
 -- the item after `set` is a value where one was set, and never a placeholder
@@ -224,54 +224,54 @@ here-no-table v (leaf s r d) m h t = absurd cc
 here-no-table v (list f xs) m h t = absurd cc
 here-no-table v (inline f ss) m h t = absurd cc
 
-below-fills : (makes : Bool) (k : Text) (go : Node → Answer Node) (n m : Node) → child_changed makes k go n ≡ done m → is_item m ≡ true
+below-fills : (makes : Bool) (k : Key) (go : Node → Answer Node) (n m : Node) → child_changed makes k go n ≡ done m → is_item m ≡ true
 below-fills makes k go (table f ss) m h =
-    ap is_item (was-mapped (λ xs. table f (slots_from xs)) (change_slot makes k go (slot_list ss) (lookup_slot k (slot_list ss))) m h).gives
+    ap is_item (was-mapped (λ xs. table f (slots_from xs)) (change_slot makes k go (slot_list ss) (lookup_slot k.name (slot_list ss))) m h).gives
 below-fills makes k go (inline f ss) m h =
-    ap is_item (was-mapped (λ xs. inline f (slots_from xs)) (change_slot makes k go (slot_list ss) (lookup_slot k (slot_list ss))) m
+    ap is_item (was-mapped (λ xs. inline f (slots_from xs)) (change_slot makes k go (slot_list ss) (lookup_slot k.name (slot_list ss))) m
     h).gives
 below-fills makes k go (list f xs) m h =
-    ap is_item (was-mapped (λ ns. list f (items_from ns)) (change_element go (item_list xs) (element_of is_value_node k (item_list xs))) m
+    ap is_item (was-mapped (λ ns. list f (items_from ns)) (change_element go (item_list xs) (element_of is_value_node k.name (item_list xs))) m
     h).gives
 below-fills makes k go (tables e xs) m h =
-    ap is_item (was-mapped (λ ns. tables e (items_from ns)) (change_element go (item_list xs) (element_of is_table_node k (item_list xs))) m
+    ap is_item (was-mapped (λ ns. tables e (items_from ns)) (change_element go (item_list xs) (element_of is_table_node k.name (item_list xs))) m
     h).gives
 below-fills makes k go (leaf s r d) m h = absurd cc
 below-fills makes k go nothing m h =
-    ap is_item (was-mapped (λ x. inline new_inline (slot (new_key k) x no_slots)) (missing makes (go nothing)) m h).gives
+    ap is_item (was-mapped (λ x. inline new_inline (slot (cleared_key k) x no_slots)) (missing makes (go nothing)) m h).gives
 
-set-fills : (v : Node) → is_value_node v ≡ true → (path : List Text) (n m : Node) → set_below v path n ≡ done m → is_item m ≡ true
+set-fills : (v : Node) → is_value_node v ≡ true → (path : List Key) (n m : Node) → set_below v path n ≡ done m → is_item m ≡ true
 set-fills v is [] n m h = value-item m (here-is v n m is h).0
 set-fills v is (k ∷ path) n m h = below-fills true k (set_below v path) n m h
 
-set-value : (v : Node) → is_value_node v ≡ true → (path : List Text) (n m : Node) → set_below v path n ≡ done m → is_value_node n ≡ true
+set-value : (v : Node) → is_value_node v ≡ true → (path : List Key) (n m : Node) → set_below v path n ≡ done m → is_value_node n ≡ true
     → is_value_node m ≡ true
 set-value v is [] n m h x = (here-is v n m is h).0
 set-value v is (k ∷ path) n m h x = value-stays true k (set_below v path) n m h x
 
-set-table : (v : Node) (path : List Text) (n m : Node) → set_below v path n ≡ done m → is_table_node n ≡ true → is_table_node m ≡ true
+set-table : (v : Node) (path : List Key) (n m : Node) → set_below v path n ≡ done m → is_table_node n ≡ true → is_table_node m ≡ true
 set-table v [] n m h x = here-no-table v n m h x
 set-table v (k ∷ path) n m h x = table-stays true k (set_below v path) n m h x
 
-record Shows (v : Node) (path : List Text) (m : Node) : Type 0 where
+record Shows (v : Node) (path : List Key) (m : Node) : Type 0 where
   item : Node
-  there : item_below path m ≡ Some item
+  there : item_below (names_of path) m ≡ Some item
   shown : IsShown v item
 
-set-shows : (v : Node) → is_value_node v ≡ true → (path : List Text) (n m : Node) → set_below v path n ≡ done m → Shows v path m
+set-shows : (v : Node) → is_value_node v ≡ true → (path : List Key) (n m : Node) → set_below v path n ≡ done m → Shows v path m
 set-shows v is [] n m h = record { item = m; there = refl; shown = (here-is v n m is h).1 }
 set-shows v is (k ∷ path) n m h =
     let w = went true k (set_below v path) (set-fills v is path) (set-value v is path) (set-table v path) n m h in
     let r = set-shows v is path w.old w.new w.is in
-    record { item = r.item; there = ap (and_then (item_below path)) w.there ∙ r.there; shown = r.shown }
+    record { item = r.item; there = ap (and_then (item_below (names_of path))) w.there ∙ r.there; shown = r.shown }
 
 pub get_after_set : GetAfterSet
 get_after_set t u [] v is h = absurd cc
 get_after_set t u (k ∷ path) v is h =
     let m = was-mapped (with_slots t) (set_below v (k ∷ path) (root_item t)) u h in
     let r = set-shows v is (k ∷ path) (root_item t) m.from m.is in
-    ap (get_text (k ∷ path)) m.gives
-    ∙ ap (λ n. shown_or (item_below (k ∷ path) n)) (sym (root-down true k (set_below v path) t m.from m.is))
+    ap (get_text (names_of (k ∷ path))) m.gives
+    ∙ ap (λ n. shown_or (item_below (names_of (k ∷ path)) n)) (sym (root-down true k (set_below v path) t m.from m.is))
     ∙ ap shown_or r.there ∙ ap (λ x. done x) r.shown
 
 -- ---- what remove finds
@@ -297,17 +297,17 @@ child-goes k (leaf s r d) a h = absurd cc
 child-goes k nothing a h = absurd cc
 
 below-goes : (k : Text) (go : Node → Answer Node) (n a b : Node) → child k n ≡ Some a → go a ≡ done b → (m : Node)
-    × (child_changed false k go n ≡ done m)
+    × (child_changed false (new_key k) go n ≡ done m)
 below-goes k go (table f ss) a b h g =
     let p = present-is (lookup_slot k (slot_list ss)) a h in (
       _,
-      ap (λ o. mapped (λ xs. table f (slots_from xs)) (change_slot false k go (slot_list ss) o)) p.is
+      ap (λ o. mapped (λ xs. table f (slots_from xs)) (change_slot false (new_key k) go (slot_list ss) o)) p.is
           ∙ ap (λ x. mapped (λ xs. table f (slots_from xs)) (mapped (λ m. changed k (with_item m) (slot_list ss)) x)) g,
     )
 below-goes k go (inline f ss) a b h g =
     let p = present-is (lookup_slot k (slot_list ss)) a h in (
       _,
-      ap (λ o. mapped (λ xs. inline f (slots_from xs)) (change_slot false k go (slot_list ss) o)) p.is
+      ap (λ o. mapped (λ xs. inline f (slots_from xs)) (change_slot false (new_key k) go (slot_list ss) o)) p.is
           ∙ ap (λ x. mapped (λ xs. inline f (slots_from xs)) (mapped (λ m. changed k (with_item m) (slot_list ss)) x)) g,
     )
 below-goes k go (list f xs) a b h g =
@@ -368,7 +368,7 @@ child-was k nothing m h = absurd cc
 
 module _ (k : Text) (go : Node → Answer Node) (l : Text) (path : List Text)
     (each : (a b : Node) → go a ≡ done b → (x : Node) × (item_below (l ∷ path) a ≡ Some x)) where
-  slot-was : (xs : List (Slot Node)) (o : Option (Slot Node)) (ys : List (Slot Node)) → change_slot false k go xs o ≡ done ys → (x : Node)
+  slot-was : (xs : List (Slot Node)) (o : Option (Slot Node)) (ys : List (Slot Node)) → change_slot false (new_key k) go xs o ≡ done ys → (x : Node)
       × (and_then (item_below (l ∷ path)) (present o) ≡ Some x)
   slot-was xs None ys h = absurd cc
   slot-was xs (Some s) ys h =
@@ -381,12 +381,12 @@ module _ (k : Text) (go : Node → Answer Node) (l : Text) (path : List Text)
   item-was xs None ys h = absurd cc
   item-was xs (Some y) ys h = let w = was-mapped (λ m. written_at y.0 m xs) (go y.1) ys h in each y.1 w.from w.is
 
-  below-was : (n m : Node) → child_changed false k go n ≡ done m → (x : Node) × (and_then (item_below (l ∷ path)) (child k n) ≡ Some x)
+  below-was : (n m : Node) → child_changed false (new_key k) go n ≡ done m → (x : Node) × (and_then (item_below (l ∷ path)) (child k n) ≡ Some x)
   below-was (table f ss) m h =
-      let w = was-mapped (λ xs. table f (slots_from xs)) (change_slot false k go (slot_list ss) (lookup_slot k (slot_list ss))) m h in
+      let w = was-mapped (λ xs. table f (slots_from xs)) (change_slot false (new_key k) go (slot_list ss) (lookup_slot k (slot_list ss))) m h in
       slot-was (slot_list ss) (lookup_slot k (slot_list ss)) w.from w.is
   below-was (inline f ss) m h =
-      let w = was-mapped (λ xs. inline f (slots_from xs)) (change_slot false k go (slot_list ss) (lookup_slot k (slot_list ss))) m h in
+      let w = was-mapped (λ xs. inline f (slots_from xs)) (change_slot false (new_key k) go (slot_list ss) (lookup_slot k (slot_list ss))) m h in
       slot-was (slot_list ss) (lookup_slot k (slot_list ss)) w.from w.is
   below-was (list f xs) m h =
       let w = was-mapped (λ ns. list f (items_from ns)) (change_element go (item_list xs) (element_of is_value_node k (item_list xs))) m
@@ -439,7 +439,7 @@ child-refuses k (leaf s x d) r h = cc
 child-refuses k nothing r h = cc
 
 module _ (k : Text) (go : Node → Answer Node) (each : (a : Node) → RefusesPath (go a)) where
-  change-refuses : (xs : List (Slot Node)) (o : Option (Slot Node)) → RefusesPath (change_slot false k go xs o)
+  change-refuses : (xs : List (Slot Node)) (o : Option (Slot Node)) → RefusesPath (change_slot false (new_key k) go xs o)
   change-refuses xs None r h = cc
   change-refuses xs (Some s) r h = each s.item r (was-refused (λ m. changed k (with_item m) xs) (go s.item) r h)
 
@@ -447,7 +447,7 @@ module _ (k : Text) (go : Node → Answer Node) (each : (a : Node) → RefusesPa
   element-refuses xs None r h = cc
   element-refuses xs (Some y) r h = each y.1 r (was-refused (λ m. written_at y.0 m xs) (go y.1) r h)
 
-  below-refuses : (n : Node) → RefusesPath (child_changed false k go n)
+  below-refuses : (n : Node) → RefusesPath (child_changed false (new_key k) go n)
   below-refuses (table f ss) r h =
       change-refuses (slot_list ss) (lookup_slot k (slot_list ss)) r (was-refused (λ xs. table f (slots_from xs)) _ r h)
   below-refuses (inline f ss) r h =

@@ -1,10 +1,11 @@
 -- A command that goes a path from table to table changes the slots of the table that it comes to, and nothing else.
-use Rattle.std.proofs.Common.{◌≡◌, refl, sym, ◌∙◌, ap, subst, ℕ, Bool, true, false, List, [], ◌∷◌, ◌++◌, length, Some}
+use Rattle.std.proofs.Common.{◌≡◌, refl, sym, ◌∙◌, ap, subst, ℕ, Bool, true, false, List, [], ◌∷◌, ◌++◌, length, map, Some}
 use Rattle.std.specs.Prelude.{slice_get}
 use Rattle.toml_edit_model.specs.Text.{Text}
 use Rattle.toml_edit_model.specs.Paths.{to_key, to_element}
-use Rattle.toml_edit_model.specs.Tree.{Node, table, tables, Slots, ItemsAreWellMade, SlotsAreWellMade}
+use Rattle.toml_edit_model.specs.Tree.{Key, Node, table, tables, Slots, ItemsAreWellMade, SlotsAreWellMade, Tree}
 use Rattle.toml_edit_model.specs.HeaderOrder.{Visit, visit_of}
+use Rattle.toml_edit_model.specs.Keys.{new_key}
 use Rattle.toml_edit_model.specs.Slots.{Slot, keyed, on_item, with_item, changed_at, lookup_slot, changed}
 use Rattle.toml_edit_model.specs.Lists.{slot_list, slots_from, item_list, items_from, on_slots, on_items}
 use Rattle.toml_edit_model.specs.ArrayCalls.{written_at}
@@ -13,7 +14,7 @@ use Rattle.toml_edit_laws.proofs.locality.Slots.{slots_under, items_under}
 use Rattle.toml_edit_laws.specs.Locality.{Turn, into_table, into_element, Leads, along, element_count}
 use Rattle.toml_edit_edit_laws.specs.Commands.{Answer, done, mapped, number_of, kept_item, at_number, element_of, change_slot, change_element}
 use Rattle.toml_edit_edit_laws.specs.Commands.{child_changed}
-use Rattle.toml_edit_edit_laws.specs.CommandLaws.{Goes}
+use Rattle.toml_edit_edit_laws.specs.CommandLaws.{Goes, NamesTable}
 use Rattle.toml_edit_laws.proofs.locality.Slots.{items_from-list, Found, found, change-item}
 use Rattle.toml_edit_laws.proofs.locality.Elements.{item-made}
 
@@ -37,11 +38,25 @@ element-there is x i xs before n after number items place kind =
     ap (at_number is xs) number ∙ ap (λ ys. kept_item is i (slice_get ys i)) items ∙ ap (kept_item is i) (item-there before n after i place)
     ∙ rw kind refl
 
+-- the names of keys that are made of texts
+pub made-names : (path : List Text) → map (λ k. (new_key k).name) path ≡ path
+made-names [] = refl
+made-names (k ∷ path) = ap (λ ks. k ∷ ks) (made-names path)
+
+pub made-goes : (way : List Turn) (path : List Text) → Goes way path → Goes way (map (λ k. (new_key k).name) path)
+made-goes way path h = subst (Goes way) (sym (made-names path)) h
+
+pub made-named : (t : Tree) (path : List Text) (v : Visit) → NamesTable t path v
+    → NamesTable t (map (λ k. (new_key k).name) path) v
+made-named t path v h = subst (λ p. NamesTable t p v) (sym (made-names path)) h
+
 -- A family of commands that go down alike as long as the path is longer.
-module _ (makes : Bool) (run : List Text → Node → Answer Node) (rest : List Text)
-    (goes_down : (k : Text) (path : List Text) (n : Node) → run (k ∷ (path ++ rest)) n ≡ child_changed makes k (run (path ++ rest)) n)
+module _ {A : Type 0} (key_of : A → Key) (makes : Bool) (run : List A → Node → Answer Node) (rest : List A)
+    (goes_down : (k : A) (path : List A) (n : Node) → run (k ∷ (path ++ rest)) n
+    ≡ child_changed makes (key_of k) (run (path ++ rest)) n)
     (g : List (Slot Node) → List (Slot Node)) where
-  pub goes-along : (way : List Turn) (path : List Text) (s w : Visit) → SlotsAreWellMade s.slots → Goes way path → Leads way s w
+  pub goes-along : (way : List Turn) (path : List A) (s w : Visit) → SlotsAreWellMade s.slots
+      → Goes way (map (λ k. (key_of k).name) path) → Leads way s w
       → run rest (table w.fields w.slots) ≡ done (table w.fields (slots_under g w.slots))
       → run (path ++ rest) (table s.fields s.slots) ≡ done (table s.fields (slots_under (along way g) s.slots))
   goes-along [] [] s w made goes leads there =
@@ -52,12 +67,12 @@ module _ (makes : Bool) (run : List Text → Node → Answer Node) (rest : List 
       let v : Visit = visit_of (to_key s.path l.name) (s.keys ++ (l ∷ [])) false f ss in
       let ih : run (path ++ rest) (table f ss) ≡ done (table f (slots_under (along way g) ss)) =
       goes-along way path v w (found k s.slots (keyed l (table f ss)) made eq).made goes.1 leads there in
-      let at : lookup_slot j (slot_list s.slots) ≡ Some (keyed l (table f ss)) = ap (λ x. lookup_slot x (slot_list s.slots)) goes.0 ∙ eq in
+      let at : lookup_slot (key_of j).name (slot_list s.slots) ≡ Some (keyed l (table f ss)) = ap (λ x. lookup_slot x (slot_list s.slots)) goes.0 ∙ eq in
       goes_down j path (table s.fields s.slots)
-      ∙ ap (λ o. mapped (λ xs. table s.fields (slots_from xs)) (change_slot makes j (run (path ++ rest)) (slot_list s.slots) o)) at
-      ∙ ap (λ a. mapped (λ xs. table s.fields (slots_from xs)) (mapped (λ m. changed j (with_item m) (slot_list s.slots)) a)) ih
+      ∙ ap (λ o. mapped (λ xs. table s.fields (slots_from xs)) (change_slot makes (key_of j) (run (path ++ rest)) (slot_list s.slots) o)) at
+      ∙ ap (λ a. mapped (λ xs. table s.fields (slots_from xs)) (mapped (λ m. changed (key_of j).name (with_item m) (slot_list s.slots)) a)) ih
       ∙ ap (λ xs. done (table s.fields (slots_from xs)))
-      (changed-same j (with_item (table f (slots_under (along way g) ss))) (on_item (on_slots (along way g))) s.slots (keyed l (table f ss))
+      (changed-same (key_of j).name (with_item (table f (slots_under (along way g) ss))) (on_item (on_slots (along way g))) s.slots (keyed l (table f ss))
       made at refl
       ∙ ap (λ y. changed y (on_item (on_slots (along way g))) (slot_list s.slots)) goes.0)
   goes-along (into_element k i ∷ way) [] s w made goes leads there = absurd goes
@@ -69,9 +84,9 @@ module _ (makes : Bool) (run : List Text → Node → Answer Node) (rest : List 
       subst ItemsAreWellMade (sym (items_from-list xs) ∙ ap items_from items) (found k s.slots (keyed l (tables e xs)) made eq).made in
       let inner : SlotsAreWellMade ss = item-made before (table f ss) after all in
       let ih : run (path ++ rest) (table f ss) ≡ done (table f us) = goes-along way path v w inner goes.2 leads there in
-      let at : lookup_slot j (slot_list s.slots) ≡ Some (keyed l (tables e xs)) = ap (λ y. lookup_slot y (slot_list s.slots)) goes.0 ∙ eq in
-      let element : element_of is_table_node x (item_list xs) ≡ Some (i, table f ss) =
-      element-there is_table_node x i (item_list xs) before (table f ss) after goes.1 items place refl in
+      let at : lookup_slot (key_of j).name (slot_list s.slots) ≡ Some (keyed l (tables e xs)) = ap (λ y. lookup_slot y (slot_list s.slots)) goes.0 ∙ eq in
+      let element : element_of is_table_node (key_of x).name (item_list xs) ≡ Some (i, table f ss) =
+      element-there is_table_node (key_of x).name i (item_list xs) before (table f ss) after goes.1 items place refl in
       let swapped : written_at i (table f us) (item_list xs) ≡ changed_at i (on_slots (along way g)) (item_list xs) =
       ap (written_at i (table f us)) items ∙ change-item before (table f ss) after i (λ old. table f us) place
       ∙ sym (ap (changed_at i (on_slots (along way g))) items ∙ change-item before (table f ss) after i (on_slots (along way g)) place) in
@@ -81,9 +96,9 @@ module _ (makes : Bool) (run : List Text → Node → Answer Node) (rest : List 
       ∙ ap (λ a. mapped (λ ns. tables e (items_from ns)) (mapped (λ m. written_at i m (item_list xs)) a)) ih
       ∙ ap (λ ns. done (tables e (items_from ns))) swapped in
       goes_down j (x ∷ path) (table s.fields s.slots)
-      ∙ ap (λ o. mapped (λ xs. table s.fields (slots_from xs)) (change_slot makes j (run (x ∷ (path ++ rest))) (slot_list s.slots) o)) at
-      ∙ ap (λ a. mapped (λ xs. table s.fields (slots_from xs)) (mapped (λ m. changed j (with_item m) (slot_list s.slots)) a)) inside
+      ∙ ap (λ o. mapped (λ xs. table s.fields (slots_from xs)) (change_slot makes (key_of j) (run (x ∷ (path ++ rest))) (slot_list s.slots) o)) at
+      ∙ ap (λ a. mapped (λ xs. table s.fields (slots_from xs)) (mapped (λ m. changed (key_of j).name (with_item m) (slot_list s.slots)) a)) inside
       ∙ ap (λ xs. done (table s.fields (slots_from xs)))
-      (changed-same j (with_item (tables e (items_under (changed_at i (on_slots (along way g))) xs)))
+      (changed-same (key_of j).name (with_item (tables e (items_under (changed_at i (on_slots (along way g))) xs)))
       (on_item (on_items (changed_at i (on_slots (along way g))))) s.slots (keyed l (tables e xs)) made at refl
       ∙ ap (λ y. changed y (on_item (on_items (changed_at i (on_slots (along way g))))) (slot_list s.slots)) goes.0)

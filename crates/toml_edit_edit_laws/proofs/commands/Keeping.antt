@@ -1,12 +1,13 @@
 -- `set` and `remove` leave all but the item at the path as it was, and the tree as its types see to.
-use Rattle.std.proofs.Common.{◌≡◌, refl, sym, ◌∙◌, ap, subst, ℕ, zero, suc, Bool, true, false, List, [], ◌∷◌, ◌++◌, length, Option, Some}
+use Rattle.std.proofs.Common.{◌≡◌, refl, sym, ◌∙◌, ap, subst, ℕ, zero, suc, Bool, true, false, List, [], ◌∷◌, ◌++◌, length, map, Option, Some}
 use Rattle.std.proofs.Common.{None, inl, inr}
 use Rattle.std.specs.Prelude.{slice_get, if◌then◌else◌}
 use Rattle.toml_edit_model.specs.Text.{Text}
 use Rattle.toml_edit_model.specs.Tree.{Decor, Key, Node, nothing, leaf, list, inline, table, tables, Items, Slots, no_slots, slot, Tree}
-use Rattle.toml_edit_model.specs.Tree.{is_value_node, IsWellMade, ItemsAreWellMade, SlotsAreWellMade}
+use Rattle.toml_edit_model.specs.Tree.{is_value_node, HasTrueSpelling, IsWellMade, ItemsAreWellMade, SlotsAreWellMade}
 use Rattle.toml_edit_model.specs.Conversions.{new_inline, with_decor}
-use Rattle.toml_edit_model.specs.Keys.{new_key}
+use Rattle.toml_edit_model.specs.Keys.{cleared_key, new_key}
+use Rattle.toml_edit_model.specs.Spelling.{SpellsKey}
 use Rattle.toml_edit_model.specs.Slots.{Slot, keyed, with_item, lookup_slot, changed, without}
 use Rattle.toml_edit_model.specs.Lists.{slot_list, slots_from, item_list, items_from, only, is_item}
 use Rattle.toml_edit_model.specs.ArrayCalls.{written_at, removed_at}
@@ -14,7 +15,7 @@ use Rattle.toml_edit_model.specs.Shown.{is_table_node}
 use Rattle.toml_edit_edit_laws.specs.Commands.{Answer, done, mapped, number_of, kept_item, at_number, element_of, present, missing, change_slot}
 use Rattle.toml_edit_edit_laws.specs.Commands.{change_element, child_changed, set_here, set_below, drop_slot, drop_element, remove_child}
 use Rattle.toml_edit_edit_laws.specs.Commands.{remove_below, root_item, root_slots, with_slots}
-use Rattle.toml_edit_edit_laws.specs.CommandLaws.{OneSlot, OneItem, OnlyChild, OnlyAt, OnlyTreeAt, SetKeepsTheRest, OneSlotLess, OneItemLess}
+use Rattle.toml_edit_edit_laws.specs.CommandLaws.{AreSpelled, OneSlot, OneItem, OnlyChild, OnlyAt, OnlyTreeAt, SetKeepsTheRest, OneSlotLess, OneItemLess}
 use Rattle.toml_edit_edit_laws.specs.CommandLaws.{IsWithout, RemoveKeepsTheRest}
 use Rattle.toml_edit_laws.proofs.locality.Slots.{Found, found, none-there, slots_from-list, slot_list-from, items_from-list, item_list-from}
 use Rattle.toml_edit_laws.proofs.locality.Slots.{change-item, remove-item}
@@ -67,26 +68,27 @@ items-parted i xs n r w = subst ItemsAreWellMade (sym (items_from-list xs) ∙ a
 
 -- ---- below a segment
 
-module _ (makes : Bool) (k : Text) (go : Node → Answer Node) (R : Node → Node → Type 0)
+module _ (makes : Bool) (k : Key) (spelled : HasTrueSpelling (SpellsKey k.name) k.spelling) (go : Node → Answer Node)
+    (R : Node → Node → Type 0)
     (each : (a b : Node) → IsWellMade a → go a ≡ done b → R a b × IsWellMade b) where
-  slot-only : (ss : Slots) (o : Option (Slot Node)) (xs : List (Slot Node)) → SlotsAreWellMade ss → lookup_slot k (slot_list ss) ≡ o
+  slot-only : (ss : Slots) (o : Option (Slot Node)) (xs : List (Slot Node)) → SlotsAreWellMade ss → lookup_slot k.name (slot_list ss) ≡ o
       → change_slot makes k go (slot_list ss) o ≡ done xs → OneSlot R k (slot_list ss) xs × SlotsAreWellMade (slots_from xs)
   slot-only ss None xs w e h = by_makes makes h
     where
-      by_makes : (b : Bool) → mapped (λ m. slot_list ss ++ (keyed (new_key k) m ∷ [])) (missing b (go nothing)) ≡ done xs
+      by_makes : (b : Bool) → mapped (λ m. slot_list ss ++ (keyed (cleared_key k) m ∷ [])) (missing b (go nothing)) ≡ done xs
           → OneSlot R k (slot_list ss) xs × SlotsAreWellMade (slots_from xs)
       by_makes false h = absurd cc
       by_makes true h =
-          let m = was-mapped (λ m. slot_list ss ++ (keyed (new_key k) m ∷ [])) (go nothing) xs h in
+          let m = was-mapped (λ m. slot_list ss ++ (keyed (cleared_key k) m ∷ [])) (go nothing) xs h in
           let r = each nothing m.from tt m.is in (
             inr (record { new = m.from; is_new = e; second = m.gives; related = r.0 }),
             subst (λ ys. SlotsAreWellMade (slots_from ys)) (sym m.gives)
-                (made-last (slot_list ss) (keyed (new_key k) m.from) (none-there k (slot_list ss) e) tt r.1
+                (made-last (slot_list ss) (keyed (cleared_key k) m.from) (none-there k.name (slot_list ss) e) spelled r.1
                 (subst SlotsAreWellMade (sym (slots_from-list ss)) w)),
           )
   slot-only ss (Some s) xs w e h =
-      let m = was-mapped (λ m. changed k (with_item m) (slot_list ss)) (go s.item) xs h in
-      let fd : Found k s (slot_list ss) = found k ss s w e in
+      let m = was-mapped (λ m. changed k.name (with_item m) (slot_list ss)) (go s.item) xs h in
+      let fd : Found k.name s (slot_list ss) = found k.name ss s w e in
       let r = each s.item m.from fd.made m.is in
       let is : xs ≡ fd.front ++ (keyed s.key m.from ∷ fd.back) = m.gives ∙ fd.change (with_item m.from) in (
         inl (record {
@@ -102,16 +104,16 @@ module _ (makes : Bool) (k : Text) (go : Node → Answer Node) (R : Node → Nod
           related = r.0;
         }),
         subst (λ ys. SlotsAreWellMade (slots_from ys)) (sym is)
-            (made-node fd.front fd.back s.key s.item m.from r.1 (split-made k s ss fd w)),
+            (made-node fd.front fd.back s.key s.item m.from r.1 (split-made k.name s ss fd w)),
       )
 
   item-only : (is : Node → Bool) (xs : Items) (o : Option (ℕ × Node)) (ys : List Node) → ItemsAreWellMade xs
-      → element_of is k (item_list xs) ≡ o
-      → change_element go (item_list xs) o ≡ done ys → OneItem R k (item_list xs) ys × ItemsAreWellMade (items_from ys)
+      → element_of is k.name (item_list xs) ≡ o
+      → change_element go (item_list xs) o ≡ done ys → OneItem R k.name (item_list xs) ys × ItemsAreWellMade (items_from ys)
   item-only is xs None ys w e h = absurd cc
   item-only is xs (Some x) ys w e h =
       let m = was-mapped (λ m. written_at x.0 m (item_list xs)) (go x.1) ys h in
-      let el = element-is is k (item_list xs) x e in
+      let el = element-is is k.name (item_list xs) x e in
       let p = el.parts in
       let all = items-parted x.0 xs x.1 p w in
       let r = each x.1 m.from (item-made p.before x.1 p.after all) m.is in
@@ -132,41 +134,41 @@ module _ (makes : Bool) (k : Text) (go : Node → Answer Node) (R : Node → Nod
 
   pub child-only : (n m : Node) → IsWellMade n → child_changed makes k go n ≡ done m → OnlyChild R k n m × IsWellMade m
   child-only (table f ss) m w h =
-      let b = was-mapped (λ xs. table f (slots_from xs)) (change_slot makes k go (slot_list ss) (lookup_slot k (slot_list ss))) m h in
-      let r = slot-only ss (lookup_slot k (slot_list ss)) b.from w refl b.is in (
+      let b = was-mapped (λ xs. table f (slots_from xs)) (change_slot makes k go (slot_list ss) (lookup_slot k.name (slot_list ss))) m h in
+      let r = slot-only ss (lookup_slot k.name (slot_list ss)) b.from w refl b.is in (
         (slots_from b.from, b.gives, subst (OneSlot R k (slot_list ss)) (sym (slot_list-from b.from)) r.0),
         subst IsWellMade (sym b.gives) r.1,
       )
   child-only (inline f ss) m w h =
-      let b = was-mapped (λ xs. inline f (slots_from xs)) (change_slot makes k go (slot_list ss) (lookup_slot k (slot_list ss))) m h in
-      let r = slot-only ss (lookup_slot k (slot_list ss)) b.from w refl b.is in (
+      let b = was-mapped (λ xs. inline f (slots_from xs)) (change_slot makes k go (slot_list ss) (lookup_slot k.name (slot_list ss))) m h in
+      let r = slot-only ss (lookup_slot k.name (slot_list ss)) b.from w refl b.is in (
         (slots_from b.from, b.gives, subst (OneSlot R k (slot_list ss)) (sym (slot_list-from b.from)) r.0),
         subst IsWellMade (sym b.gives) r.1,
       )
   child-only (list f xs) m w h =
-      let b = was-mapped (λ ns. list f (items_from ns)) (change_element go (item_list xs) (element_of is_value_node k (item_list xs))) m
+      let b = was-mapped (λ ns. list f (items_from ns)) (change_element go (item_list xs) (element_of is_value_node k.name (item_list xs))) m
       h in
-      let r = item-only is_value_node xs (element_of is_value_node k (item_list xs)) b.from w refl b.is in (
-        (items_from b.from, b.gives, subst (OneItem R k (item_list xs)) (sym (item_list-from b.from)) r.0),
+      let r = item-only is_value_node xs (element_of is_value_node k.name (item_list xs)) b.from w refl b.is in (
+        (items_from b.from, b.gives, subst (OneItem R k.name (item_list xs)) (sym (item_list-from b.from)) r.0),
         subst IsWellMade (sym b.gives) r.1,
       )
   child-only (tables e xs) m w h =
-      let b = was-mapped (λ ns. tables e (items_from ns)) (change_element go (item_list xs) (element_of is_table_node k (item_list xs))) m
+      let b = was-mapped (λ ns. tables e (items_from ns)) (change_element go (item_list xs) (element_of is_table_node k.name (item_list xs))) m
       h in
-      let r = item-only is_table_node xs (element_of is_table_node k (item_list xs)) b.from w refl b.is in (
-        (items_from b.from, b.gives, subst (OneItem R k (item_list xs)) (sym (item_list-from b.from)) r.0),
+      let r = item-only is_table_node xs (element_of is_table_node k.name (item_list xs)) b.from w refl b.is in (
+        (items_from b.from, b.gives, subst (OneItem R k.name (item_list xs)) (sym (item_list-from b.from)) r.0),
         subst IsWellMade (sym b.gives) r.1,
       )
   child-only (leaf s r d) m w h = absurd cc
   child-only nothing m w h = by_makes makes h
     where
-      by_makes : (b : Bool) → mapped (λ x. inline new_inline (slot (new_key k) x no_slots)) (missing b (go nothing)) ≡ done m
+      by_makes : (b : Bool) → mapped (λ x. inline new_inline (slot (cleared_key k) x no_slots)) (missing b (go nothing)) ≡ done m
           → OnlyChild R k nothing m × IsWellMade m
       by_makes false h = absurd cc
       by_makes true h =
-          let b = was-mapped (λ x. inline new_inline (slot (new_key k) x no_slots)) (go nothing) m h in
+          let b = was-mapped (λ x. inline new_inline (slot (cleared_key k) x no_slots)) (go nothing) m h in
           let r = each nothing b.from tt b.is in
-          ((b.from, b.gives, r.0), subst IsWellMade (sym b.gives) (refl, tt, r.1, tt))
+          ((b.from, b.gives, r.0), subst IsWellMade (sym b.gives) (refl, spelled, r.1, tt))
 
 -- ---- set
 
@@ -186,12 +188,12 @@ here-made v (leaf s r d) m w h = subst IsWellMade (done-is (with_decor d v) m h)
 here-made v (list f xs) m w h = subst IsWellMade (done-is (with_decor f.decor v) m h) (decor-made f.decor v w)
 here-made v (inline f ss) m w h = subst IsWellMade (done-is (with_decor f.decor v) m h) (decor-made f.decor v w)
 
-set-only : (v : Node) (path : List Text) (n m : Node) → IsWellMade v → IsWellMade n → set_below v path n ≡ done m
+set-only : (v : Node) (path : List Key) (n m : Node) → IsWellMade v → AreSpelled path → IsWellMade n → set_below v path n ≡ done m
     → OnlyAt (λ old new. set_here v old ≡ done new) path n m × IsWellMade m
-set-only v [] n m wv w h = (h, here-made v n m wv h)
-set-only v (k ∷ path) n m wv w h =
-    child-only true k (set_below v path) (OnlyAt (λ old new. set_here v old ≡ done new) path) (λ a b wa g. set-only v path a b wv wa g) n m
-    w h
+set-only v [] n m wv sp w h = (h, here-made v n m wv h)
+set-only v (k ∷ path) n m wv sp w h =
+    child-only true k sp.0 (set_below v path) (OnlyAt (λ old new. set_here v old ≡ done new) path)
+    (λ a b wa g. set-only v path a b wv sp.1 wa g) n m w h
 
 -- a root that stays a table of the same fields
 with-root : (t : Tree) (n : Node) (xs : Slots) → n ≡ table t.root xs → n ≡ root_item (with_slots t n)
@@ -205,20 +207,20 @@ slots-made (tables e xs) w = tt
 slots-made (leaf s r d) w = tt
 slots-made nothing w = tt
 
-only-tree : (R : Node → Node → Type 0) (path : List Text) (t : Tree) (n : Node) → n ≡ root_item (with_slots t n)
+only-tree : (R : Node → Node → Type 0) (path : List Key) (t : Tree) (n : Node) → n ≡ root_item (with_slots t n)
     → OnlyAt R path (root_item t) n → IsWellMade n
     → OnlyTreeAt R path t (with_slots t n)
 only-tree R path t n root only w =
     record { root = refl; trailing = refl; at = subst (OnlyAt R path (root_item t)) root only; made = slots-made n w }
 
 pub set_keeps_the_rest : SetKeepsTheRest
-set_keeps_the_rest t u path v made wv h =
+set_keeps_the_rest t u path v made wv sp h =
     let m = was-mapped (with_slots t) (set_below v path (root_item t)) u h in
-    let r = set-only v path (root_item t) m.from wv made m.is in
+    let r = set-only v path (root_item t) m.from wv sp made m.is in
     subst (λ (x : Tree). OnlyTreeAt (λ old new. set_here v old ≡ done new) path t x) (sym m.gives)
     (only-tree (λ old new. set_here v old ≡ done new) path t m.from (root-kept path m.from r.0) r.0 r.1)
   where
-    root-kept : (path : List Text) (n : Node) → OnlyAt (λ old new. set_here v old ≡ done new) path (root_item t) n → n
+    root-kept : (path : List Key) (n : Node) → OnlyAt (λ old new. set_here v old ≡ done new) path (root_item t) n → n
         ≡ root_item (with_slots t n)
     root-kept [] n only = absurd cc
     root-kept (k ∷ path) n only = with-root t n only.0 only.1
@@ -297,19 +299,19 @@ child-less k (leaf s r d) m w h = absurd cc
 child-less k nothing m w h = absurd cc
 
 remove-only : (path : List Text) (k : Text) (n m : Node) → IsWellMade n → remove_below (path ++ (k ∷ [])) n ≡ done m
-    → OnlyAt (IsWithout k) path n m × IsWellMade m
+    → OnlyAt (IsWithout k) (map new_key path) n m × IsWellMade m
 remove-only [] k n m w h = child-less k n m w h
 remove-only (j ∷ path) k n m w h =
-    child-only false j (remove_below (path ++ (k ∷ []))) (OnlyAt (IsWithout k) path) (λ a b wa g. remove-only path k a b wa g) n m w
+    child-only false (new_key j) tt (remove_below (path ++ (k ∷ []))) (OnlyAt (IsWithout k) (map new_key path)) (λ a b wa g. remove-only path k a b wa g) n m w
     (sym (remove-goes-down k [] j path n) ∙ h)
 
 pub remove_keeps_the_rest : RemoveKeepsTheRest
 remove_keeps_the_rest t u path k made h =
     let m = was-mapped (with_slots t) (remove_below (path ++ (k ∷ [])) (root_item t)) u h in
     let r = remove-only path k (root_item t) m.from made m.is in
-    subst (λ (x : Tree). OnlyTreeAt (IsWithout k) path t x) (sym m.gives)
-    (only-tree (IsWithout k) path t m.from (root-kept path m.from r.0) r.0 r.1)
+    subst (λ (x : Tree). OnlyTreeAt (IsWithout k) (map new_key path) t x) (sym m.gives)
+    (only-tree (IsWithout k) (map new_key path) t m.from (root-kept path m.from r.0) r.0 r.1)
   where
-    root-kept : (path : List Text) (n : Node) → OnlyAt (IsWithout k) path (root_item t) n → n ≡ root_item (with_slots t n)
+    root-kept : (path : List Text) (n : Node) → OnlyAt (IsWithout k) (map new_key path) (root_item t) n → n ≡ root_item (with_slots t n)
     root-kept [] n only = with-root t n only.0 only.1
     root-kept (j ∷ path) n only = with-root t n only.0 only.1

@@ -22,7 +22,7 @@ module _ (mode : Mode) where
       }
 
   pub set_reads_back : SetReadsBack mode
-  set_reads_back t u path v made wv h fits = reads-back u (set_keeps_the_rest t u path v made wv h).made fits
+  set_reads_back t u path v made wv sp h fits = reads-back u (set_keeps_the_rest t u path v made wv sp h).made fits
 
   pub remove_reads_back : RemoveReadsBack mode
   remove_reads_back t u path k made h fits = reads-back u (remove_keeps_the_rest t u path k made h).made fits

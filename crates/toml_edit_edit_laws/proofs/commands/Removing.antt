@@ -4,6 +4,7 @@ use Rattle.std.proofs.Common.{◌≡◌, refl, sym, ◌∙◌, ap, subst, true, 
 use Rattle.toml_edit_model.specs.Mode.{Mode}
 use Rattle.toml_edit_model.specs.Text.{Text}
 use Rattle.toml_edit_model.specs.Tree.{Key, Node, nothing, leaf, list, inline, table, tables, Tree, is_value_node}
+use Rattle.toml_edit_model.specs.Keys.{new_key}
 use Rattle.toml_edit_model.specs.Slots.{Slot, keyed, on_item, with_item, lookup_slot, changed, without}
 use Rattle.toml_edit_model.specs.Lists.{slot_list, slots_from, item_list, items_from, on_items, is_item, is_dotted_inline}
 use Rattle.toml_edit_model.specs.ArrayCalls.{removed_at}
@@ -15,13 +16,13 @@ use Rattle.toml_edit_edit_laws.specs.CommandLaws.{text_with, RemoveDrops, Remove
 use Rattle.toml_edit_laws.proofs.locality.Removing.{removed}
 use Rattle.toml_edit_laws.proofs.locality.Sound.{leads-made}
 use Rattle.toml_edit_laws.proofs.locality.RemovingElements.{removed_element}
-use Rattle.toml_edit_edit_laws.proofs.commands.Going.{goes-along, changed-same, element-there}
+use Rattle.toml_edit_edit_laws.proofs.commands.Going.{goes-along, changed-same, element-there, made-goes, made-named}
 use Rattle.toml_edit_edit_laws.proofs.commands.Setting.{was-mapped, Stands, below-stands, value-changes}
 use Rattle.toml_edit_edit_laws.proofs.commands.Reading.{statements-read, edited-text}
 use Rattle.toml_edit_laws.proofs.normal_texts.SteadyTrees.{steady-tree}
 
 pub remove-goes-down : (j : Text) (more : List Text) (k : Text) (path : List Text) (n : Node)
-    → remove_below (k ∷ (path ++ (j ∷ more))) n ≡ child_changed false k (remove_below (path ++ (j ∷ more))) n
+    → remove_below (k ∷ (path ++ (j ∷ more))) n ≡ child_changed false (new_key k) (remove_below (path ++ (j ∷ more))) n
 remove-goes-down j more k [] n = refl
 remove-goes-down j more k (x ∷ path) n = refl
 
@@ -49,7 +50,7 @@ child-stands k nothing n is undotted h = absurd cc
 remove-stands : (x : Text) (inner : List Text) (old n : Node) → is_value_node old ≡ true → is_dotted_inline old ≡ false
     → remove_below (x ∷ inner) old ≡ done n → Stands old n
 remove-stands x [] old n is undotted h = child-stands x old n is undotted h
-remove-stands x (y ∷ inner) old n is undotted h = below-stands false x (remove_below (y ∷ inner)) old n is undotted h
+remove-stands x (y ∷ inner) old n is undotted h = below-stands false (new_key x) (remove_below (y ∷ inner)) old n is undotted h
 
 module _ (mode : Mode) where
   pub remove_drops : RemoveDrops mode
@@ -60,7 +61,7 @@ module _ (mode : Mode) where
       let here : remove_below (k ∷ []) (table v.fields v.slots) ≡ done (table v.fields (slots_from (without k (slot_list v.slots)))) =
       ap (λ o. mapped (λ xs. table v.fields (slots_from xs)) (drop_slot k (slot_list v.slots) (present o))) is_there
       ∙ ap (λ o. mapped (λ xs. table v.fields (slots_from xs)) (drop_slot k (slot_list v.slots) o)) (item-present s.key s.item is) in
-      let along = goes-along false remove_below (k ∷ []) (remove-goes-down k []) (without k) way path (root_visit t) v read.made names.goes
+      let along = goes-along new_key false remove_below (k ∷ []) (remove-goes-down k []) (without k) way path (root_visit t) v read.made (made-goes way path names.goes)
       names.leads here in (
         u,
         ap (mapped (with_slots t)) along,
@@ -96,12 +97,12 @@ module _ (mode : Mode) where
       let inside : remove_below (x ∷ []) (tables e xs) ≡ done (tables e (items_from (removed_at i (item_list xs)))) =
       ap (λ o. mapped (λ ns. tables e (items_from ns)) (drop_element (item_list xs) o)) element in
       let here : remove_below (k ∷ x ∷ []) (table v.fields v.slots) ≡ done (table v.fields (slots_from (g (slot_list v.slots)))) =
-      ap (λ o. mapped (λ ys. table v.fields (slots_from ys)) (change_slot false k (remove_below (x ∷ [])) (slot_list v.slots) o)) is_there
+      ap (λ o. mapped (λ ys. table v.fields (slots_from ys)) (change_slot false (new_key k) (remove_below (x ∷ [])) (slot_list v.slots) o)) is_there
       ∙ ap (λ a. mapped (λ ys. table v.fields (slots_from ys)) (mapped (λ m. changed k (with_item m) (slot_list v.slots)) a)) inside
       ∙ ap (λ ys. done (table v.fields (slots_from ys)))
       (changed-same k (with_item (tables e (items_from (removed_at i (item_list xs))))) (on_item (on_items (removed_at i))) v.slots
       (keyed l (tables e xs)) (leads-made way (root_visit t) v read.made names.leads) is_there refl) in
-      let along = goes-along false remove_below (k ∷ x ∷ []) (remove-goes-down k (x ∷ [])) g way path (root_visit t) v read.made names.goes
+      let along = goes-along new_key false remove_below (k ∷ x ∷ []) (remove-goes-down k (x ∷ [])) g way path (root_visit t) v read.made (made-goes way path names.goes)
       names.leads here in (
         u,
         ap (mapped (with_slots t)) along,
@@ -117,9 +118,9 @@ module _ (mode : Mode) where
 
   pub remove_changes : RemoveChanges mode
   remove_changes d t path v k l old x inner n read names is_there is_value gone =
-      value-changes mode false remove_below (k ∷ x ∷ inner) (remove-goes-down k (x ∷ inner)) d t path v k l old n read names is_there
+      value-changes mode new_key false remove_below (k ∷ x ∷ inner) (remove-goes-down k (x ∷ inner)) d t path v k l old n read (made-named t path v names) is_there
       is_value
       (λ undotted. remove-stands x inner old n is_value undotted gone)
-      (ap (λ o. mapped (λ xs. table v.fields (slots_from xs)) (change_slot false k (remove_below (x ∷ inner)) (slot_list v.slots) o))
+      (ap (λ o. mapped (λ xs. table v.fields (slots_from xs)) (change_slot false (new_key k) (remove_below (x ∷ inner)) (slot_list v.slots) o))
       is_there
       ∙ ap (λ a. mapped (λ xs. table v.fields (slots_from xs)) (mapped (λ m. changed k (with_item m) (slot_list v.slots)) a)) gone)

@@ -1,5 +1,5 @@
 -- `set` at a value of a table that the walk enters, or inside it.
-use Rattle.std.proofs.Common.{◌≡◌, refl, sym, ◌∙◌, ap, subst, Bool, true, false, List, [], ◌∷◌, ◌++◌, Some}
+use Rattle.std.proofs.Common.{◌≡◌, refl, sym, ◌∙◌, ap, subst, Bool, true, false, List, [], ◌∷◌, ◌++◌, map, Some}
 use Rattle.std.specs.Prelude.{not}
 use Rattle.toml_edit_model.specs.Normal.{normal_last}
 use Rattle.toml_edit_model.specs.Mode.{Mode}
@@ -12,7 +12,7 @@ use Rattle.toml_edit_model.specs.HeaderOrder.{Visit}
 use Rattle.toml_edit_model.specs.Fits.{is_steady_in}
 use Rattle.toml_edit_model.specs.Print.{Printed, printed, printed_line, printed_table, value_of, line_statement}
 use Rattle.toml_edit_model.specs.Conversions.{with_decor}
-use Rattle.toml_edit_model.specs.Keys.{new_key}
+use Rattle.toml_edit_model.specs.Keys.{cleared_key, names}
 use Rattle.toml_edit_model.specs.Slots.{Slot, keyed, with_item, lookup_slot, changed}
 use Rattle.toml_edit_model.specs.Lists.{slot_list, slots_from, item_list, items_from, is_dotted_inline}
 use Rattle.toml_edit_laws.specs.Locality.{Turn, root_visit, edited, is_plain_value, value_line, statements, OneChanges, OneMore}
@@ -59,22 +59,22 @@ with-decor-stands d (tables e xs) old h is = absurd cc
 with-decor-stands d nothing old h is = absurd cc
 
 -- the value after a change inside it
-pub below-stands : (makes : Bool) (k : Text) (go : Node → Answer Node) (old n : Node) → is_value_node old ≡ true → is_dotted_inline old
+pub below-stands : (makes : Bool) (k : Key) (go : Node → Answer Node) (old n : Node) → is_value_node old ≡ true → is_dotted_inline old
     ≡ false
     → child_changed makes k go old ≡ done n → Stands old n
 below-stands makes k go (leaf s r d) n is undotted h = absurd cc
 below-stands makes k go (list f xs) n is undotted h =
-    let w = was-mapped (λ ns. list f (items_from ns)) (change_element go (item_list xs) (element_of is_value_node k (item_list xs))) n h in
+    let w = was-mapped (λ ns. list f (items_from ns)) (change_element go (item_list xs) (element_of is_value_node k.name (item_list xs))) n h in
     subst (Stands (list f xs)) (sym w.gives) (refl, refl)
 below-stands makes k go (inline f ss) n is undotted h =
-    let w = was-mapped (λ xs. inline f (slots_from xs)) (change_slot makes k go (slot_list ss) (lookup_slot k (slot_list ss))) n h in
+    let w = was-mapped (λ xs. inline f (slots_from xs)) (change_slot makes k go (slot_list ss) (lookup_slot k.name (slot_list ss))) n h in
     subst (Stands (inline f ss)) (sym w.gives) (ap not undotted, refl)
 below-stands makes k go (table f ss) n is undotted h = absurd cc
 below-stands makes k go (tables e xs) n is undotted h = absurd cc
 below-stands makes k go nothing n is undotted h = absurd cc
 
 -- the value after `set` at it, or inside it
-set-stands : (value : Node) (inner : List Text) (old n : Node) → is_value_node old ≡ true → is_dotted_inline old ≡ false
+set-stands : (value : Node) (inner : List Key) (old n : Node) → is_value_node old ≡ true → is_dotted_inline old ≡ false
     → is_plain_value value ≡ true
     → set_below value inner old ≡ done n → Stands old n
 set-stands value [] (leaf s r d) n is undotted plain h =
@@ -88,11 +88,11 @@ set-stands value [] (table f ss) n is undotted plain h = absurd cc
 set-stands value [] (tables e xs) n is undotted plain h = absurd cc
 set-stands value [] nothing n is undotted plain h = absurd cc
 
-pub made-below-is : (value : Node) (more : List Text) → set_below value more nothing ≡ done (made_below more value)
+pub made-below-is : (value : Node) (more : List Key) → set_below value more nothing ≡ done (made_below more value)
 made-below-is value [] = refl
 made-below-is value (k ∷ more) = rw (made-below-is value more) refl
 
-made-below-plain : (value : Node) (more : List Text) → is_plain_value value ≡ true → is_plain_value (made_below more value) ≡ true
+made-below-plain : (value : Node) (more : List Key) → is_plain_value value ≡ true → is_plain_value (made_below more value) ≡ true
 made-below-plain value [] h = h
 made-below-plain value (k ∷ more) h = refl
 
@@ -151,36 +151,36 @@ module _ (mode : Mode) where
         }
 
   -- a command that changes a value of a table that the walk enters, on its way inside
-  module _ (makes : Bool) (run : List Text → Node → Answer Node) (rest : List Text)
-      (goes_down : (k : Text) (path : List Text) (n : Node) → run (k ∷ (path ++ rest)) n
-      ≡ child_changed makes k (run (path ++ rest)) n) where
-    pub value-changes : (d : Document) (t : Tree) (path : List Text) (v : Visit) (k : Text) (l : Key) (old n : Node)
-        → IsRead mode d t → (names : NamesTable t path v) → lookup_slot k (slot_list v.slots) ≡ Some (keyed l old) → is_value_node old
+  module _ {A : Type 0} (key_of : A → Key) (makes : Bool) (run : List A → Node → Answer Node) (rest : List A)
+      (goes_down : (k : A) (path : List A) (n : Node) → run (k ∷ (path ++ rest)) n
+      ≡ child_changed makes (key_of k) (run (path ++ rest)) n) where
+    pub value-changes : (d : Document) (t : Tree) (path : List A) (v : Visit) (k : Text) (l : Key) (old n : Node)
+        → IsRead mode d t → (named : NamesTable t (map (λ k. (key_of k).name) path) v) → lookup_slot k (slot_list v.slots) ≡ Some (keyed l old) → is_value_node old
         ≡ true
         → (is_dotted_inline old ≡ false → Stands old n)
         → run rest (table v.fields v.slots) ≡ done (table v.fields (slots_from (changed k (with_item n) (slot_list v.slots))))
         → (u : Tree) × (mapped (with_slots t) (run (path ++ rest) (root_item t)) ≡ done u)
         × ChangesStatement mode d t u (to_key v.path l.name) old n × StaysSteady mode t u
-    value-changes d t path v k l old n read names is_there is_value stands here =
-        let way = names.way in
+    value-changes d t path v k l old n read named is_there is_value stands here =
+        let way = named.way in
         let g : List (Slot Node) → List (Slot Node) = changed k (with_item n) in
         let u : Tree = edited way g t in
         let steady : is_steady_in mode t ≡ true = steady-tree mode d t read.tree in
         let st : Steady mode t = steady-parts mode t steady in
-        let well : SlotsAreWellMade v.slots = leads-made way (root_visit t) v read.made names.leads in
+        let well : SlotsAreWellMade v.slots = leads-made way (root_visit t) v read.made named.leads in
         let fd : Found k (keyed l old) (slot_list v.slots) = found k v.slots (keyed l old) well is_there in
-        let parts = sound-slot k (keyed l old) v.slots fd (leads-sound way (root_visit t) v read.made st.sound names.leads) in
+        let parts = sound-slot k (keyed l old) v.slots fd (leads-sound way (root_visit t) v read.made st.sound named.leads) in
         let new : Stands old n = stands parts.1 in
-        let law = replaced mode t way v k (λ x. x) l old n read.made steady names.leads is_there is_value new.0 refl in
-        let along = goes-along makes run rest goes_down g way path (root_visit t) v read.made names.goes names.leads here in
+        let law = replaced mode t way v k (λ x. x) l old n read.made steady named.leads is_there is_value new.0 refl in
+        let along = goes-along key_of makes run rest goes_down g way path (root_visit t) v read.made named.goes named.leads here in
         (u, ap (mapped (with_slots t)) along, changes-statement d t read way g (to_key v.path l.name) l old n new.1 law.0, law.1)
 
   pub set_changes : SetChanges mode
-  set_changes d t path v k l old inner value n read names is_there is_value plain set =
-      value-changes true (set_below value) (k ∷ inner) (λ j more n. refl) d t path v k l old n read names is_there is_value
+  set_changes d t path v k l old inner value n read named is_there is_value plain set =
+      value-changes (λ j. j) true (set_below value) (k ∷ inner) (λ j more n. refl) d t path v k.name l old n read named is_there is_value
       (λ undotted. set-stands value inner old n is_value undotted plain set)
       (ap (λ o. mapped (λ xs. table v.fields (slots_from xs)) (change_slot true k (set_below value inner) (slot_list v.slots) o)) is_there
-      ∙ ap (λ a. mapped (λ xs. table v.fields (slots_from xs)) (mapped (λ m. changed k (with_item m) (slot_list v.slots)) a)) set)
+      ∙ ap (λ a. mapped (λ xs. table v.fields (slots_from xs)) (mapped (λ m. changed k.name (with_item m) (slot_list v.slots)) a)) set)
 
   -- ---- a new key
 
@@ -208,16 +208,16 @@ module _ (mode : Mode) where
         }
 
   pub set_adds : SetAdds mode
-  set_adds d t path v k more value read names is_new plain has =
-      let way = names.way in
+  set_adds d t path v k more value read named is_new plain has =
+      let way = named.way in
       let n : Node = made_below more value in
-      let g : List (Slot Node) → List (Slot Node) = λ ss. ss ++ (keyed (new_key k) n ∷ []) in
-      let law = added mode t way v (new_key k) n read.made (steady-tree mode d t read.tree) names.leads is_new
+      let g : List (Slot Node) → List (Slot Node) = λ ss. ss ++ (keyed (cleared_key k) n ∷ []) in
+      let law = added mode t way v (cleared_key k) n read.made (steady-tree mode d t read.tree) named.leads is_new
       (made-below-plain value more plain) has in
       let here : set_below value (k ∷ more) (table v.fields v.slots) ≡ done (table v.fields (slots_from (g (slot_list v.slots)))) =
       ap (λ o. mapped (λ xs. table v.fields (slots_from xs)) (change_slot true k (set_below value more) (slot_list v.slots) o)) is_new
-      ∙ ap (λ a. mapped (λ xs. table v.fields (slots_from xs)) (mapped (λ m. slot_list v.slots ++ (keyed (new_key k) m ∷ [])) a))
+      ∙ ap (λ a. mapped (λ xs. table v.fields (slots_from xs)) (mapped (λ m. slot_list v.slots ++ (keyed (cleared_key k) m ∷ [])) a))
       (made-below-is value more) in
-      let along = goes-along true (set_below value) (k ∷ more) (λ j rest n. refl) g way path (root_visit t) v read.made names.goes
-      names.leads here in
-      (edited way g t, ap (mapped (with_slots t)) along, adds-statement d t read way g v (new_key k) n law.0, law.1)
+      let along = goes-along (λ j. j) true (set_below value) (k ∷ more) (λ j rest n. refl) g way path (root_visit t) v read.made named.goes
+      named.leads here in
+      (edited way g t, ap (mapped (with_slots t)) along, adds-statement d t read way g v (cleared_key k) n law.0, law.1)

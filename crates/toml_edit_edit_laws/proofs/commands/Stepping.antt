@@ -27,7 +27,7 @@ mapped-same f g (refused r) h = refl
 module _ (k : Text) (go : Node → Answer Node) (F : Slots → Node) (ss : Slots) where
   -- the slots with a place for the key, what is there, and what is written there
   slots-step : (o : Option (Slot Node)) (x : Node) → lookup_slot k (slot_list ss) ≡ o → lookup k (with_place k (slot_list ss)) ≡ Some x
-      → mapped (λ xs. F (slots_from xs)) (change_slot true k go (slot_list ss) o)
+      → mapped (λ xs. F (slots_from xs)) (change_slot true (new_key k) go (slot_list ss) o)
       ≡ mapped (λ y. F (slots_from (changed k (with_item y) (slot_list (slots_from (with_place k (slot_list ss))))))) (go x)
   slots-step (Some s) x e h =
       let is : with_place k (slot_list ss) ≡ slot_list ss = place-there k (slot_list ss) (there k (slot_list ss) s e).0 in
@@ -40,7 +40,7 @@ module _ (k : Text) (go : Node → Answer Node) (F : Slots → Node) (ss : Slots
       let new = not-there k (slot_list ss) e in
       let is : with_place k (slot_list ss) ≡ slot_list ss ++ one (keyed (new_key k) nothing) = place-new k (slot_list ss) new in
       let same : nothing ≡ x =
-      some-is nothing x (sym (ap (λ o. option_map (λ (r : Slot Node). r.item) o) (slot-last k nothing (slot_list ss) e))
+      some-is nothing x (sym (ap (λ o. option_map (λ (r : Slot Node). r.item) o) (slot-last (new_key k) nothing (slot_list ss) e))
       ∙ sym (ap (lookup k) is) ∙ h) in
       mapped-twice (λ xs. F (slots_from xs)) (λ m. slot_list ss ++ one (keyed (new_key k) m)) (go nothing)
       ∙ mapped-same _ _ (go nothing)
@@ -66,7 +66,7 @@ set_steps v k path (inline f ss) m x made under =
 set_steps v k path nothing m x made under =
     let is : inline new_inline (slots_from (with_place k [])) ≡ m = some-is _ m made in
     let same : nothing ≡ x =
-    some-is nothing x (sym (ap (λ o. option_map (λ (r : Slot Node). r.item) o) (slot-last k nothing [] refl)) ∙ ap (item_under k) is
+    some-is nothing x (sym (ap (λ o. option_map (λ (r : Slot Node). r.item) o) (slot-last (new_key k) nothing [] refl)) ∙ ap (item_under k) is
     ∙ under) in
     mapped-same _ _ (set_below v path nothing) (λ y. ap (λ es. inline new_inline (slots_from es))
     (sym (write-last (new_key k) nothing y [] refl)))

@@ -16,7 +16,7 @@ use Rattle.toml_edit_laws.specs.EditLists.{replace, remove, remove_element}
 use Rattle.toml_edit_edit_laws.specs.Commands.{done, mapped, child_changed, element_of, item_below, change_slot, drop_slot, drop_element}
 use Rattle.toml_edit_edit_laws.specs.Commands.{root_item, remove_below, with_slots, remove_at}
 use Rattle.toml_edit_edit_laws.proofs.commands.Finding.{removed_was_there, remove_finds}
-use Rattle.toml_edit_edit_laws.proofs.commands.Going.{goes-along, changed-same, element-there}
+use Rattle.toml_edit_edit_laws.proofs.commands.Going.{goes-along, changed-same, element-there, made-goes}
 use Rattle.toml_edit_edit_laws.proofs.commands.Removing.{remove-goes-down}
 use Rattle.toml_edit_edit_laws.proofs.commands.Setting.{done-is, was-mapped}
 use Rattle.toml_edit_edit_laws.proofs.commands.Apart.{skip}
@@ -33,7 +33,7 @@ there-removes : (t : Tree) (x : Text) (inner : List Text) (top found : Node) →
 there-removes t x inner top found h =
     let one : Tree = record t { slots = slot (new_key []) top no_slots } in
     let r = remove_finds one [] (x ∷ inner) found (skip x inner (new_key []) top ∙ h) in
-    let root = was-mapped (with_slots one) (child_changed false [] (remove_below (x ∷ inner)) (root_item one)) r.0 r.1 in
+    let root = was-mapped (with_slots one) (child_changed false (new_key []) (remove_below (x ∷ inner)) (root_item one)) r.0 r.1 in
     let slots = was-mapped (λ xs. table t.root (slots_from xs))
     (mapped (λ m. changed [] (with_item m) (slot_list one.slots)) (remove_below (x ∷ inner) top)) root.from root.is in
     let item = was-mapped (λ m. changed [] (with_item m) (slot_list one.slots)) (remove_below (x ∷ inner) top) slots.from slots.is in
@@ -52,11 +52,11 @@ module _ (mode : Mode) (t u : Tree) (path : List Text) (found : Node) (p : Spot 
 
   left : (more : List Text) (g : List (Slot Node) → List (Slot Node)) → p.inner ≡ more
       → ((k : Text) (q : List Text) (n : Node) → remove_below (k ∷ (q ++ (p.segment ∷ more))) n
-      ≡ child_changed false k (remove_below (q ++ (p.segment ∷ more))) n)
+      ≡ child_changed false (new_key k) (remove_below (q ++ (p.segment ∷ more))) n)
       → remove_below (p.segment ∷ more) (table w.fields w.slots) ≡ done (table w.fields (slots_from (g (slot_list w.slots))))
       → u ≡ edited p.way g t
   left more g is down here =
-      let along = goes-along false remove_below (p.segment ∷ more) down g p.way p.front (root_visit t) w made p.goes p.leads here in
+      let along = goes-along new_key false remove_below (p.segment ∷ more) down g p.way p.front (root_visit t) w made (made-goes p.way p.front p.goes) p.leads here in
       done-is u (edited p.way g t)
       (sym gone ∙ ap (λ q. mapped (with_slots t) (remove_below q (root_item t))) (p.path_is
       ∙ ap (λ (z : List Text). p.front ++ (p.segment ∷ z)) is) ∙ ap (mapped (with_slots t)) along)
@@ -84,7 +84,7 @@ module _ (mode : Mode) (t u : Tree) (path : List Text) (found : Node) (p : Spot 
       let inside : remove_below (y ∷ []) (tables e.extent e.items) ≡ done (tables e.extent (items_from (removed_at i (item_list e.items)))) =
       ap (λ o. mapped (λ ns. tables e.extent (items_from ns)) (drop_element (item_list e.items) o)) element in
       let here : remove_below (p.segment ∷ y ∷ []) (table w.fields w.slots) ≡ done (table w.fields (slots_from (g (slot_list w.slots)))) =
-      ap (λ o. mapped (λ ys. table w.fields (slots_from ys)) (change_slot false p.segment (remove_below (y ∷ [])) (slot_list w.slots) o)) there
+      ap (λ o. mapped (λ ys. table w.fields (slots_from ys)) (change_slot false (new_key p.segment) (remove_below (y ∷ [])) (slot_list w.slots) o)) there
       ∙ ap (λ a. mapped (λ ys. table w.fields (slots_from ys)) (mapped (λ m. changed p.segment (with_item m) (slot_list w.slots)) a)) inside
       ∙ ap (λ ys. done (table w.fields (slots_from ys)))
       (changed-same p.segment (with_item (tables e.extent (items_from (removed_at i (item_list e.items))))) (on_item (on_items (removed_at i)))
@@ -99,7 +99,7 @@ module _ (mode : Mode) (t u : Tree) (path : List Text) (found : Node) (p : Spot 
       let undotted = (sound-slot p.segment (keyed p.key p.top) w.slots there-is (leads-sound p.way (root_visit t) w made st.sound p.leads)).1 in
       let stands = remove-stands y more p.top n.0 value undotted n.1 in
       let here : remove_below (p.segment ∷ y ∷ more) (table w.fields w.slots) ≡ done (table w.fields (slots_from (g (slot_list w.slots)))) =
-      ap (λ o. mapped (λ xs. table w.fields (slots_from xs)) (change_slot false p.segment (remove_below (y ∷ more)) (slot_list w.slots) o))
+      ap (λ o. mapped (λ xs. table w.fields (slots_from xs)) (change_slot false (new_key p.segment) (remove_below (y ∷ more)) (slot_list w.slots) o))
       p.there
       ∙ ap (λ a. mapped (λ xs. table w.fields (slots_from xs)) (mapped (λ m. changed p.segment (with_item m) (slot_list w.slots)) a)) n.1 in
       edit-of mode (removes path) t u (replace p.way p.segment (λ l. l) n.0) made steady (y, more, at (y ∷ more) is, λ l. refl) (

@@ -1,5 +1,5 @@
 -- Worked calls by paths, and the statements that they leave, by computation.
-use Rattle.std.specs.Prelude.{◌≡◌, refl, Bool, true, false, List, [], ◌∷◌, ◌++◌, codes}
+use Rattle.std.specs.Prelude.{◌≡◌, refl, Bool, true, false, List, [], ◌∷◌, ◌++◌, codes, Some}
 use Rattle.std.specs.Fmt.{digits}
 use Rattle.toml_edit_model.specs.Text.{Text, is_empty, one, same_text}
 use Rattle.toml_edit_model.specs.Mode.{plain}
@@ -9,7 +9,7 @@ use Rattle.toml_edit_model.specs.Print.{lines_of, print, printed}
 use Rattle.toml_edit_model.specs.Fits.{is_steady}
 use Rattle.toml_edit_model.specs.HeaderOrder.{visit_of}
 use Rattle.toml_edit_model.specs.Keys.{new_key}
-use Rattle.toml_edit_model.specs.Tree.{Node, no_slots, Tree}
+use Rattle.toml_edit_model.specs.Tree.{owned, Key, Node, no_slots, Tree}
 use Rattle.toml_edit_model.specs.TreeOf.{owned_form}
 use Rattle.toml_edit_model.specs.Conversions.{new_table}
 use Rattle.toml_edit_model.specs.Slots.{Slot, keyed, with_item, changed, without}
@@ -33,14 +33,18 @@ name = codes "a"
 abbrev under : Text
 under = codes "b"
 
-sets_below_a_table : IsEditAt (sets (name ∷ under ∷ []) four) (replace (into_table name ∷ []) under (λ k. k) four)
+-- a key that is spelled in quotes
+abbrev quoted : Key
+quoted = record (new_key name) { spelling = Some (owned (codes "'a'")) }
+
+sets_below_a_table : IsEditAt (sets (new_key name ∷ new_key under ∷ []) four) (replace (into_table name ∷ []) under (λ k. k) four)
 sets_below_a_table = ([], (name ∷ [], (refl, tt), refl), λ l. refl)
 
-sets_inside_a_value : IsEditAt (sets (name ∷ under ∷ []) four) (replace [] name (λ k. k) four)
+sets_inside_a_value : IsEditAt (sets (new_key name ∷ new_key under ∷ []) four) (replace [] name (λ k. k) four)
 sets_inside_a_value = (under ∷ [], ([], tt, refl), λ l. refl)
 
-sets_a_new_key : IsEditAt (sets (name ∷ under ∷ []) four) (add [] (new_key name) (made_below (under ∷ []) four))
-sets_a_new_key = (under ∷ [], ([], tt, refl), refl, refl)
+sets_a_new_key : IsEditAt (sets (quoted ∷ new_key under ∷ []) four) (add [] quoted (made_below (new_key under ∷ []) four))
+sets_a_new_key = ([], quoted, new_key under ∷ [], tt, refl, refl, refl)
 
 removes_a_slot : IsEditAt (removes (name ∷ under ∷ [])) (remove (into_table name ∷ []) under)
 removes_a_slot = (name ∷ [], (refl, tt), refl)
@@ -50,7 +54,7 @@ unfolding digits
 removes_an_element = (codes "2", ([], tt, refl), refl)
 
 -- a `set_at` removes nothing
-sets_remove_nothing : IsEditAt (sets (name ∷ []) four) (remove [] name) → ⊥
+sets_remove_nothing : IsEditAt (sets (new_key name ∷ []) four) (remove [] name) → ⊥
 sets_remove_nothing h = h
 
 -- ---- what stays

@@ -1,5 +1,5 @@
 -- Worked commands on trees of texts: what is written, or the refusal, by computation.
-use Rattle.std.specs.Prelude.{◌≡◌, refl, ℕ, zero, suc, Bool, true, false, not, ◌&&◌, List, [], ◌∷◌, codes}
+use Rattle.std.specs.Prelude.{◌≡◌, refl, ℕ, zero, suc, Bool, true, false, not, ◌&&◌, List, [], ◌∷◌, ◌++◌, codes, map, Some}
 use Rattle.std.specs.List.{list_all}
 use Rattle.std.specs.Fmt.{digits}
 use Rattle.toml_edit_model.specs.Mode.{plain}
@@ -7,7 +7,8 @@ use Rattle.toml_edit_model.specs.Text.{Text, newline, same_text}
 use Rattle.toml_edit_model.specs.Scalars.{string}
 use Rattle.toml_edit_model.specs.Syntax.{Segment, scalar, array, inline_table, no_elements, element, no_pairs, Statement, header, Document}
 use Rattle.toml_edit_model.specs.Syntax.{keeps_limits}
-use Rattle.toml_edit_model.specs.Tree.{Node, no_items, item, Tree}
+use Rattle.toml_edit_model.specs.Tree.{owned, Key, Node, no_items, item, Tree}
+use Rattle.toml_edit_model.specs.Keys.{new_key}
 use Rattle.toml_edit_model.specs.Print.{print, statements_of}
 use Rattle.toml_edit_model.specs.TreeOf.{owned_form}
 use Rattle.toml_edit_model.specs.examples.ComputedTree.{tree_of}
@@ -38,10 +39,14 @@ shows text (refused r) = false
 abbrev tree : Document → Tree
 tree d = tree_of owned_form d
 
+-- `set` at a path of keys in their default spelling
+abbrev set_names : List Text → Node → Tree → Answer Tree
+set_names path v t = set_at (map new_key path) v t
+
 -- the document's print, and what `set` and `remove` of it write, or `get` of it
 abbrev sets : Document → Text → List Text → Node → Text → Bool
 sets d before path v after =
-    same_text (print (tree d)) before && writes after (set_at path v (tree d))
+    same_text (print (tree d)) before && writes after (set_names path v (tree d))
 
 abbrev removes : Document → Text → List Text → Text → Bool
 removes d before path after =
@@ -100,6 +105,21 @@ set_new_path : sets empty [] (ka ∷ kb ∷ kc ∷ []) (plain_int 1) (codes "a =
     ≡ true
 unfolding digits print
 set_new_path = refl
+
+-- a missing key is spelled as the path spells it
+abbrev quoted : Text → Key
+quoted k = record (new_key k) { spelling = Some (owned (codes "'" ++ (k ++ codes "'"))) }
+
+set_as_spelled : writes (codes "'a' = { b = { 'c' = 1 } }\n")
+    (set_at (quoted ka ∷ new_key kb ∷ quoted kc ∷ []) (plain_int 1) (tree empty)) ≡ true
+unfolding digits print
+set_as_spelled = refl
+
+-- a key that is there keeps its spelling
+set_at_other_spelling : writes (codes "a = { b = 2 } # c\n")
+    (set_at (quoted ka ∷ quoted kb ∷ []) (plain_int 2) (tree inline_one)) ≡ true
+unfolding digits print
+set_at_other_spelling = refl
 
 -- ---- lines, and elements
 
@@ -176,15 +196,15 @@ one_line = document (line (a ∷ []) one_value ∷ [])
 
 -- below a scalar, and no such key
 refusals : all_true (
-    refuses wrong_kind (set_at (ka ∷ kb ∷ []) (plain_int 1) (tree one_line))
+    refuses wrong_kind (set_names (ka ∷ kb ∷ []) (plain_int 1) (tree one_line))
     ∷ refuses no_such_path (get_text (ka ∷ kb ∷ []) (tree one_line))
     ∷ refuses no_such_path (remove_at (ka ∷ kb ∷ []) (tree one_line))
     ∷ refuses no_such_path (get_text (kb ∷ []) (tree one_line))
     ∷ refuses no_such_path (remove_at (kb ∷ []) (tree one_line))
     ∷ refuses no_such_path (remove_at (kb ∷ kc ∷ []) (tree one_line))
-    ∷ refuses wrong_kind (set_at (ka ∷ []) (plain_int 1) (tree two_tables))
-    ∷ refuses wrong_kind (set_at (ka ∷ []) (plain_int 1) (tree two_in_array))
-    ∷ refuses wrong_kind (set_at (ka ∷ codes "0" ∷ []) (plain_int 1) (tree two_in_array))
+    ∷ refuses wrong_kind (set_names (ka ∷ []) (plain_int 1) (tree two_tables))
+    ∷ refuses wrong_kind (set_names (ka ∷ []) (plain_int 1) (tree two_in_array))
+    ∷ refuses wrong_kind (set_names (ka ∷ codes "0" ∷ []) (plain_int 1) (tree two_in_array))
     ∷ []
     ) ≡ true
 unfolding digits print
@@ -196,8 +216,8 @@ no_elements_there : all_true (
     ∷ refuses no_such_path (get_text (ka ∷ codes "01" ∷ []) (tree two_elements))
     ∷ refuses no_such_path (get_text (ka ∷ codes "+1" ∷ []) (tree two_elements))
     ∷ refuses no_such_path (get_text (ka ∷ [] ∷ []) (tree two_elements))
-    ∷ refuses no_such_path (set_at (ka ∷ codes "2" ∷ []) (plain_int 1) (tree two_elements))
-    ∷ refuses no_such_path (set_at (ka ∷ kx ∷ kx ∷ []) (plain_int 1) (tree two_in_array))
+    ∷ refuses no_such_path (set_names (ka ∷ codes "2" ∷ []) (plain_int 1) (tree two_elements))
+    ∷ refuses no_such_path (set_names (ka ∷ kx ∷ kx ∷ []) (plain_int 1) (tree two_in_array))
     ∷ refuses no_such_path (remove_at (ka ∷ codes "00" ∷ []) (tree two_in_array))
     ∷ refuses no_such_path (remove_at (ka ∷ codes "x" ∷ kx ∷ []) (tree two_in_array))
     ∷ []
@@ -215,7 +235,7 @@ keeps (done u) = list_all keeps_limits (statements_of plain u)
 keeps (refused r) = false
 
 -- 80 brackets of a value, and an inline table around them, are too many; by themselves they aren't
-limits : all_true (not (keeps (set_at (ka ∷ kb ∷ []) (nested 79) (tree empty)))
-    ∷ keeps (set_at (ka ∷ []) (nested 79) (tree empty)) ∷ []) ≡ true
+limits : all_true (not (keeps (set_names (ka ∷ kb ∷ []) (nested 79) (tree empty)))
+    ∷ keeps (set_names (ka ∷ []) (nested 79) (tree empty)) ∷ []) ≡ true
 unfolding digits print
 limits = refl
