@@ -1,7 +1,8 @@
 -- The tree of a document whose root was changed.
 use Rattle.std.proofs.Common.{◌≡◌, refl, sym, ap, ◌∙◌, rules, true, false, List, [], ◌∷◌, Option, Some, None, Result, Ok, Err}
 use Rattle.toml_edit_model.specs.Text.{Text}
-use Rattle.toml_edit_model.specs.Tree.{Raw, Node, nothing, leaf, list, inline, table, tables, TableFields, Slots, Tree}
+use Rattle.toml_edit_model.specs.Keys.{new_key}
+use Rattle.toml_edit_model.specs.Tree.{Key, Raw, Node, nothing, leaf, list, inline, table, tables, TableFields, Slots, Tree}
 use Rattle.toml_edit_model.specs.Slots.{Slot, lookup_slot}
 use Rattle.toml_edit_model.specs.Lists.{slot_list, slots_from}
 use Rattle.toml_edit_edit_laws.specs.Commands.{Answer, Refusal, done, refused, no_such_path, wrong_kind, mapped, root_slots, root_item}
@@ -41,25 +42,27 @@ module _ (t u : Tree) (trailing : u.trailing ≡ t.trailing) where
       (was-mapped (λ xs. table t.root (slots_from xs)) a (root_item u) h).gives))
       ∙ ap (tree u.root u.slots) (sym trailing)
 
-  pub set-done : (path : List Text) (v : Node) → set_below v path (root_item t) ≡ done (root_item u) → set_at path v t ≡ done u
+  pub set-done : (path : List Key) (v : Node) → set_below v path (root_item t) ≡ done (root_item u) → set_at path v t ≡ done u
   set-done [] v h = cc
   set-done (k ∷ path) v h =
       ap (mapped (with_slots t)) h
-      ∙ ap done (slots-change (change_slot true k (set_below v path) (slot_list t.slots) (lookup_slot k (slot_list t.slots))) h)
+      ∙ ap done (slots-change (change_slot true k (set_below v path) (slot_list t.slots) (lookup_slot k.name (slot_list t.slots))) h)
 
-  pub headers-done : (path : List Text) (v : Node) → set_headed_below v path (root_item t) ≡ done (root_item u)
+  pub headers-done : (path : List Key) (v : Node) → set_headed_below v path (root_item t) ≡ done (root_item u)
       → set_at_with_headers path v t ≡ done u
   headers-done [] v h = cc
   headers-done (k ∷ path) v h =
       ap (mapped (with_slots t)) h
-      ∙ ap done (slots-change (change_slot true k (set_headed_below v path) (slot_list t.slots) (lookup_slot k (slot_list t.slots))) h)
+      ∙ ap done
+      (slots-change (change_slot true k (set_headed_below v path) (slot_list t.slots) (lookup_slot k.name (slot_list t.slots))) h)
 
   pub replaced-done : (path : List Text) (m n : Node) → item_inside path (root_item t) ≡ Some n → replaced_below path m (root_item t)
       ≡ done (root_item u) → replaced_at path m t ≡ done u
   replaced-done [] m n there h = absurd cc
   replaced-done (k ∷ path) m n there h =
       ap (mapped (with_slots t)) h
-      ∙ ap done (slots-change (change_slot false k (replaced_below path m) (slot_list t.slots) (lookup_slot k (slot_list t.slots))) h)
+      ∙ ap done
+      (slots-change (change_slot false (new_key k) (replaced_below path m) (slot_list t.slots) (lookup_slot k (slot_list t.slots))) h)
 
   pub remove-done : (path : List Text) → remove_below path (root_item t) ≡ done (root_item u) → remove_at path t ≡ done u
   remove-done [] h = cc
@@ -68,7 +71,8 @@ module _ (t u : Tree) (trailing : u.trailing ≡ t.trailing) where
       h)
   remove-done (k ∷ l ∷ path) h =
       ap (mapped (with_slots t)) h
-      ∙ ap done (slots-change (change_slot false k (remove_below (l ∷ path)) (slot_list t.slots) (lookup_slot k (slot_list t.slots))) h)
+      ∙ ap done
+      (slots-change (change_slot false (new_key k) (remove_below (l ∷ path)) (slot_list t.slots) (lookup_slot k (slot_list t.slots))) h)
 
   pub remove-line-done : (path : List Text) → remove_line_below path (root_item t) ≡ done (root_item u) → remove_line_at path t ≡ done u
   remove-line-done [] h = cc
@@ -77,7 +81,8 @@ module _ (t u : Tree) (trailing : u.trailing ≡ t.trailing) where
       h)
   remove-line-done (k ∷ l ∷ path) h =
       ap (mapped (with_slots t)) h
-      ∙ ap done (slots-change (change_slot false k (remove_line_below (l ∷ path)) (slot_list t.slots) (lookup_slot k (slot_list t.slots))) h)
+      ∙ ap done
+      (slots-change (change_slot false (new_key k) (remove_line_below (l ∷ path)) (slot_list t.slots) (lookup_slot k (slot_list t.slots))) h)
 
 -- ---- the root that a document lends
 
@@ -118,7 +123,7 @@ module _ (d : DocumentMut) (t w : Table) (fields : fields_view t ≡ (tree_owned
   changed (Err WrongKind) meant seen is_done is_refused h = (is_refused wrong_kind h.0, stays h.1)
   changed (Err Memory) meant seen is_done is_refused h = stays h
 
-  pub set-root : (path : List Text) (v : Node) (r : Result (Unit {0}) ChangeFault)
+  pub set-root : (path : List Key) (v : Node) (r : Result (Unit {0}) ChangeFault)
       → Changes (set_below v path (node_of t)) (node_of t) (node_of w) r
       → Changes (set_at path v (tree_owned d)) (tree_owned d) (tree_under (items.Table w) d.trailing) r
   set-root path v r =
@@ -148,7 +153,7 @@ module _ (d : DocumentMut) (t w : Table) (fields : fields_view t ≡ (tree_owned
       ∙ ap done is)
       (λ q h. ap (mapped (with_slots (tree_owned d))) (ap (remove_line_below path) (sym was) ∙ h))
 
-  pub headers-root : (path : List Text) (v : Node) (r : Result (Unit {0}) ChangeFault)
+  pub headers-root : (path : List Key) (v : Node) (r : Result (Unit {0}) ChangeFault)
       → Changes (set_headed_below v path (node_of t)) (node_of t) (node_of w) r
       → Changes (set_at_with_headers path v (tree_owned d)) (tree_owned d) (tree_under (items.Table w) d.trailing) r
   headers-root path v r =

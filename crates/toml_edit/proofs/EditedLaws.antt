@@ -4,7 +4,8 @@ use Rattle.std.specs.Prelude.{OnOk}
 use Rattle.toml_edit_model.specs.Text.{Text}
 use Rattle.toml_edit_model.specs.Mode.{Mode, plain}
 use Rattle.toml_edit_model.specs.Paths.{Path, to_key}
-use Rattle.toml_edit_model.specs.Tree.{Node, Tree}
+use Rattle.toml_edit_model.specs.Keys.{names}
+use Rattle.toml_edit_model.specs.Tree.{Key, Node, Tree}
 use Rattle.toml_edit_edit_laws.specs.Commands.{Answer, done, set_at, remove_at}
 use Rattle.toml_edit_laws.specs.EditLists.{named_path}
 use Rattle.toml_edit_edit_laws.specs.PathEdits.{PathCall, sets, removes, called, path_of_call, NamesSlot, OneCallMore, RemoveEdits, SetAddsAfterLines}
@@ -36,6 +37,10 @@ read-so law text d reading p =
       plain = p;
     }
 
+names-join : (path more : List Key) → names (path ++ more) ≡ names path ++ names more
+names-join [] more = refl
+names-join (k ∷ path) more = ap (λ xs. k.name ∷ xs) (names-join path more)
+
 module _ (both : (mode : Mode) → OneAfterAnother mode) (more : OneCallMore) (d e : DocumentMut) (same : IsPrintedAs e d) where
   one-more : (c : PathCall) (p : Path) (text : Text) (calls : List PathCall) → IsEditedFrom text calls d
       → called c (tree_owned d) ≡ done (tree_owned e) → NamesSlot (tree_owned d) (path_of_call c) p
@@ -61,21 +66,29 @@ module _ (both : (mode : Mode) → OneAfterAnother mode) (more : OneCallMore) (d
       one-more (removes path) (named_path plain x.edit (tree_owned d) x.applies) text calls from is x.names x.stays
 
   pub set-so : ((mode : Mode) → SetReplaces mode) → ((mode : Mode) → SetAddsUnder mode) → ((mode : Mode) → SetAddsAfterLines mode)
-      → (path : List Text) (v : Node) → set_at path v (tree_owned d) ≡ done (tree_owned e) → IsPlainValue v
+      → (path : List Key) (v : Node) → set_at path v (tree_owned d) ≡ done (tree_owned e) → IsPlainValue v
       → MayBePut (tree_owned d) path → EditsBy (sets path v) d e
   set-so replaces adds lines path v is (flat, well) (at_value old there value) text calls from =
       let s = from.edited.stays in
       let x = replaces plain (tree_owned d) (tree_owned e) path v old s.made s.steady.2 well flat there value is in
       one-more (sets path v) (named_path plain x.edit (tree_owned d) x.applies) text calls from is x.names x.stays
-  set-so replaces adds lines path v is (flat, well) (in_block front k w same-path names new has) text calls from =
+  set-so replaces adds lines path v is (flat, well) (in_block front k w same-path spelled named new has) text calls from =
       let s = from.edited.stays in
-      let x = adds plain (tree_owned d) (tree_owned e) front w k [] v s.made s.steady.2 well flat names new has
+      let x = adds plain (tree_owned d) (tree_owned e) front w k [] v s.made s.steady.2 well flat (spelled, tt) named new has
       (ap (λ q. set_at q v (tree_owned d)) (sym same-path) ∙ is) in
       let p : Path = named_path plain x.edit (tree_owned d) x.applies in
-      one-more (sets path v) p text calls from is (subst (λ q. NamesSlot (tree_owned d) q p) (sym same-path) x.names) x.stays
-  set-so replaces adds lines path v is (flat, well) (after_lines front k w same-path names new some) text calls from =
+      one-more (sets path v) p text calls from is (subst (λ q. NamesSlot (tree_owned d) (names q) p) (sym same-path) x.names) x.stays
+  set-so replaces adds lines path v is (flat, well) (after_lines front k w same-path spelled named new some) text calls from =
       let s = from.edited.stays in
-      let x = lines plain (tree_owned d) (tree_owned e) front w k [] v s.made s.steady.2 well flat names new some
+      let x = lines plain (tree_owned d) (tree_owned e) front w k [] v s.made s.steady.2 well flat (spelled, tt) named new some
       (ap (λ q. set_at q v (tree_owned d)) (sym same-path) ∙ is) in
-      one-more (sets path v) (to_key w.path k) text calls from is
-      (record { front = front; key = k; inner = []; table = w; is = same-path; named = names; at = refl }) x.1
+      one-more (sets path v) (to_key w.path k.name) text calls from is
+      (record {
+        front = names front;
+        key = k.name;
+        inner = [];
+        table = w;
+        is = ap names same-path ∙ names-join front (k ∷ []);
+        named = named;
+        at = refl;
+      }) x.1

@@ -15,3 +15,4 @@ pub mod TailLaws
 pub mod HoldLaws
 pub mod AtLaws
 pub mod EditedLaws
+pub mod HeadedLaws

@@ -3,10 +3,12 @@ use Rattle.std.specs.Prelude.{◌≡◌, true, false, List, [], ◌∷◌, ◌++
 use Rattle.toml_edit_model.specs.Text.{Text, is_empty}
 use Rattle.toml_edit_model.specs.Mode.{plain}
 use Rattle.toml_edit_model.specs.Paths.{Path}
-use Rattle.toml_edit_model.specs.Tree.{Node, IsWellMade, Tree, is_value_node}
+use Rattle.toml_edit_model.specs.Tree.{HasTrueSpelling, IsWellMade, Key, Node, Tree, is_value_node}
 use Rattle.toml_edit_model.specs.HeaderOrder.{Visit}
+use Rattle.toml_edit_model.specs.Keys.{names}
 use Rattle.toml_edit_model.specs.Print.{lines_of, print_in}
 use Rattle.toml_edit_model.specs.Slots.{lookup_slot}
+use Rattle.toml_edit_model.specs.Spelling.{SpellsKey}
 use Rattle.toml_edit_model.specs.Lists.{slot_list}
 use Rattle.toml_edit_laws.specs.Locality.{is_plain_value, has_block}
 use Rattle.toml_edit_edit_laws.specs.Commands.{item_at}
@@ -49,13 +51,15 @@ abbrev pub IsPlainValue : Node → Type 0
 IsPlainValue n = (is_plain_value n ≡ true) × IsWellMade n
 
 -- where a value may be put so that one statement changes or is added: a value is there, or the key
--- is new, in the root, in a table whose header is printed, or in one that has lines, as a dotted
--- table has
-pub data MayBePut (t : Tree) (path : List Text) : Type 0 where
-  at_value : (old : Node) → item_at path t ≡ Some old → is_value_node old ≡ true → MayBePut t path
-  in_block : (front : List Text) (k : Text) (w : Visit) → path ≡ front ++ (k ∷ [])
-      → NamesTable t front w → lookup_slot k (slot_list w.slots) ≡ None
-      → has_block plain w ≡ true → MayBePut t path
-  after_lines : (front : List Text) (k : Text) (w : Visit) → path ≡ front ++ (k ∷ [])
-      → NamesTable t front w → lookup_slot k (slot_list w.slots) ≡ None
-      → is_empty (lines_of plain w) ≡ false → MayBePut t path
+-- is new and spells its name, in the root, in a table whose header is printed, or in one that has
+-- lines, as a dotted table has
+pub data MayBePut (t : Tree) (path : List Key) : Type 0 where
+  at_value : (old : Node) → item_at (names path) t ≡ Some old → is_value_node old ≡ true
+      → MayBePut t path
+  in_block : (front : List Key) (k : Key) (w : Visit) → path ≡ front ++ (k ∷ [])
+      → HasTrueSpelling (SpellsKey k.name) k.spelling → NamesTable t (names front) w
+      → lookup_slot k.name (slot_list w.slots) ≡ None → has_block plain w ≡ true → MayBePut t path
+  after_lines : (front : List Key) (k : Key) (w : Visit) → path ≡ front ++ (k ∷ [])
+      → HasTrueSpelling (SpellsKey k.name) k.spelling → NamesTable t (names front) w
+      → lookup_slot k.name (slot_list w.slots) ≡ None → is_empty (lines_of plain w) ≡ false
+      → MayBePut t path

@@ -1,5 +1,5 @@
 -- What `set` and `remove` change of the statements of what was read.
-use Rattle.std.specs.Prelude.{◌≡◌, ℕ, true, List, [], ◌∷◌, ◌++◌, Some, None}
+use Rattle.std.specs.Prelude.{◌≡◌, ℕ, true, List, [], ◌∷◌, ◌++◌, map, Some, None}
 use Rattle.toml_edit_model.specs.Text.{Text}
 use Rattle.toml_edit_model.specs.Mode.{Mode}
 use Rattle.toml_edit_model.specs.Syntax.{Document}
@@ -10,8 +10,12 @@ use Rattle.toml_edit_model.specs.Keys.{new_key}
 use Rattle.toml_edit_model.specs.Slots.{Slot, keyed, lookup_slot}
 use Rattle.toml_edit_model.specs.Lists.{slot_list}
 use Rattle.toml_edit_laws.specs.Locality.{into_element, Leads, has_block}
-use Rattle.toml_edit_edit_laws.specs.Commands.{done, number_of, set_below, set_at, remove_below, remove_at}
+use Rattle.toml_edit_edit_laws.specs.Commands.{Answer, done, number_of, set_below, set_at, remove_below, remove_at}
 use Rattle.toml_edit_edit_laws.specs.CommandLaws.{NamesTable, ChangesStatement, AddsStatement, DropsStatements, made_below}
+
+-- `set_at` of keys with these names: a missing one gets its default spelling
+abbrev pub set_names : List Text → Node → Tree → Answer Tree
+set_names names v t = set_at (map new_key names) v t
 
 -- A claim about the key that ends a path in a table that the walk of the print enters: about the
 -- table's path, the visit of that table, the key, and the keys below it.
@@ -29,7 +33,7 @@ module _ (mode : Mode) where
       AtKey t names
       (λ path v k inner. (l : Key) (old n : Node)
       → lookup_slot k (slot_list v.slots) ≡ Some (keyed l old) → is_value_node old ≡ true
-      → set_below value inner old ≡ done n
+      → set_below value (map new_key inner) old ≡ done n
       → ChangesStatement mode d t u (to_key v.path l.name) old n)
 
   -- At a new key of the root or of a table that has a header, or below one: one statement more,
@@ -38,11 +42,11 @@ module _ (mode : Mode) where
   AddsOne d t u names value =
       AtKey t names
       (λ path v k more. lookup_slot k (slot_list v.slots) ≡ None → has_block mode v ≡ true
-      → AddsStatement mode d t u v (new_key k) (made_below more value))
+      → AddsStatement mode d t u v (new_key k) (made_below (map new_key more) value))
 
   -- The second tree is the first with the value at the path, all else as it was.
   pub record Sets (d : Document) (t u : Tree) (names : List Text) (value : Node) : Type 0 where
-    pub done : set_at names value t ≡ done u
+    pub done : set_names names value t ≡ done u
     pub changes : ChangesOne d t u names value
     pub adds : AddsOne d t u names value
 

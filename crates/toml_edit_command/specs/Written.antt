@@ -9,13 +9,13 @@ use Rattle.toml_edit_model.specs.Normal.{normal_in, normal_text_in}
 use Rattle.toml_edit_model.specs.Fits.{FitsIn}
 use Rattle.toml_edit_model.specs.Print.{print_in}
 use Rattle.toml_edit_model.specs.Tree.{Tree}
-use Rattle.toml_edit_edit_laws.specs.Commands.{Refusal, done, refused, get_text, set_at, remove_at}
+use Rattle.toml_edit_edit_laws.specs.Commands.{Refusal, done, refused, get_text, remove_at}
 use Rattle.toml_edit_edit_laws.specs.CommandLaws.{IsRead}
 use Rattle.toml_edit.specs.DocumentView.{mode_owned, open_owned, tree_owned}
 use Rattle.toml_edit.specs.Documents.{HasNormalText, MeansWhatIsShown, opens}
 use Rattle.toml_edit.specs.declared.document.DocumentMut.{DocumentMut}
 use Rattle.toml_edit_command.specs.Words.{Action, printing, getting, setting, removing}
-use Rattle.toml_edit_command.specs.Edits.{Sets, Removes}
+use Rattle.toml_edit_command.specs.Edits.{Sets, Removes, set_names}
 
 module _ (mode : Mode) where
   -- The version accepts the bytes with this cut, and their normal text too, and this is the tree of
@@ -54,14 +54,14 @@ module _ (mode : Mode) where
 abbrev pub Changes : Action → Tree → Tree → Type 0
 Changes printing t u = ⊥
 Changes (getting names) t u = ⊥
-Changes (setting names n) t u = set_at names n t ≡ done u
+Changes (setting names n) t u = set_names names n t ≡ done u
 Changes (removing names) t u = remove_at names t ≡ done u
 
 -- there is nothing to be done at the path
 abbrev pub Refuses : Action → Tree → Refusal → Type 0
 Refuses printing t r = ⊥
 Refuses (getting names) t r = get_text names t ≡ refused r
-Refuses (setting names n) t r = set_at names n t ≡ refused r
+Refuses (setting names n) t r = set_names names n t ≡ refused r
 Refuses (removing names) t r = remove_at names t ≡ refused r
 
 -- ---- by what is held of it
@@ -94,5 +94,5 @@ IsPrintFor h u x = IsPrintOf h.mode h.is_open u x
 abbrev pub Makes : Action → Held → Text → Type 0
 Makes printing h x = x ≡ print_in h.mode h.is_open h.tree
 Makes (getting names) h x = get_text names h.tree ≡ done x
-Makes (setting names n) h x = (u : Tree) × (set_at names n h.tree ≡ done u) × IsPrintFor h u x
+Makes (setting names n) h x = (u : Tree) × (set_names names n h.tree ≡ done u) × IsPrintFor h u x
 Makes (removing names) h x = (u : Tree) × (remove_at names h.tree ≡ done u) × IsPrintFor h u x

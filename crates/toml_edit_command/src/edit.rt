@@ -1,11 +1,11 @@
 //! The commands `set` and `remove`.
-ghost use Rattle.std.specs.Prelude.{◌≡◌, false, IfErr, OnOk};
+ghost use Rattle.std.specs.Prelude.{◌≡◌, false, map, IfErr, OnOk};
 ghost use Rattle.toml_edit_tree.specs.View.{value_view};
 ghost use Rattle.toml_edit_command.specs.Run.{written};
 ghost use Rattle.toml_edit_command.specs.Steps.{Printed, StopsActing, StopsPrinting, Wrote, error_for};
 ghost use Rattle.toml_edit_command.specs.Words.{removing, setting};
 ghost use Rattle.toml_edit_command.specs.Written.{held};
-ghost use Rattle.toml_edit_model.specs.Keys.{names};
+ghost use Rattle.toml_edit_model.specs.Keys.{names, new_key};
 
 use crate::act::print;
 use crate::error::{CommandError, RunError};
@@ -13,26 +13,37 @@ use std::alloc::Global;
 use toml_edit::{ChangeFault, DocumentMut, Key, Value};
 use toml_edit_io::Output;
 
-/// Puts the value at the path, and writes the document.
+/// Puts the value at the path, and writes the document. A missing key gets its default spelling, as
+/// PATH may be spelled as TOML 1.0 does not allow.
 pub fn set<O: Output>(
     alloc: Global,
     document: &mut DocumentMut,
-    path: &[Key],
+    mut path: Vec<Key>,
     value: Value,
     output: &mut O,
 ) -> Result<(), RunError>
     requires { O.has_failed output.old ≡ false }
     ensures wrote { OnOk result
-        (Wrote (setting (names path.now) (value_view value)) (held document.old)
+        (Wrote (setting (names path.items) (value_view value)) (held document.old)
         (written O.contents O.has_failed output.old output.new)) }
     ensures ok { OnOk result (O.has_failed output.new ≡ false) }
     ensures err { IfErr result
-        (StopsActing (setting (names path.now) (value_view value)) (held document.old)
+        (StopsActing (setting (names path.items) (value_view value)) (held document.old)
         (written O.contents O.has_failed output.old output.new)) }
 {
-    match document.set_at(path, value) {
+    reset_keys(path.as_mut_slice());
+    match document.set_at(path.as_slice(), value) {
         Ok(()) => write_fitting(alloc, document, output),
         Err(fault) => Err(error_of(fault)),
+    }
+}
+
+/// Resets the spelling and the decors of each key.
+fn reset_keys(keys: &mut [Key])
+    ensures { keys.new ≡ map new_key (names keys.old) }
+{
+    for key in keys.iter_mut() {
+        key.fmt();
     }
 }
 

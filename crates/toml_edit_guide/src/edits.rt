@@ -3,7 +3,7 @@ ghost use Rattle.std.specs.Prelude.{◌≡◌, [], ◌∷◌, IfOk, IsTrue, OnOk
 ghost use Rattle.toml_edit.specs.DocumentView.{tree_owned};
 ghost use Rattle.toml_edit.specs.Edited.{EditsBy, IsEditedText, MayBePut};
 ghost use Rattle.toml_edit.specs.edits.PathEdits.{removes, sets};
-ghost use Rattle.toml_edit.specs.model.Keys.{names};
+ghost use Rattle.toml_edit.specs.model.Keys.{names, new_key};
 ghost use Rattle.toml_edit_guide.specs.Values.{flag_node, string_node};
 
 use crate::editing::print_edited;
@@ -29,8 +29,7 @@ pub fn set_two(
     two: &str,
 ) -> Result<String, EditFault>
     ensures { IfOk result (λ s. ∥ IsEditedText text.now
-        (sets (names first.now) (string_node one.now)
-        ∷ sets (names second.now) (string_node two.now) ∷ []) (string_bytes s) ∥₁) }
+        (sets first.now (string_node one.now) ∷ sets second.now (string_node two.now) ∷ []) (string_bytes s) ∥₁) }
 {
     let mut document = DocumentMut::from_str(alloc, text)?;
     replace(alloc, &mut document, first, one)?;
@@ -54,7 +53,7 @@ pub fn release(
     gone: &[Key],
 ) -> Result<String, EditFault>
     ensures { IfOk result (λ s. ∥ IsEditedText text.now
-        (sets (names version.now) (string_node value.now) ∷ sets (flag.now ∷ []) flag_node
+        (sets version.now (string_node value.now) ∷ sets (new_key flag.now ∷ []) flag_node
         ∷ removes (names gone.now) ∷ []) (string_bytes s) ∥₁) }
 {
     let mut document = DocumentMut::from_str(alloc, text)?;
@@ -72,7 +71,7 @@ fn replace(
     text: &str,
 ) -> Result<(), EditFault>
     ensures { OnOk result
-        (EditsBy (sets (names path.now) (string_node text.now)) document.old document.new) }
+        (EditsBy (sets path.now (string_node text.now)) document.old document.new) }
 {
     if !has_value(document, path) {
         return Err(EditFault::Missing);
@@ -83,7 +82,7 @@ fn replace(
 
 /// Returns whether there is a value at a path.
 fn has_value(document: &DocumentMut, path: &[Key]) -> bool
-    ensures { IsTrue result → MayBePut (tree_owned document.now) (names path.now) }
+    ensures { IsTrue result → MayBePut (tree_owned document.now) path.now }
 {
     match document.get_at(path) {
         Some(item) => item.is_value(),
@@ -93,7 +92,8 @@ fn has_value(document: &DocumentMut, path: &[Key]) -> bool
 
 /// Adds `true` under a new key of the root.
 fn add_flag(alloc: Global, document: &mut DocumentMut, name: &str) -> Result<(), EditFault>
-    ensures { OnOk result (EditsBy (sets (name.now ∷ []) flag_node) document.old document.new) }
+    ensures { OnOk result
+        (EditsBy (sets (new_key name.now ∷ []) flag_node) document.old document.new) }
 {
     path_edits();
     if document.as_table().key(name).is_some() {

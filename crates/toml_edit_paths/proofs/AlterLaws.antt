@@ -6,7 +6,7 @@ use Rattle.toml_edit_model.specs.Tree.{Key, Node, nothing, leaf, list, inline, t
 use Rattle.toml_edit_model.specs.ArrayCalls.{written_at}
 use Rattle.toml_edit_model.specs.Slots.{Slot, changed, lookup_slot, with_item}
 use Rattle.toml_edit_model.specs.Lists.{is_item, items_in, on_items, on_slots, only, slots_in}
-use Rattle.toml_edit_model.specs.Keys.{names}
+use Rattle.toml_edit_model.specs.Keys.{names, new_key}
 use Rattle.toml_edit_edit_laws.specs.Commands.{Answer, done, mapped, present, second, and_then, item_below, element_of, change_slot}
 use Rattle.toml_edit_edit_laws.specs.Commands.{change_element}
 use Rattle.toml_edit_slots.specs.Slots as held
@@ -86,7 +86,7 @@ module _ {F R : Type 0} (g : Change F R) (f : F) where
   in-slots k path n ss new r h change =
       renamed _ _ _ _ _ _ r (slots-kept n ss h) refl
       (carried (λ xs. on_slots (λ _. xs) n) _ _ _ _ ss new r (found-in-slots k path n ss h)
-      (λ m. sym (slots-go false k (replaced_below path m) n ss h)) change)
+      (λ m. sym (slots-go false (new_key k) (replaced_below path m) n ss h)) change)
 
   pub in-items : (k : Text) (path : List Text) (n : Node) (ns new : List Node) (r : Option R) → items_in n ≡ Some ns
       → ChangesElement g f (kind_of (is_value_node n)) k path ns new r
@@ -94,7 +94,7 @@ module _ {F R : Type 0} (g : Change F R) (f : F) where
   in-items k path n ns new r h change =
       renamed _ _ _ _ _ _ r (items-kept n ns h) refl
       (carried (λ l. on_items (λ _. l) n) _ _ _ _ ns new r (found-in-items k path n ns h)
-      (λ m. sym (items-go false k (replaced_below path m) n ns h)) change)
+      (λ m. sym (items-go false (new_key k) (replaced_below path m) n ns h)) change)
 
   -- ---- the item of a slot, and an element
 
@@ -110,7 +110,7 @@ module _ {F R : Type 0} (g : Change F R) (f : F) where
       renamed _ _ (make (item_view x)) (make (item_view y)) _ _ r (sym (pairs-with k es at x first h)
       ∙ ap shown_slots (with-same es at x there)) (sym (pairs-with k es at y first h))
       (carried make _ _ _ _ (item_view x) (item_view y) r (ap (λ o. and_then (item_below path) (present o)) s.1)
-      (λ n. ap (change_slot false k (replaced_below path n) ss) s.1) change)
+      (λ n. ap (change_slot false (new_key k) (replaced_below path n) ss) s.1) change)
 
   pub in-element : (is : Node → Bool) (k : Text) (path : List Text) (xs : List Item) (i : ℕ) (d y : Item) (r : Option R) → Some i
       ≡ place_named is k (listed xs) → i < length xs

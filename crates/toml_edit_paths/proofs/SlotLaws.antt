@@ -112,18 +112,18 @@ with-same (e ∷ es) zero x h = ap (λ (y : Item). record { key = e.key; item = 
 with-same (e ∷ es) (suc at) x h = ap (λ r. e ∷ r) (with-same es at x h)
 
 -- a change of the item is one of the slots
-pub slot-changes : (makes : Bool) (k : Text) (go : Node
+pub slot-changes : (makes : Bool) (k : Key) (go : Node
     → Answer Node) (es : List (Slot Item)) (at : ℕ) (x y : Item) (r : Result (Unit {0}) ChangeFault)
-    → IsFirstOfName es → place k es ≡ Some at → Some x ≡ slice_get (items_of es) at
+    → IsFirstOfName es → place k.name es ≡ Some at → Some x ≡ slice_get (items_of es) at
     → Changes (go (item_view x)) (item_view x) (item_view y) r
-    → Changes (change_slot makes k go (shown_slots es) (model.lookup_slot k (shown_slots es))) (shown_slots es)
+    → Changes (change_slot makes k go (shown_slots es) (model.lookup_slot k.name (shown_slots es))) (shown_slots es)
     (shown_slots (with_item at y es)) r
 slot-changes makes k go es at x y r first h g change =
-    let s = slot-some k es at x h g in
-    let F = λ (m : Node). changed k (model.with_item m) (shown_slots es) in
+    let s = slot-some k.name es at x h g in
+    let F = λ (m : Node). changed k.name (model.with_item m) (shown_slots es) in
     renamed (mapped F (go (item_view x))) _ (F (item_view x)) (F (item_view y)) _ _ r
-    (ap (change_slot makes k go (shown_slots es)) (sym s.1)) (sym (pairs-with k es at x first h)
-    ∙ ap shown_slots (with-same es at x g)) (sym (pairs-with k es at y first h))
+    (ap (change_slot makes k go (shown_slots es)) (sym s.1)) (sym (pairs-with k.name es at x first h)
+    ∙ ap shown_slots (with-same es at x g)) (sym (pairs-with k.name es at y first h))
     (carried F (go (item_view x)) (item_view x) (item_view y) r change)
 
 -- ---- a new slot

@@ -7,7 +7,7 @@ use Rattle.toml_edit_model.specs.Shown.{is_table_node}
 use Rattle.toml_edit_model.specs.Slots.{Slot, lookup_slot}
 use Rattle.toml_edit_model.specs.Text.{Text}
 use Rattle.toml_edit_model.specs.Tree.{Key, Node, nothing, leaf, list, inline, table, tables, is_value_node}
-use Rattle.toml_edit_model.specs.Keys.{names}
+use Rattle.toml_edit_model.specs.Keys.{names, new_key}
 use Rattle.toml_edit_edit_laws.specs.Commands.{Answer, refused, no_such_path, mapped, child, child_changed, change_element, change_slot}
 use Rattle.toml_edit_edit_laws.specs.Commands.{drop_element, drop_slot, element_of, present, remove_below, second}
 use Rattle.toml_edit_laws.proofs.common.OptionSteps.{some-is}
@@ -32,12 +32,12 @@ slots-kept (list f xs) ss h = absurd cc
 slots-kept (tables e xs) ss h = absurd cc
 slots-kept nothing ss h = absurd cc
 
-pub slots-go : (makes : Bool) (k : Text) (go : Node → Answer Node) (n : Node) (ss : List (Slot Node)) → slots_in n ≡ Some ss
-    → mapped (λ xs. on_slots (λ _. xs) n) (change_slot makes k go ss (lookup_slot k ss)) ≡ child_changed makes k go n
+pub slots-go : (makes : Bool) (k : Key) (go : Node → Answer Node) (n : Node) (ss : List (Slot Node)) → slots_in n ≡ Some ss
+    → mapped (λ xs. on_slots (λ _. xs) n) (change_slot makes k go ss (lookup_slot k.name ss)) ≡ child_changed makes k go n
 slots-go makes k go (table f s) ss h =
-    sym (ap (λ l. mapped (λ xs. table f (slots_from xs)) (change_slot makes k go l (lookup_slot k l))) (some-is (slot_list s) ss h))
+    sym (ap (λ l. mapped (λ xs. table f (slots_from xs)) (change_slot makes k go l (lookup_slot k.name l))) (some-is (slot_list s) ss h))
 slots-go makes k go (inline f s) ss h =
-    sym (ap (λ l. mapped (λ xs. inline f (slots_from xs)) (change_slot makes k go l (lookup_slot k l))) (some-is (slot_list s) ss h))
+    sym (ap (λ l. mapped (λ xs. inline f (slots_from xs)) (change_slot makes k go l (lookup_slot k.name l))) (some-is (slot_list s) ss h))
 slots-go makes k go (leaf s r d) ss h = absurd cc
 slots-go makes k go (list f xs) ss h = absurd cc
 slots-go makes k go (tables e xs) ss h = absurd cc
@@ -61,7 +61,7 @@ slots-removed k [] (leaf s r d) ss h = absurd cc
 slots-removed k [] (list f xs) ss h = absurd cc
 slots-removed k [] (tables e xs) ss h = absurd cc
 slots-removed k [] nothing ss h = absurd cc
-slots-removed k (l ∷ path) n ss h = slots-go false k (remove_below (l ∷ path)) n ss h
+slots-removed k (l ∷ path) n ss h = slots-go false (new_key k) (remove_below (l ∷ path)) n ss h
 
 -- a change of the slots is one of the item
 pub slots-change : (m : Answer (List (Slot Node))) (n : Node) (ss new : List (Slot Node)) (r : Result (Unit {0}) ChangeFault) → slots_in n
@@ -80,12 +80,12 @@ items-kept (inline f ss) ns h = absurd cc
 items-kept (table f ss) ns h = absurd cc
 items-kept nothing ns h = absurd cc
 
-pub items-go : (makes : Bool) (k : Text) (go : Node → Answer Node) (n : Node) (ns : List Node) → items_in n ≡ Some ns
-    → mapped (λ l. on_items (λ _. l) n) (change_element go ns (element_of (kind_of (is_value_node n)) k ns)) ≡ child_changed makes k go n
+pub items-go : (makes : Bool) (k : Key) (go : Node → Answer Node) (n : Node) (ns : List Node) → items_in n ≡ Some ns
+    → mapped (λ l. on_items (λ _. l) n) (change_element go ns (element_of (kind_of (is_value_node n)) k.name ns)) ≡ child_changed makes k go n
 items-go makes k go (list f xs) ns h =
-    sym (ap (λ l. mapped (λ xs. list f (items_from xs)) (change_element go l (element_of is_value_node k l))) (some-is (item_list xs) ns h))
+    sym (ap (λ l. mapped (λ xs. list f (items_from xs)) (change_element go l (element_of is_value_node k.name l))) (some-is (item_list xs) ns h))
 items-go makes k go (tables e xs) ns h =
-    sym (ap (λ l. mapped (λ xs. tables e (items_from xs)) (change_element go l (element_of is_table_node k l)))
+    sym (ap (λ l. mapped (λ xs. tables e (items_from xs)) (change_element go l (element_of is_table_node k.name l)))
     (some-is (item_list xs) ns h))
 items-go makes k go (leaf s r d) ns h = absurd cc
 items-go makes k go (inline f ss) ns h = absurd cc
@@ -111,7 +111,7 @@ items-removed k [] (leaf s r d) ns h = absurd cc
 items-removed k [] (inline f ss) ns h = absurd cc
 items-removed k [] (table f ss) ns h = absurd cc
 items-removed k [] nothing ns h = absurd cc
-items-removed k (l ∷ path) n ns h = items-go false k (remove_below (l ∷ path)) n ns h
+items-removed k (l ∷ path) n ns h = items-go false (new_key k) (remove_below (l ∷ path)) n ns h
 
 -- a change of the items is one of the item
 pub items-change : (m : Answer (List Node)) (n : Node) (ns new : List Node) (r : Result (Unit {0}) ChangeFault) → items_in n ≡ Some ns

@@ -2,6 +2,7 @@
 use Rattle.std.specs.Borrow.{MutBor}
 use Rattle.std.specs.Fn.{Once, FnOnceReturnsAtMut, FnOnceTakesAtMut}
 use Rattle.std.specs.Prelude.{◌≡◌, Bool, false, List, [], ◌∷◌, Option, Some, None}
+use Rattle.toml_edit_model.specs.Keys.{new_key}
 use Rattle.toml_edit_model.specs.Slots.{Slot, lookup_slot}
 use Rattle.toml_edit_model.specs.Text.{Text}
 use Rattle.toml_edit_model.specs.Tree.{Node, Tree}
@@ -18,7 +19,7 @@ item_inside (k ∷ path) n = item_below (k ∷ path) n
 -- another item in place of the one at the path
 abbrev pub replaced_below : List Text → Node → Node → Answer Node
 replaced_below [] m n = done m
-replaced_below (k ∷ path) m n = child_changed false k (replaced_below path m) n
+replaced_below (k ∷ path) m n = child_changed false (new_key k) (replaced_below path m) n
 
 -- the tree with it
 abbrev pub replaced_at : List Text → Node → Tree → Answer Tree
@@ -59,7 +60,7 @@ abbrev pub ChangesSlot : {F R : Type 0} → Change F R → F → Text → List T
     → List (Slot Node) → List (Slot Node) → Option R → Type 0
 ChangesSlot g f k path old new r =
     ChangesFound g f (and_then (item_below path) (present (lookup_slot k old)))
-    (λ left. change_slot false k (replaced_below path left) old (lookup_slot k old)) old new r
+    (λ left. change_slot false (new_key k) (replaced_below path left) old (lookup_slot k old)) old new r
 
 -- and at a path below the element of this kind that a text names
 abbrev pub ChangesElement : {F R : Type 0} → Change F R → F → (Node → Bool) → Text → List Text

@@ -2,6 +2,7 @@
 use Rattle.std.specs.Prelude.{◌≡◌, Bool, false, List, [], ◌∷◌, Result, Ok, Err}
 use Rattle.toml_edit_model.specs.Text.{Text}
 use Rattle.toml_edit_model.specs.Tree.{Node}
+use Rattle.toml_edit_model.specs.Keys.{new_key}
 use Rattle.toml_edit_model.specs.Slots.{Slot, lookup_slot}
 use Rattle.toml_edit_edit_laws.specs.Commands.{Answer, done, refused, no_such_path, wrong_kind, present, element_of, change_slot, change_element}
 use Rattle.toml_edit_edit_laws.specs.Commands.{drop_slot, drop_element, remove_below}
@@ -20,7 +21,7 @@ Changes meant old new (Err Memory) = new ≡ old
 -- that of its first
 abbrev pub removed_slot : Text → List Text → List (Slot Node) → Answer (List (Slot Node))
 removed_slot k [] ss = drop_slot k ss (present (lookup_slot k ss))
-removed_slot k (l ∷ path) ss = change_slot false k (remove_below (l ∷ path)) ss (lookup_slot k ss)
+removed_slot k (l ∷ path) ss = change_slot false (new_key k) (remove_below (l ∷ path)) ss (lookup_slot k ss)
 
 -- the elements of this kind, likewise
 abbrev pub removed_element : (Node → Bool) → Text → List Text → List Node → Answer (List Node)

@@ -1,7 +1,7 @@
 //! Making the tables that are missing above a value.
-ghost use Rattle.std.specs.Prelude.{◌≡◌, ◌∷◌, ◌++◌, [], Bool, None, OnErr, OnOk};
+ghost use Rattle.std.specs.Prelude.{◌≡◌, ◌∷◌, ◌++◌, [], Bool, None, IfOk, OnErr, OnOk};
 ghost use Rattle.toml_edit_model.specs.Conversions.{new_table};
-ghost use Rattle.toml_edit_model.specs.Keys.{new_key, names};
+ghost use Rattle.toml_edit_model.specs.Keys.{cleared_key};
 ghost use Rattle.toml_edit_model.specs.Slots.{keyed};
 ghost use Rattle.toml_edit_model.specs.Text.{one};
 ghost use Rattle.toml_edit_model.specs.Tree.{no_slots, slot, table};
@@ -14,7 +14,7 @@ ghost use Rattle.toml_edit_paths.specs.Setting.{made_by};
 use std::alloc::{AllocError, Global};
 use std::mem;
 use toml_edit_key::Key;
-use toml_edit_repr::Mem;
+use toml_edit_repr::{Decor, Mem};
 use toml_edit_slots::{Slot, Slots};
 use toml_edit_tree::{InlineTable, Item, Table, Value};
 
@@ -22,16 +22,16 @@ use toml_edit_tree::{InlineTable, Item, Table, Value};
 /// of memory, what is left is unspecified.
 pub(crate) fn wrap_below(alloc: Global, path: &[Key], value: &mut Item, headers: bool) -> Mem<()>
     ensures { OnOk result
-        (item_view value.new ≡ made_by headers (names path.now) (item_view value.old)) }
+        (item_view value.new ≡ made_by headers path.now (item_view value.old)) }
 {
     match path.split_first() {
         None => Ok(()),
         Some((key, rest)) => {
             wrap_below(alloc, rest, value, headers)?;
             if headers {
-                wrap_in_table(alloc, key.get(), !rest.is_empty(), value)
+                wrap_in_table(alloc, key, !rest.is_empty(), value)
             } else {
-                wrap_in_inline_table(alloc, key.get(), value)
+                wrap_in_inline_table(alloc, key, value)
             }
         }
     }
@@ -39,7 +39,7 @@ pub(crate) fn wrap_below(alloc: Global, path: &[Key], value: &mut Item, headers:
 
 /// Wraps a value in an inline table that has it under the key. If out of memory, what is left is
 /// unspecified.
-fn wrap_in_inline_table(alloc: Global, key: &str, value: &mut Item) -> Mem<()>
+fn wrap_in_inline_table(alloc: Global, key: &Key, value: &mut Item) -> Mem<()>
     ensures { OnOk result (item_view value.new ≡ made_below (key.now ∷ []) (item_view value.old)) }
 {
     let mut table = InlineTable::new(alloc);
@@ -57,9 +57,9 @@ fn wrap_in_inline_table(alloc: Global, key: &str, value: &mut Item) -> Mem<()>
 
 /// Wraps an item in a table that has it under the key. If out of memory, what is left is
 /// unspecified.
-fn wrap_in_table(alloc: Global, key: &str, implicit: bool, item: &mut Item) -> Mem<()>
+fn wrap_in_table(alloc: Global, key: &Key, implicit: bool, item: &mut Item) -> Mem<()>
     ensures { OnOk result (item_view item.new ≡ table (record new_table { is_implicit = implicit })
-        (slot (new_key key.now) (item_view item.old) no_slots)) }
+        (slot (cleared_key key.now) (item_view item.old) no_slots)) }
 {
     let mut table = Table::new(alloc);
     table.set_implicit(implicit);
@@ -75,16 +75,16 @@ fn wrap_in_table(alloc: Global, key: &str, implicit: bool, item: &mut Item) -> M
     }
 }
 
-/// Pushes the item under a new key of this name. What is left in its place is unspecified. If out
-/// of memory, the slots are unchanged.
-pub(crate) fn push_new(slots: &mut Slots<Item>, key: &str, item: &mut Item) -> Mem<()>
-    requires { place key.now slots.old ≡ None }
+/// Pushes the item under a copy of the key without its decors. What is left in its place is
+/// unspecified. If out of memory, the slots are unchanged.
+pub(crate) fn push_new(slots: &mut Slots<Item>, key: &Key, item: &mut Item) -> Mem<()>
+    requires { place key.now.name slots.old ≡ None }
     ensures made { OnOk result
         (shown_slots slots.new
-        ≡ shown_slots slots.old ++ one (keyed (new_key key.now) (item_view item.old))) }
+        ≡ shown_slots slots.old ++ one (keyed (cleared_key key.now) (item_view item.old))) }
     ensures err { OnErr result (slots.new ≡ slots.old) }
 {
-    let key = Key::from_text(slots.allocator(), key)?;
+    let key = without_decors(slots.allocator(), key)?;
     let item = mem::replace(item, Item::None);
     match slots.push(Slot { key, item }) {
         Ok(()) => Ok(()),
@@ -93,4 +93,12 @@ pub(crate) fn push_new(slots: &mut Slots<Item>, key: &str, item: &mut Item) -> M
             Err(AllocError)
         }
     }
+}
+
+/// Returns a copy of the key, with its name and its spelling alone.
+fn without_decors(alloc: Global, key: &Key) -> Mem<Key>
+    ensures { IfOk result (λ copy. copy ≡ cleared_key key.now) }
+{
+    let copy = key.clone(alloc)?;
+    Ok(copy.with_leaf_decor(Decor::default()).with_dotted_decor(Decor::default()))
 }

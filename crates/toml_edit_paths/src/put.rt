@@ -3,7 +3,6 @@ ghost use Rattle.std.specs.Prelude.{◌≡◌, ◌∷◌, Bool, true, false};
 ghost use Rattle.toml_edit_model.specs.Conversions.{with_decor};
 ghost use Rattle.toml_edit_model.specs.Slots.{lookup_slot};
 ghost use Rattle.toml_edit_model.specs.Tree.{node_decor, nothing};
-ghost use Rattle.toml_edit_model.specs.Keys.{names};
 ghost use Rattle.toml_edit_edit_laws.specs.Commands.{change_slot, set_below, set_here};
 ghost use Rattle.toml_edit_tree.specs.Containers.{table_node};
 ghost use Rattle.toml_edit_tree.specs.Indexed.{shown_slots};
@@ -24,9 +23,10 @@ use toml_edit_tree::{Item, Table, Value};
 /// Puts the value at the path below the root.
 ///
 /// A value that is there is replaced, and its decor stays. A placeholder in a table is filled, and
-/// one in an array is not found. A missing key is added at the end of its table, in default spelling
-/// and with inline tables down to the value if more are missing. A segment below an array or an array
-/// of tables is the number of an element, as [`number_of`](crate::number_of) reads it.
+/// one in an array is not found. A missing key is added at the end of its table, in the spelling
+/// that the path has, and with inline tables down to the value if more are missing. A segment below
+/// an array or an array of tables is the number of an element, as
+/// [`number_of`](crate::number_of) reads it.
 ///
 /// # Errors
 ///
@@ -34,7 +34,7 @@ use toml_edit_tree::{Item, Table, Value};
 /// of tables at the end of the path or a scalar before it, and with `Memory` if out of memory. The
 /// root is unchanged then.
 pub fn set(alloc: Global, root: &mut Table, path: &[Key], value: Value) -> Result<(), ChangeFault>
-    ensures { Changes (set_below (value_view value) (names path.now)
+    ensures { Changes (set_below (value_view value) path.now
         (table_node (table_view root.old))) (table_node (table_view root.old))
         (table_node (table_view root.new)) result }
 {
@@ -59,7 +59,7 @@ pub fn set_with_headers(
     path: &[Key],
     value: Value,
 ) -> Result<(), ChangeFault>
-    ensures { Changes (set_headed_below (value_view value) (names path.now)
+    ensures { Changes (set_headed_below (value_view value) path.now
         (table_node (table_view root.old))) (table_node (table_view root.old))
         (table_node (table_view root.new)) result }
 {
@@ -75,7 +75,7 @@ fn set_value(
     value: Value,
     headers: bool,
 ) -> Result<(), ChangeFault>
-    ensures { Changes (set_by headers (value_view value) (names path.now)
+    ensures { Changes (set_by headers (value_view value) path.now
         (table_node (table_view root.old))) (table_node (table_view root.old))
         (table_node (table_view root.new)) result }
 {
@@ -93,7 +93,7 @@ fn set_in_root(
     value: &mut Item,
     headers: bool,
 ) -> Result<(), ChangeFault>
-    ensures { Changes (set_by headers (item_view value.old) (names path.now)
+    ensures { Changes (set_by headers (item_view value.old) path.now
         (table_node (table_view root.old))) (table_node (table_view root.old))
         (table_node (table_view root.new)) result }
 {
@@ -113,7 +113,7 @@ fn set_in_item(
     value: &mut Item,
     headers: bool,
 ) -> Result<(), ChangeFault>
-    ensures { Changes (set_by headers (item_view value.old) (names path.now) (item_view item.old))
+    ensures { Changes (set_by headers (item_view value.old) path.now (item_view item.old))
         (item_view item.old) (item_view item.new) result }
 {
     let Some((key, rest)) = path.split_first() else {
@@ -147,8 +147,8 @@ fn set_in_slots(
     value: &mut Item,
     headers: bool,
 ) -> Result<(), ChangeFault>
-    ensures { Changes (change_slot true key.now.name
-        (set_by headers (item_view value.old) (names rest.now)) (shown_slots slots.old)
+    ensures { Changes (change_slot true key.now
+        (set_by headers (item_view value.old) rest.now) (shown_slots slots.old)
         (lookup_slot key.now.name (shown_slots slots.old)))
         (shown_slots slots.old) (shown_slots slots.new) result }
 {
@@ -158,7 +158,7 @@ fn set_in_slots(
         Some(at) => set_in_item(alloc, slots.item_mut(at), rest, value, headers),
         None => {
             wrap_below(alloc, rest, value, headers)?;
-            push_new(slots, key.get(), value)?;
+            push_new(slots, key, value)?;
             Ok(())
         }
     }
@@ -180,7 +180,7 @@ fn fill_below(
     headers: bool,
 ) -> Result<(), ChangeFault>
     requires { item_view item.old ≡ nothing }
-    ensures { Changes (set_by headers (item_view value.old) (names path.now) (item_view item.old))
+    ensures { Changes (set_by headers (item_view value.old) path.now (item_view item.old))
         (item_view item.old) (item_view item.new) result }
 {
     wrap_below(alloc, path, value, headers)?;

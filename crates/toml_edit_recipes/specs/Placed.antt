@@ -9,7 +9,7 @@ use Rattle.toml_edit.specs.parser.ReadKeys.{AreLoneKeys}
 -- the value is set at the path, as `set_at` defines it
 abbrev pub IsSetAt : Text → Node → Tree → Tree → Type 0
 IsSetAt path value old new =
-    (keys : List Key) × AreLoneKeys path keys × (set_at (names keys) value old ≡ done new)
+    (keys : List Key) × AreLoneKeys path keys × (set_at keys value old ≡ done new)
 
 -- the item at the path is removed, as `remove_at` defines it
 abbrev pub IsRemovedAt : Text → Tree → Tree → Type 0

@@ -30,12 +30,12 @@ pub fn set_string_at(
     text: &str,
 ) -> Mem<bool>
     ensures set { IfOk result (λ is_set. IsTrue is_set
-        → set_at (names path.now) (leaf (string text.now) None unset) (tree_owned document.old)
+        → set_at path.now (leaf (string text.now) None unset) (tree_owned document.old)
         ≡ done (tree_owned document.new)) }
     ensures unset { IfOk result (λ is_set. ¬ (IsTrue is_set)
         → tree_owned document.new ≡ tree_owned document.old) }
     ensures refused { IfOk result (λ is_set. ¬ (IsTrue is_set)
-        → (why : Refusal) × (set_at (names path.now) (leaf (string text.now) None unset)
+        → (why : Refusal) × (set_at path.now (leaf (string text.now) None unset)
         (tree_owned document.old) ≡ refused why)) }
     ensures err { OnErr result (tree_owned document.new ≡ tree_owned document.old) }
 {
@@ -54,7 +54,7 @@ pub fn set_string_at(
 /// As [`DocumentMut::set_at`].
 pub fn configure(document: &mut DocumentMut, path: &[Key], value: Value) -> Result<(), ChangeFault>
     ensures { Changes
-        (set_at_with_headers (names path.now) (value_view value) (tree_owned document.old))
+        (set_at_with_headers path.now (value_view value) (tree_owned document.old))
         (tree_owned document.old) (tree_owned document.new) result }
 {
     document.set_at_with_headers(path, value)

@@ -39,10 +39,10 @@ impl DocumentMut {
     ///
     /// A value that is there is replaced, and its decor stays. A placeholder in a table is filled,
     /// and one in an array is not found. A missing key is added at the end of its table, with inline
-    /// tables down to the value if more are missing. It gets the name of the path's key in its
-    /// default spelling, as by [`Key::new`]: `insert_formatted` of a table keeps the spelling. So
-    /// comments and spacing stay, and only the statement with the path changes, or one is added: see
-    /// [`laws::replaced`](crate::laws::replaced) and [`laws::added`](crate::laws::added).
+    /// tables down to the value if more are missing. It is a copy of the path's key, in the same
+    /// spelling, but without its decors. So comments and spacing stay, and only the statement with
+    /// the path changes, or one is added: see [`laws::replaced`](crate::laws::replaced) and
+    /// [`laws::added`](crate::laws::added).
     ///
     /// # Errors
     ///
@@ -51,13 +51,13 @@ impl DocumentMut {
     /// scalar before it, and with [`ChangeFault::Memory`] if out of memory.
     pub fn set_at(&mut self, path: &[Key], value: Value) -> Result<(), ChangeFault>
         ensures changes { Changes
-            (set_at (names path.now) (value_view value) (tree_owned self.old))
+            (set_at path.now (value_view value) (tree_owned self.old))
             (tree_owned self.old) (tree_owned self.new) result }
         ensures printed { IsPrintedAs self.new self.old }
         // At most one statement changes or is added where the value may be put.
         ensures edits { OnOk result (IsPlainValue (value_view value)
-            → MayBePut (tree_owned self.old) (names path.now)
-            → EditsBy (sets (names path.now) (value_view value)) self.old self.new) }
+            → MayBePut (tree_owned self.old) path.now
+            → EditsBy (sets path.now (value_view value)) self.old self.new) }
     {
         others_stay();
         path_edits();
@@ -83,10 +83,16 @@ impl DocumentMut {
     /// unchanged then.
     pub fn set_at_with_headers(&mut self, path: &[Key], value: Value) -> Result<(), ChangeFault>
         ensures changes { Changes
-            (set_at_with_headers (names path.now) (value_view value) (tree_owned self.old))
+            (set_at_with_headers path.now (value_view value) (tree_owned self.old))
             (tree_owned self.old) (tree_owned self.new) result }
         ensures printed { IsPrintedAs self.new self.old }
+        // Where no table is missing, it is the edit that `set_at` is.
+        ensures edits { OnOk result (IsPlainValue (value_view value)
+            → MayBePut (tree_owned self.old) path.now
+            → EditsBy (sets path.now (value_view value)) self.old self.new) }
     {
+        others_stay();
+        path_edits();
         let alloc = self.as_table().slots.allocator();
         toml_edit_paths::set_with_headers(alloc, self.as_table_mut(), path, value)
     }

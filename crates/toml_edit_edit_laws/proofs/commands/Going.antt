@@ -13,7 +13,7 @@ use Rattle.toml_edit_model.specs.Shown.{is_table_node}
 use Rattle.toml_edit_laws.proofs.locality.Slots.{slots_under, items_under}
 use Rattle.toml_edit_laws.specs.Locality.{Turn, into_table, into_element, Leads, along, element_count}
 use Rattle.toml_edit_edit_laws.specs.Commands.{Answer, done, mapped, number_of, kept_item, at_number, element_of, change_slot, change_element}
-use Rattle.toml_edit_edit_laws.specs.Commands.{child_changed}
+use Rattle.toml_edit_edit_laws.specs.Commands.{and_then, child_changed, item_below, present, second}
 use Rattle.toml_edit_edit_laws.specs.CommandLaws.{Goes, NamesTable}
 use Rattle.toml_edit_laws.proofs.locality.Slots.{items_from-list, Found, found, change-item}
 use Rattle.toml_edit_laws.proofs.locality.Elements.{item-made}
@@ -49,6 +49,22 @@ made-goes way path h = subst (Goes way) (sym (made-names path)) h
 pub made-named : (t : Tree) (path : List Text) (v : Visit) → NamesTable t path v
     → NamesTable t (map (λ k. (new_key k).name) path) v
 made-named t path v h = subst (λ p. NamesTable t p v) (sym (made-names path)) h
+
+-- the table at the end of a way is the item at its path
+pub item-along : (way : List Turn) (path : List Text) (s w : Visit) → Goes way path → Leads way s w
+    → item_below path (table s.fields s.slots) ≡ Some (table w.fields w.slots)
+item-along [] [] s w goes leads = ap (λ (v : Visit). Some (table v.fields v.slots)) leads
+item-along [] (j ∷ path) s w goes leads = absurd goes
+item-along (into_table k ∷ way) [] s w goes leads = absurd goes
+item-along (into_table k ∷ way) (j ∷ path) s w goes (l, f, ss, eq, leads) =
+    ap (λ o. and_then (item_below path) (present o)) (ap (λ x. lookup_slot x (slot_list s.slots)) goes.0 ∙ eq)
+    ∙ item-along way path (visit_of (to_key s.path l.name) (s.keys ++ (l ∷ [])) false f ss) w goes.1 leads
+item-along (into_element k i ∷ way) [] s w goes leads = absurd goes
+item-along (into_element k i ∷ way) (j ∷ []) s w goes leads = absurd goes
+item-along (into_element k i ∷ way) (j ∷ x ∷ path) s w goes (l, e, xs, before, f, ss, after, eq, items, place, leads) =
+    ap (λ o. and_then (item_below (x ∷ path)) (present o)) (ap (λ y. lookup_slot y (slot_list s.slots)) goes.0 ∙ eq)
+    ∙ ap (λ o. and_then (item_below path) (second o)) (element-there is_table_node x i (item_list xs) before (table f ss) after goes.1 items place refl)
+    ∙ item-along way path (visit_of (to_element (to_key s.path l.name) (element_count before)) (s.keys ++ (l ∷ [])) true f ss) w goes.2 leads
 
 -- A family of commands that go down alike as long as the path is longer.
 module _ {A : Type 0} (key_of : A → Key) (makes : Bool) (run : List A → Node → Answer Node) (rest : List A)

@@ -2,12 +2,12 @@
 use Rattle.std.proofs.Common.{◌≡◌, refl, sym, ◌∙◌, ap, subst, [], ◌∷◌, None}
 use Rattle.std.specs.Prelude.{option_copied}
 use Rattle.toml_edit.specs.DocumentView.{tree_owned}
-use Rattle.toml_edit.specs.Edited.{EditsBy, IsPlainValue, in_block}
+use Rattle.toml_edit.specs.Edited.{EditsBy, IsPlainValue, MayBePut, in_block}
 use Rattle.toml_edit.specs.edits.PathEdits.{sets}
 use Rattle.toml_edit.specs.laws.Locality.{root_visit}
+use Rattle.toml_edit.specs.model.Keys.{new_key}
 use Rattle.toml_edit.specs.model.Lists.{slot_list}
 use Rattle.toml_edit.specs.model.Slots.{lookup_slot}
-use Rattle.toml_edit.specs.model.Text.{Text}
 use Rattle.toml_edit.specs.model.Tree.{Key, Node, Slots}
 use Rattle.toml_edit.specs.tree.View.{value_view}
 use Rattle.toml_edit_guide.proofs.FaultLaws.{none-of}
@@ -18,12 +18,13 @@ pub returns : goal.returns
 returns c =
     let d = c.args.document.now in
     let t = tree_owned d in
-    let name = c.args.name.now in
-    let is = ap (λ (k : Key). k.name) c.in_ok-from_text.ensures in
-    let none = subst (λ (ss : Slots). lookup_slot name (slot_list ss) ≡ None) c.as_table.ensures.slots
-    (key-none name _ (sym c.key.ensures ∙ ap option_copied (none-of c.key.result (sym c.is_some.ensures ∙ c.if-is_some.false)))) in
-    let new = in_block [] _ (root_visit t) refl (c.path_edits.ensures.root t)
-    (subst (λ (x : Text). lookup_slot x (slot_list t.slots) ≡ None) (sym is) none) refl in
-    let set = c.in_ok-set_at.ensures.edits (subst IsPlainValue (sym c.from.ensures) (refl, (tt, tt))) new in
-    subst (λ (n : Node). EditsBy (sets (name ∷ []) n) d c.set_at.new.self) c.from.ensures
-    (subst (λ (x : Text). EditsBy (sets (x ∷ []) (value_view c.from.result)) d c.set_at.new.self) is set)
+    let key : Key = c.in_ok-from_text.key in
+    let is = c.in_ok-from_text.ensures in
+    let none = subst (λ (ss : Slots). lookup_slot c.args.name.now (slot_list ss) ≡ None) c.as_table.ensures.slots
+    (key-none c.args.name.now _ (sym c.key.ensures ∙ ap option_copied (none-of c.key.result (sym c.is_some.ensures ∙ c.if-is_some.false)))) in
+    let new : MayBePut t (new_key c.args.name.now ∷ []) =
+    in_block [] (new_key c.args.name.now) (root_visit t) refl tt (c.path_edits.ensures.root t) none refl in
+    let set = c.in_ok-set_at.ensures.edits (subst IsPlainValue (sym c.from.ensures) (refl, (tt, tt)))
+    (subst (λ (k : Key). MayBePut t (k ∷ [])) (sym is) new) in
+    subst (λ (n : Node). EditsBy (sets (new_key c.args.name.now ∷ []) n) d c.set_at.new.self) c.from.ensures
+    (subst (λ (k : Key). EditsBy (sets (k ∷ []) (value_view c.from.result)) d c.set_at.new.self) is set)

@@ -1,6 +1,6 @@
 -- A new key comes after the others.
 use Rattle.std.proofs.Common.{◌++◌, [], ◌∷◌, ap, ◌∙◌}
-use Rattle.toml_edit_model.specs.Keys.{new_key}
+use Rattle.toml_edit_model.specs.Keys.{cleared_key}
 use Rattle.toml_edit_model.specs.Slots.{keyed}
 use Rattle.toml_edit_model.specs.Tree.{Key}
 use Rattle.toml_edit_tree.specs.declared.item.Item.{Item}
@@ -15,4 +15,4 @@ returns-in-Ok-clause-made c =
     ap shown_slots c.in-Ok.ensures.slots
     ∙ pairs-last es (record { key = c.in_ok-key.key; item = c.replace-item.result })
     ∙ ap (λ (k : Key). shown_slots es ++ (keyed k (item_view c.replace-item.result) ∷ [])) c.in_ok-key.ensures
-    ∙ ap (λ (x : Item). shown_slots es ++ (keyed (new_key c.args.key.now) (item_view x) ∷ [])) c.replace-item.ensures.value
+    ∙ ap (λ (x : Item). shown_slots es ++ (keyed (cleared_key c.args.key.now) (item_view x) ∷ [])) c.replace-item.ensures.value

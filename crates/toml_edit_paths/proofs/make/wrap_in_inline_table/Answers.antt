@@ -1,7 +1,7 @@
 -- An inline table of one slot.
 use Rattle.std.proofs.Common.{◌≡◌, ap, ◌∙◌}
 use Rattle.toml_edit_model.specs.Conversions.{new_inline}
-use Rattle.toml_edit_model.specs.Keys.{new_key}
+use Rattle.toml_edit_model.specs.Keys.{cleared_key}
 use Rattle.toml_edit_model.specs.Tree.{Slots, inline, no_slots}
 use Rattle.toml_edit_tree.specs.Containers.{InlineView, inline_node}
 use Rattle.toml_edit_tree.specs.View.{item_view, slots_view}
@@ -11,7 +11,7 @@ use Rattle.toml_edit_paths.proofs.make.wrap_in_inline_table.Goals as goal
 
 pub push_new-requires : goal.push_new-requires
 push_new-requires c =
-    none-in-empty c.args.key.now c.slots_mut.result.now (c.slots_mut.ensures.slots ∙ ap (λ (t : InlineView). t.slots) c.new-table.ensures)
+    none-in-empty c.args.key.now.name c.slots_mut.result.now (c.slots_mut.ensures.slots ∙ ap (λ (t : InlineView). t.slots) c.new-table.ensures)
 
 pub returns-in-Ok : goal.returns-in-Ok
 returns-in-Ok c =
@@ -21,4 +21,4 @@ returns-in-Ok c =
     ∙ ap inline_node (c.slots_mut.ensures.others c.push_new.new.slots)
     ∙ ap (λ (t : InlineView). inline t.fields (slots_view c.push_new.new.slots)) c.new-table.ensures
     ∙ ap (λ (ss : Slots). inline new_inline ss)
-    (only-slot (new_key c.args.key.now) (item_view c.args.value.now) c.slots_mut.result.now c.push_new.new.slots empty c.in-Ok.ensures.made)
+    (only-slot (cleared_key c.args.key.now) (item_view c.args.value.now) c.slots_mut.result.now c.push_new.new.slots empty c.in-Ok.ensures.made)

@@ -1,7 +1,7 @@
 -- A table of one slot.
 use Rattle.std.proofs.Common.{◌≡◌, ap, ◌∙◌}
 use Rattle.toml_edit_model.specs.Conversions.{new_table}
-use Rattle.toml_edit_model.specs.Keys.{new_key}
+use Rattle.toml_edit_model.specs.Keys.{cleared_key}
 use Rattle.toml_edit_model.specs.Tree.{Slots, no_slots, table}
 use Rattle.toml_edit_tree.specs.Containers.{TableView, table_node, table_with_implicit}
 use Rattle.toml_edit_tree.specs.View.{item_view, slots_view}
@@ -11,7 +11,7 @@ use Rattle.toml_edit_paths.proofs.make.wrap_in_table.Goals as goal
 
 pub push_new-requires : goal.push_new-requires
 push_new-requires c =
-    none-in-empty c.args.key.now c.slots_mut.result.now
+    none-in-empty c.args.key.now.name c.slots_mut.result.now
     (c.slots_mut.ensures.slots ∙ ap (λ (t : TableView). t.slots) c.set_implicit.ensures
     ∙ ap (λ (t : TableView). t.slots) c.new-table.ensures)
 
@@ -26,4 +26,4 @@ returns-in-Ok c =
     ∙ ap (λ (t : TableView). table t.fields (slots_view c.push_new.new.slots)) c.set_implicit.ensures
     ∙ ap (λ (t : TableView). table (table_with_implicit implicit t).fields (slots_view c.push_new.new.slots)) c.new-table.ensures
     ∙ ap (λ (ss : Slots). table (record new_table { is_implicit = implicit }) ss)
-    (only-slot (new_key c.args.key.now) (item_view c.args.item.now) c.slots_mut.result.now c.push_new.new.slots empty c.in-Ok.ensures.made)
+    (only-slot (cleared_key c.args.key.now) (item_view c.args.item.now) c.slots_mut.result.now c.push_new.new.slots empty c.in-Ok.ensures.made)

@@ -10,6 +10,6 @@ use Rattle.toml_edit_model.specs.Keys.{names}
 pub returns : goal.returns
 returns c =
     let v = item_view c.args.value.now in
-    let path = names c.args.path.now in
+    let path = c.args.path.now in
     ap (set_by c.args.headers v path) c.requires ∙ made-is c.args.headers v path
     ∙ ap done (sym (ap item_view c.swap.ensures.x_after ∙ c.in_ok-wrap_below.ensures))

@@ -14,14 +14,14 @@ pub returns-in-Some : goal.returns-in-Some
 returns-in-Some c =
     let held = table_view c.args.root.now in
     let v = item_view c.args.value.now in
-    let k = c.in-Some.key.now.name in
-    let rest = names c.in-Some.rest.now in
+    let k = c.in-Some.key.now in
+    let rest = c.in-Some.rest.now in
     let go = set_by c.args.headers v rest in
     let es = c.slots_mut.result.now in
     let new = c.set_in_slots.new.slots in
     let is = root-slots held es c.slots_mut.ensures.slots in
     renamed _ _ _ _ _ _ _
     (slots-go true k go (table_node held) (shown_slots es) is ∙ set-step c.args.headers v k rest (table_node held) (λ none. absurd cc)
-    ∙ ap (λ path. set_by c.args.headers v (names path) (table_node held)) (sym c.in-Some.ensures.cases.0))
+    ∙ ap (λ path. set_by c.args.headers v path (table_node held)) (sym c.in-Some.ensures.cases.0))
     refl (root-left held _ new (c.slots_mut.ensures.others new))
     (slots-change _ (table_node held) (shown_slots es) (shown_slots new) _ is c.set_in_slots.ensures)

@@ -5,7 +5,7 @@ use Rattle.toml_edit_model.specs.Lists.{items_in, slots_in}
 use Rattle.toml_edit_model.specs.Slots.{lookup_slot}
 use Rattle.toml_edit_model.specs.Text.{Text}
 use Rattle.toml_edit_model.specs.Tree.{is_value_node}
-use Rattle.toml_edit_model.specs.Keys.{names}
+use Rattle.toml_edit_model.specs.Keys.{names, new_key}
 use Rattle.toml_edit_edit_laws.specs.Commands.{change_slot, done, drop_slot, element_of, present, remove_below}
 use Rattle.toml_edit_slots.specs.Slots.{place}
 use Rattle.toml_edit_tree.specs.declared.item.Item.{Item}
@@ -109,7 +109,7 @@ remove_in_slots-returns-in-Some-find-clause-changes t c =
     let k = c.args.key.now.name in
     let go = remove_below (c.in-Some.next.now.name ∷ names c.in-Some.rest.now) in
     renamed _ _ _ _ _ _ _ (ap (λ path. removed_slot k (names path) (shown_slots es)) (sym c.in-Some.ensures.cases.0)) refl refl
-    (slot-changes false k go es c.in-Some-find.at c.item_mut.result.now c.remove_in_item.new.item c.remove_in_item.result
+    (slot-changes false (new_key k) go es c.in-Some-find.at c.item_mut.result.now c.remove_in_item.new.item c.remove_in_item.result
     c.as_slice.ensures.apart (sym (c.in-Some-find.ensures.place ∙ ap (λ (x : Text). place x es) c.get-2.ensures.name))
     c.item_mut.ensures.item c.remove_in_item.ensures.changes)
 
@@ -120,6 +120,6 @@ remove_in_slots-returns-in-None-clause-changes t c =
     let go = remove_below (c.in-Some.next.now.name ∷ names c.in-Some.rest.now) in
     let none : place k es ≡ None = sym (c.in-None.ensures.place ∙ ap (λ (x : Text). place x es) c.get-2.ensures.name) in (
       ap (λ path. removed_slot k (names path) (shown_slots es)) c.in-Some.ensures.cases.0
-          ∙ ap (change_slot false k go (shown_slots es)) (slot-none k es none),
+          ∙ ap (change_slot false (new_key k) go (shown_slots es)) (slot-none k es none),
       refl,
     )

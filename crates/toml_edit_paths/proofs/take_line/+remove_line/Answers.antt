@@ -1,7 +1,7 @@
 -- Each exit of the way down to what is removed.
 use Rattle.std.proofs.Common.{◌≡◌, ◌<◌, ◌∷◌, refl, ap, subst, sym, ◌∙◌, false, length, List, Some, None, Vec, Global, option_map}
 use Rattle.std.specs.Vec.{with_item}
-use Rattle.toml_edit_model.specs.Keys.{names}
+use Rattle.toml_edit_model.specs.Keys.{names, new_key}
 use Rattle.toml_edit_model.specs.Lists.{items_in}
 use Rattle.toml_edit_model.specs.Text.{Text}
 use Rattle.toml_edit_model.specs.Tree.{is_value_node}
@@ -28,7 +28,7 @@ remove_line_in_slots-returns-in-Some-find t c =
     let k = c.args.key.now.name in
     let go = remove_line_below (c.in-Some.next.now.name ∷ names c.in-Some.rest.now) in
     renamed _ _ _ _ _ _ _ (ap (λ path. slot_without_line k (names path) (shown_slots es)) (sym c.in-Some.ensures.cases.0)) refl refl
-    (slot-changes false k go es c.in-Some-find.at c.item_mut.result.now c.remove_line_in_item.new.item c.remove_line_in_item.result
+    (slot-changes false (new_key k) go es c.in-Some-find.at c.item_mut.result.now c.remove_line_in_item.new.item c.remove_line_in_item.result
     c.as_slice.ensures.apart (sym (c.in-Some-find.ensures.place ∙ ap (λ (x : Text). place x es) c.get-2.ensures.name))
     c.item_mut.ensures.item c.remove_line_in_item.ensures)
 
@@ -39,7 +39,7 @@ remove_line_in_slots-returns-in-None t c =
     let go = remove_line_below (c.in-Some.next.now.name ∷ names c.in-Some.rest.now) in
     let none : place k es ≡ None = sym (c.in-None.ensures.place ∙ ap (λ (x : Text). place x es) c.get-2.ensures.name) in (
       ap (λ path. slot_without_line k (names path) (shown_slots es)) c.in-Some.ensures.cases.0
-          ∙ ap (change_slot false k go (shown_slots es)) (slot-none k es none),
+          ∙ ap (change_slot false (new_key k) go (shown_slots es)) (slot-none k es none),
       refl,
     )
 
@@ -64,6 +64,6 @@ remove_line_in_item-returns-in-Some-place_named t c =
     let told = subst (λ (z : Item). Changes (go (item_view z)) (item_view z) (item_view y) c.remove_line_in_item.result)
     c.index_mut.ensures.value c.remove_line_in_item.ensures in
     renamed _ _ _ _ _ _ _
-    (items-go false k go n (listed xs) is ∙ ap (λ path. remove_line_below (k ∷ names path) n) (sym c.in-Some-split_first.ensures.cases.0))
+    (items-go false (new_key k) go n (listed xs) is ∙ ap (λ path. remove_line_below (k ∷ names path) n) (sym c.in-Some-split_first.ensures.cases.0))
     refl (sym (items-seen (with_item held at y) c.args.item.now))
     (items-change _ n (listed xs) _ _ is (element-changes kind k go xs at x y c.remove_line_in_item.result named within told))

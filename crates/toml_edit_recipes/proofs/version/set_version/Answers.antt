@@ -4,13 +4,12 @@ use Rattle.toml_edit.specs.DocumentView.{tree_owned}
 use Rattle.toml_edit.specs.edits.Commands.{done, set_at}
 use Rattle.toml_edit.specs.model.Scalars.{string}
 use Rattle.toml_edit.specs.model.Tree.{leaf, unset}
-use Rattle.toml_edit.specs.model.Keys.{names}
 use Rattle.toml_edit_recipes.proofs.version.set_version.Goals as goal
 
 pub returns-clause-set : goal.returns-clause-set
 returns-clause-set c =
-    let meant : set_at (names c.in_ok-path.path.items) (leaf (string c.args.version.now) None unset) (tree_owned c.args.document.now)
+    let meant : set_at c.in_ok-path.path.items (leaf (string c.args.version.now) None unset) (tree_owned c.args.document.now)
     ≡ done (tree_owned c.set_at.new.self) =
-    (λ i. set_at (names (sym c.deref-2.ensures.value i)) (sym c.in_ok-string.ensures i) (tree_owned c.args.document.now))
+    (λ i. set_at (sym c.deref-2.ensures.value i) (sym c.in_ok-string.ensures i) (tree_owned c.args.document.now))
     ∙ c.in_ok-set_at.ensures.changes in
     (c.in_ok-path.path.items, c.in_ok-path.ensures.keys, meant)

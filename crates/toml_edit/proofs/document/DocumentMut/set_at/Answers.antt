@@ -7,17 +7,16 @@ use Rattle.toml_edit.specs.DocumentView.{tree_owned}
 use Rattle.toml_edit.proofs.AtLaws.{set-root}
 use Rattle.toml_edit.proofs.EditedLaws.{done-where-ok, set-so}
 use Rattle.toml_edit.proofs.document.DocumentMut.set_at.Goals as goal
-use Rattle.toml_edit_model.specs.Keys.{names}
 
 pub returns-clause-changes : goal.returns-clause-changes
 returns-clause-changes c =
     set-root c.args.self.now c.as_table_mut.result.now c.set.new.root c.as_table_mut.ensures.fields c.as_table_mut.ensures.slots
-    (names c.args.path.now)
+    c.args.path.now
     (value_view c.args.value) c.set.result c.set.ensures
 
 pub returns-clause-edits : goal.returns-clause-edits
 returns-clause-edits c =
-    let path = names c.args.path.now in
+    let path = c.args.path.now in
     let v = value_view c.args.value in
     let e = c.path_edits.ensures in
     on_ok_weaker c.set.result
