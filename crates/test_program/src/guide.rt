@@ -8,7 +8,8 @@ use toml_edit_guide::adding::{
 use toml_edit_guide::arranging::{insert_first, sort_strings};
 use toml_edit_guide::changing::set_value;
 use toml_edit_guide::documents::{print_if_fits, read_exactly, read_strictly, report};
-use toml_edit_guide::editing::{set_string, set_version};
+use toml_edit_guide::editing::set_string;
+use toml_edit_guide::edits::set_version;
 use toml_edit_guide::exchanging::exchange;
 use toml_edit_guide::fault::EditFault;
 use toml_edit_guide::normalizing::{normalize, reload};

@@ -1,5 +1,5 @@
 //! Changing the text of a document, and saying what stays.
-ghost use Rattle.std.specs.Prelude.{◌≡◌, List, true, IfErr, IfOk, IsTrue, OnOk, codes, is_some, string_bytes};
+ghost use Rattle.std.specs.Prelude.{◌≡◌, List, true, IfErr, IfOk, IsTrue, OnOk, is_some, string_bytes};
 ghost use Rattle.toml_edit.specs.DocumentView.{print_of, tree_owned, IsPrintedAs};
 ghost use Rattle.toml_edit.specs.Edited.{IsEditedFrom, IsEditedText};
 ghost use Rattle.toml_edit.specs.edits.PathEdits.{PathCall};
@@ -22,22 +22,8 @@ use std::alloc::Global;
 use toml_edit::laws::{edits, replaced};
 use toml_edit::{DocumentMut, Item, Table, Value};
 
-/// Replaces the version of a package, and returns the text in its normal form: all other statements
-/// are as they were.
-///
-/// # Errors
-///
-/// As [`set_string`].
-pub fn set_version(alloc: Global, text: &str, version: &str) -> Result<String, EditFault>
-    ensures set { IfOk result (λ s.
-        ∥ HasValueSet text.now (codes "package") (codes "version") version.now (string_bytes s) ∥₁) }
-    ensures fails { IfErr result
-        (SetFails text.now (codes "package") (codes "version") version.now) }
-{
-    set_string(alloc, text, "package", "version", version)
-}
-
-/// Replaces the value under a key of a table by a string, as [`set_version`] does.
+/// Replaces the value under a key of a table by a string, and returns the text in its normal form:
+/// the rest of the line and all other statements are as they were.
 ///
 /// # Errors
 ///

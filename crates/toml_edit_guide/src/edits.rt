@@ -4,13 +4,29 @@ ghost use Rattle.toml_edit.specs.DocumentView.{tree_owned};
 ghost use Rattle.toml_edit.specs.Edited.{EditsBy, IsEditedText, MayBePut};
 ghost use Rattle.toml_edit.specs.edits.PathEdits.{removes, sets};
 ghost use Rattle.toml_edit.specs.model.Keys.{names, new_key};
-ghost use Rattle.toml_edit_guide.specs.Values.{flag_node, string_node};
+ghost use Rattle.toml_edit_guide.specs.Values.{flag_node, string_node, version_path};
 
 use crate::editing::print_edited;
 use crate::fault::EditFault;
 use std::alloc::Global;
 use toml_edit::laws::path_edits;
 use toml_edit::{DocumentMut, Key, Value};
+
+/// Replaces the version of a package, and returns the text in its normal form: all other statements
+/// are as they were.
+///
+/// # Errors
+///
+/// As [`set_two`].
+pub fn set_version(alloc: Global, text: &str, version: &str) -> Result<String, EditFault>
+    ensures { IfOk result (λ s. ∥ IsEditedText text.now
+        (sets version_path (string_node version.now) ∷ []) (string_bytes s) ∥₁) }
+{
+    let mut document = DocumentMut::from_str(alloc, text)?;
+    let path = [Key::from_text(alloc, "package")?, Key::from_text(alloc, "version")?];
+    replace(alloc, &mut document, &path, version)?;
+    print_edited(alloc, &document)
+}
 
 /// Replaces two values by strings, and returns the text in its normal form: all other statements
 /// are as they were.
