@@ -3,3 +3,4 @@ pub mod renaming
 pub mod comments
 pub mod placing
 pub mod path_calls
+pub mod fitting

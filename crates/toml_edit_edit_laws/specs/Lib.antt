@@ -7,5 +7,6 @@ pub mod Placing
 pub mod DottedAdds
 pub mod Staying
 pub mod PathEdits
+pub mod Fitting
 -- Worked examples: nothing cites them.
 pub mod examples

@@ -6,6 +6,7 @@ ghost use Rattle.toml_edit_model.specs.Mode.{Mode};
 ghost use Rattle.toml_edit_edit_laws.specs.CommandLaws.{DecimalsName, GetAfterSet, OneTextNames, PathsHaveWays, ReadHasNoPlaceholders, RemoveChanges, RemoveDrops, RemoveElementDrops, RemoveFinds, RemoveKeepsItems, RemoveKeepsTheRest, RemoveReadsBack, RemoveRefuses, RemovedWasThere, SetAdds, SetChanges, SetKeepsItems, SetKeepsTheRest, SetReadsBack, SetRefuses, SetSteps, WaysHavePaths};
 ghost use Rattle.toml_edit_edit_laws.specs.Comments.{AfterLine, BeforeLine, HeaderRecommented, HeaderRecommentedMeans, HeaderRecommentedStaysMade, HiddenRecommented, KeepsHeader, LineRecommented, RecommentedMeans, RecommentedStaysMade, RootRecommented};
 ghost use Rattle.toml_edit_edit_laws.specs.DottedAdds.{AddedAfterLines};
+ghost use Rattle.toml_edit_edit_laws.specs.Fitting.{ScalarsFitAnywhere, StillFits, StillFitsAfterAll, StillFitsAfterLines};
 ghost use Rattle.toml_edit_edit_laws.specs.PathEdits.{OneCallMore, RemoveEdits, RootIsNamed, SetAddsAfterLines, SetAddsUnder, SetReplaces, TablesAreNamed};
 ghost use Rattle.toml_edit_edit_laws.specs.Placing.{AbsentStays, InsertedAt, InsertedMeans, InsertedStands, InsertedStaysMade, MovedInside, MovedLine, MovedMeans, MovedOthers, MovedStands, MovedStaysMade, PlacedStays};
 ghost use Rattle.toml_edit_edit_laws.specs.Renaming.{Renamed, RenamedLine, RenamedMeans, RenamedOthers, RenamedStaysMade, RenameRefused};
@@ -94,6 +95,16 @@ pub fn others_stay()
     ensures insertion { (mode : Mode) → InsertionStays mode }
     ensures moving { (mode : Mode) → MoveStays mode }
     ensures comment { (mode : Mode) → CommentStays mode }
+{}
+
+/// Keeps a steady tree that fits so: a value is replaced or added that fits anywhere, as a scalar
+/// does, with white space or the old decors around it and its key, or a slot is removed. So its
+/// print needs no test before it reads back.
+pub fn still_fits()
+    ensures edit { (mode : Mode) → StillFits mode }
+    ensures edits { (mode : Mode) → StillFitsAfterAll mode }
+    ensures after_lines { (mode : Mode) → StillFitsAfterLines mode }
+    ensures scalars { (mode : Mode) → ScalarsFitAnywhere mode }
 {}
 
 /// `set` at a path of the tree of what was read changes the statement of the value there, in its

@@ -63,7 +63,7 @@ module _ (mode : Mode) where
     node-inside nothing ks js = refl
 
   mutual
-    empty-alike : (ss : Slots) (ks js : List Key) → is_empty (table_lines mode ss ks) ≡ is_empty (table_lines mode ss js)
+    pub empty-alike : (ss : Slots) (ks js : List Key) → is_empty (table_lines mode ss ks) ≡ is_empty (table_lines mode ss js)
     empty-alike no_slots ks js = refl
     empty-alike (slot k n ss) ks js =
         either-empty _ _ (table_lines mode ss ks) (table_lines mode ss js)
@@ -107,8 +107,7 @@ module _ (mode : Mode) where
 
   module _ (t : Tree) (way : List Turn) (v : Visit) (k : Key) (n : Node)
       (made : SlotsAreWellMade t.slots) (st : Steady mode t) (leads : Leads way (root_visit t) v)
-      (is_new : lookup_slot k.name (slot_list v.slots) ≡ None) (plain : is_plain_value n ≡ true)
-      (some : is_empty (lines_of mode v) ≡ false) where
+      (is_new : lookup_slot k.name (slot_list v.slots) ≡ None) (plain : is_plain_value n ≡ true) where
     abbrev g : List (Slot Node) → List (Slot Node)
     g = λ ss. ss ++ (keyed k n ∷ [])
 
@@ -118,13 +117,13 @@ module _ (mode : Mode) where
     abbrev q : Path
     q = to_key v.path k.name
 
-    abbrev new_line : List Key → Line
+    abbrev pub new_line : List Key → Line
     new_line lk = value_line mode (lk ++ (k ∷ [])) n
 
-    abbrev M : List Key → List Line
+    abbrev pub M : List Key → List Line
     M lk = table_lines mode v.slots lk
 
-    abbrev N : List Key → List Line
+    abbrev pub N : List Key → List Line
     N lk = table_lines mode v.slots lk ++ (new_line lk ∷ [])
 
     others : HaveOtherKeys k.name (slot_list v.slots)
@@ -175,23 +174,16 @@ module _ (mode : Mode) where
           out_back = tt;
         }
 
-    whole : Whole mode q itself v g M N [] [] (tree_blocks mode t) (tree_blocks mode u)
+    pub whole : Whole mode q itself v g M N [] [] (tree_blocks mode t) (tree_blocks mode u)
     whole = whole-tree mode q itself v g M N [] [] (at_key k.name) (front-refl q) edit-lines edit-blocks way t made (firm-visits mode t st)
         leads
 
     abbrev changed_block : Block
     changed_block = with_lines whole.block whole.lines
 
-    old-lines : is_empty whole.block.lines ≡ false
-    old-lines = ap is_empty whole.changes.first
-        ∙ some-in whole.changes.front (M whole.keys) whole.changes.back (empty-alike v.slots whole.keys [] ∙ some)
-
-    new-lines : is_empty whole.lines ≡ false
+    pub new-lines : is_empty whole.lines ≡ false
     new-lines = ap is_empty whole.changes.second
         ∙ some-in whole.changes.front (N whole.keys) whole.changes.back (some-last (M whole.keys) (new_line whole.keys))
-
-    as-before : is_headed changed_block ≡ is_headed whole.block
-    as-before = headed-same whole.block whole.lines (new-lines ∙ sym old-lines)
 
     new-sound : SlotsAreSound u.slots
     new-sound =
@@ -199,79 +191,87 @@ module _ (mode : Mode) where
         (λ w s. sound-append (slot_list v.slots) (keyed k n ∷ []) (subst SlotsAreSound (sym (slots_from-list v.slots)) s)
         (plain-undotted n plain, value-sound n (plain-value n plain), tt))
 
-    pub new-steady : Steady mode u
-    new-steady = whole-steady mode q itself v g M N [] [] (λ b s. s) (λ b s. s) way t st new-sound whole
-        (steady-same whole.block whole.lines as-before) tt
+    module _ (some : is_empty (lines_of mode v) ≡ false) where
+      old-lines : is_empty whole.block.lines ≡ false
+      old-lines = ap is_empty whole.changes.first
+          ∙ some-in whole.changes.front (M whole.keys) whole.changes.back (empty-alike v.slots whole.keys [] ∙ some)
 
-    two-blocks : Parted mode q whole.block changed_block (printed_all mode (whole.front ++ (whole.block ∷ (whole.middle ++ whole.back))))
-        (printed_all mode (whole.front ++ (changed_block ∷ (whole.middle ++ whole.back))))
-    two-blocks =
-        parted mode q whole.block whole.lines whole.front (whole.middle ++ whole.back)
-        (headed-behind mode t whole.front whole.block changed_block (whole.middle ++ whole.back) whole.first
-        (λ r. (lined whole.block r old-lines, lined changed_block r new-lines)))
-        whole.out_front (all-append _ whole.middle whole.back whole.out_middle whole.out_back)
+      pub as-before : is_headed changed_block ≡ is_headed whole.block
+      as-before = headed-same whole.block whole.lines (new-lines ∙ sym old-lines)
 
-    abbrev line : Printed
-    line = printed_line mode whole.block.path (new_line whole.keys)
+      pub new-steady : Steady mode u
+      new-steady = whole-steady mode q itself v g M N [] [] (λ b s. s) (λ b s. s) way t st new-sound whole
+          (steady-same whole.block whole.lines as-before) tt
 
-    abbrev own : List Printed
-    own = lines_in mode whole.block.path whole.keys v
+      two-blocks : Parted mode q whole.block changed_block (printed_all mode (whole.front ++ (whole.block ∷ (whole.middle ++ whole.back))))
+          (printed_all mode (whole.front ++ (changed_block ∷ (whole.middle ++ whole.back))))
+      two-blocks =
+          parted mode q whole.block whole.lines whole.front (whole.middle ++ whole.back)
+          (headed-behind mode t whole.front whole.block changed_block (whole.middle ++ whole.back) whole.first
+          (λ r. (lined whole.block r old-lines, lined changed_block r new-lines)))
+          whole.out_front (all-append _ whole.middle whole.back whole.out_middle whole.out_back)
 
-    abbrev before_it : List Printed
-    before_it = two-blocks.front ++ (block_header mode whole.block ++ map (printed_line mode whole.block.path) whole.changes.front)
+      abbrev line : Printed
+      line = printed_line mode whole.block.path (new_line whole.keys)
 
-    abbrev after_it : List Printed
-    after_it = map (printed_line mode whole.block.path) whole.changes.back ++ two-blocks.back
+      abbrev own : List Printed
+      own = lines_in mode whole.block.path whole.keys v
 
-    first-list : printed mode t ≡ before_it ++ (own ++ after_it)
-    first-list =
-        let c = whole.changes in
-        let p = two-blocks in
-        printed-tree mode t st ∙ ap (printed_all mode) whole.first ∙ p.first
-        ∙ among whole.block c.front (M whole.keys) c.back p.front p.back c.first
+      abbrev before_it : List Printed
+      before_it = two-blocks.front ++ (block_header mode whole.block ++ map (printed_line mode whole.block.path) whole.changes.front)
 
-    second-list : printed mode u ≡ before_it ++ (own ++ (line ∷ after_it))
-    second-list =
-        let c = whole.changes in
-        let p = two-blocks in
-        let b = whole.block in
-        printed-tree mode u new-steady
-        ∙ ap (printed_all mode) (sym (map-itself (tree_blocks mode u)) ∙ whole.second
-        ∙ map-itself (whole.front ++ (changed_block ∷ (whole.middle ++ whole.back))))
-        ∙ p.second ∙ among changed_block c.front (N whole.keys) c.back p.front p.back c.second
-        ∙ ap (λ z. (p.front ++ (z ++ map (printed_line mode b.path) c.front))
-        ++ (map (printed_line mode b.path) (N whole.keys) ++ (map (printed_line mode b.path) c.back ++ p.back)))
-        (header-same mode b whole.lines as-before)
-        ∙ ap (λ z. before_it ++ (z ++ after_it)) (map-append (printed_line mode b.path) (M whole.keys) (new_line whole.keys ∷ []))
-        ∙ ap (λ z. before_it ++ z) (append_assoc own (line ∷ []) after_it)
+      abbrev after_it : List Printed
+      after_it = map (printed_line mode whole.block.path) whole.changes.back ++ two-blocks.back
 
-    pub one-line-more : OneLineMore mode t u v k n
-    one-line-more =
-        let c = whole.changes in
-        let p = two-blocks in
-        let b = whole.block in
-        record {
-          before = before_it;
-          after = after_it;
-          block = b.path;
-          keys = whole.keys;
-          first = first-list;
-          second = second-list;
-          path = below-last b.path whole.keys k ∙ ap (λ z. to_key z k.name) whole.at;
-          others_before = are-outside q before_it
-              (all-append (IsOut q) p.front (block_header mode b ++ map (printed_line mode b.path) c.front) p.out_front
-              (all-append (IsOut q) (block_header mode b) (map (printed_line mode b.path) c.front) (header-out mode q b whole.out_path)
-              (map-lines-out mode q b.path c.front c.out_front)));
-          others_in = are-outside q own (map-lines-out mode q b.path (M whole.keys) (lines-are-out b.path whole.keys whole.at));
-          others_after = are-outside q after_it
-              (all-append (IsOut q) (map (printed_line mode b.path) c.back) p.back (map-lines-out mode q b.path c.back c.out_back)
-              p.out_back);
-          text = print-framed mode t ∙ ap (λ z. framed mode t (texts z)) first-list
-              ∙ ap (framed mode t) (texts-append before_it (own ++ after_it) ∙ ap (λ z. texts before_it ++ z) (texts-append own after_it));
-          other_text = edited-framed mode way g t ∙ ap (λ z. framed mode t (texts z)) second-list
-              ∙ ap (framed mode t) (texts-append before_it (own ++ (line ∷ after_it))
-              ∙ ap (λ z. texts before_it ++ z) (texts-append own (line ∷ after_it)));
-        }
+      first-list : printed mode t ≡ before_it ++ (own ++ after_it)
+      first-list =
+          let c = whole.changes in
+          let p = two-blocks in
+          printed-tree mode t st ∙ ap (printed_all mode) whole.first ∙ p.first
+          ∙ among whole.block c.front (M whole.keys) c.back p.front p.back c.first
+
+      second-list : printed mode u ≡ before_it ++ (own ++ (line ∷ after_it))
+      second-list =
+          let c = whole.changes in
+          let p = two-blocks in
+          let b = whole.block in
+          printed-tree mode u new-steady
+          ∙ ap (printed_all mode) (sym (map-itself (tree_blocks mode u)) ∙ whole.second
+          ∙ map-itself (whole.front ++ (changed_block ∷ (whole.middle ++ whole.back))))
+          ∙ p.second ∙ among changed_block c.front (N whole.keys) c.back p.front p.back c.second
+          ∙ ap (λ z. (p.front ++ (z ++ map (printed_line mode b.path) c.front))
+          ++ (map (printed_line mode b.path) (N whole.keys) ++ (map (printed_line mode b.path) c.back ++ p.back)))
+          (header-same mode b whole.lines as-before)
+          ∙ ap (λ z. before_it ++ (z ++ after_it)) (map-append (printed_line mode b.path) (M whole.keys) (new_line whole.keys ∷ []))
+          ∙ ap (λ z. before_it ++ z) (append_assoc own (line ∷ []) after_it)
+
+      pub one-line-more : OneLineMore mode t u v k n
+      one-line-more =
+          let c = whole.changes in
+          let p = two-blocks in
+          let b = whole.block in
+          record {
+            before = before_it;
+            after = after_it;
+            block = b.path;
+            keys = whole.keys;
+            first = first-list;
+            second = second-list;
+            path = below-last b.path whole.keys k ∙ ap (λ z. to_key z k.name) whole.at;
+            others_before = are-outside q before_it
+                (all-append (IsOut q) p.front (block_header mode b ++ map (printed_line mode b.path) c.front) p.out_front
+                (all-append (IsOut q) (block_header mode b) (map (printed_line mode b.path) c.front) (header-out mode q b whole.out_path)
+                (map-lines-out mode q b.path c.front c.out_front)));
+            others_in = are-outside q own (map-lines-out mode q b.path (M whole.keys) (lines-are-out b.path whole.keys whole.at));
+            others_after = are-outside q after_it
+                (all-append (IsOut q) (map (printed_line mode b.path) c.back) p.back (map-lines-out mode q b.path c.back c.out_back)
+                p.out_back);
+            text = print-framed mode t ∙ ap (λ z. framed mode t (texts z)) first-list
+                ∙ ap (framed mode t) (texts-append before_it (own ++ after_it) ∙ ap (λ z. texts before_it ++ z) (texts-append own after_it));
+            other_text = edited-framed mode way g t ∙ ap (λ z. framed mode t (texts z)) second-list
+                ∙ ap (framed mode t) (texts-append before_it (own ++ (line ∷ after_it))
+                ∙ ap (λ z. texts before_it ++ z) (texts-append own (line ∷ after_it)));
+          }
 
   pub added_after_lines : AddedAfterLines mode
   added_after_lines t way v k n made steady leads is_new plain some =

@@ -1,0 +1,9 @@
+pub mod Orders
+pub mod Blocks
+pub mod Whole
+pub mod Lines
+pub mod Limits
+pub mod Adding
+pub mod Replacing
+pub mod Removing
+pub mod Edits
