@@ -1,6 +1,7 @@
--- Worked renamings, places, changes of comments and calls by paths.
+-- Worked renamings, places, changes of comments, calls by paths and edits that keep a tree fit.
 pub mod Renames
 pub mod HeaderDecors
 pub mod Places
 pub mod Calls
 pub mod Commands
+pub mod Fitting

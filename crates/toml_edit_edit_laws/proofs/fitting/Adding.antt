@@ -10,7 +10,8 @@ use Rattle.toml_edit_model.specs.Paths.{to_key}
 use Rattle.toml_edit_model.specs.Syntax.{IsSpacedSegment, is_short, nesting_limit, depth, has_short_keys}
 use Rattle.toml_edit_model.specs.Tree.{Key, Node, nothing, leaf, list, inline, table, tables, Slots, no_slots, slot, SlotsAreWellMade, Tree}
 use Rattle.toml_edit_model.specs.HeaderOrder.{Visit, is_root}
-use Rattle.toml_edit_model.specs.Print.{Line, segments, dot_prefix, line_of, value_of, is_line_node, inside_lines, lines_inside, table_lines, dotted_lines}
+use Rattle.toml_edit_model.specs.Print.{Line, segments, dot_prefix, line_of, value_of, is_line_node, inside_lines, lines_inside}
+use Rattle.toml_edit_model.specs.Print.{table_lines, dotted_lines}
 use Rattle.toml_edit_model.specs.Print.{lines_of, has_header, printed_line, printed_table}
 use Rattle.toml_edit_model.specs.Fits.{PrintedLineSuits, FitsIn, is_steady_in}
 use Rattle.toml_edit_model.specs.Slots.{keyed, lookup_slot}

@@ -101,7 +101,8 @@ module _ (mode : Mode) where
         }
 
     w : Whole mode q itself v g M N [] [] (tree_blocks mode t) (tree_blocks mode u)
-    w = whole-tree mode q itself v g M N [] [] (at_key l.name) (front-refl q) edit-lines edit-blocks way t made (firm-visits mode t st) leads
+    w = whole-tree mode q itself v g M N [] [] (at_key l.name) (front-refl q) edit-lines edit-blocks way t made (firm-visits mode t st)
+        leads
 
     as-before : is_headed (with_lines w.block w.lines) ≡ is_headed w.block
     as-before =

@@ -1,5 +1,5 @@
 -- An edited tree fits where its one changed block does and its statements keep the limits.
-use Rattle.std.proofs.Common.{◌≡◌, refl, sym, ◌∙◌, ap, subst, pos, Bool, true, false, List, [], ◌∷◌, ◌++◌}
+use Rattle.std.proofs.Common.{◌≡◌, refl, sym, ◌∙◌, ap, subst, ℤ, pos, Bool, true, false, List, [], ◌∷◌, ◌++◌}
 use Rattle.std.specs.Prelude.{not, filter, map, if◌then◌else◌, int_le, unwrap_or, MatchBool}
 use Rattle.std.specs.List.{AllByRecursion, list_all}
 use Rattle.std.proofs.lemmas.List.{map-append}
@@ -34,8 +34,11 @@ use Rattle.toml_edit_edit_laws.proofs.fitting.Blocks.{BlockSuits, suit-blocks, s
 abbrev headers : List Block → List Visit
 headers bs = map bare (filter is_headed bs)
 
+abbrev header_place : Visit → ℤ
+header_place v = unwrap_or v.fields.position (pos 0)
+
 abbrev goes_first : Visit → Visit → Bool
-goes_first v w = int_le (unwrap_or v.fields.position (pos 0)) (unwrap_or w.fields.position (pos 0))
+goes_first v w = int_le (header_place v) (header_place w)
 
 headers-sorted : (bs : List Block) → ordered_headers bs ≡ sorted_by goes_first (headers bs)
 headers-sorted bs = sym (sorted-image bare goes_first (filter is_headed bs))
@@ -43,7 +46,8 @@ headers-sorted bs = sym (sorted-image bare goes_first (filter is_headed bs))
 headers-append : (xs ys : List Block) → headers (xs ++ ys) ≡ headers xs ++ headers ys
 headers-append xs ys = ap (map bare) (filter-append is_headed xs ys) ∙ map-append bare (filter is_headed xs) (filter is_headed ys)
 
-headers-changed : (b : Block) (ls : List Line) → is_headed (with_lines b ls) ≡ is_headed b → headers (with_lines b ls ∷ []) ≡ headers (b ∷ [])
+headers-changed : (b : Block) (ls : List Line) → is_headed (with_lines b ls) ≡ is_headed b
+    → headers (with_lines b ls ∷ []) ≡ headers (b ∷ [])
 headers-changed b ls e = by_tests (is_headed (with_lines b ls)) (is_headed b) e
   where
     by_tests : (c d : Bool) → c ≡ d → map bare (if c then with_lines b ls ∷ [] else []) ≡ map bare (if d then b ∷ [] else [])
@@ -101,7 +105,8 @@ module _ (mode : Mode) where
         ∙ ap (λ z. z ++ kept q (w.block ∷ (w.middle ++ (m ++ w.back)))) (kept-out q w.front (out-paths q w.front w.out_front))
         ∙ ap (λ z. headers w.front ++ z)
         (kept-append q (w.block ∷ []) (w.middle ++ (m ++ w.back))
-        ∙ ap (λ z. z ++ kept q (w.middle ++ (m ++ w.back))) (kept-out q (w.block ∷ []) (w.out_path, tt) ∙ sym (headers-changed w.block w.lines same))
+        ∙ ap (λ z. z ++ kept q (w.middle ++ (m ++ w.back)))
+        (kept-out q (w.block ∷ []) (w.out_path, tt) ∙ sym (headers-changed w.block w.lines same))
         ∙ ap (λ z. headers (other ∷ []) ++ z)
         (kept-append q w.middle (m ++ w.back)
         ∙ ap (λ z. z ++ kept q (m ++ w.back)) (kept-out q w.middle (out-paths q w.middle w.out_middle))
@@ -119,8 +124,8 @@ module _ (mode : Mode) where
         ∙ ap none_too_late
         (headers-sorted (tree_blocks mode u) ∙ ap (sorted_by goes_first) (sym kept-headers)
         ∙ sym (filter-sorted goes_first
-        (λ a b c. int_le-trans (unwrap_or a.fields.position (pos 0)) (unwrap_or b.fields.position (pos 0)) (unwrap_or c.fields.position (pos 0)))
-        (λ a b. int_le-total (unwrap_or a.fields.position (pos 0)) (unwrap_or b.fields.position (pos 0))) (is_kept q) old))
+        (λ a b c. int_le-trans (header_place a) (header_place b) (header_place c))
+        (λ a b. int_le-total (header_place a) (header_place b)) (is_kept q) old))
         ∙ late-filter (is_kept q) (sorted_by goes_first old)
         (sym (ap none_too_late (headers-sorted (tree_blocks mode t))) ∙ sym (order-blocks mode t st) ∙ h)
 
