@@ -2,7 +2,7 @@
 -- (TOML 1.1.0, "Array" and "Comment"). The gap at a place is the text before the slot there, after
 -- the comma or the bracket; the last gap is before the closing bracket. A gap that has a newline
 -- begins with the rest of the line before it, where that line's comment is.
-use Rattle.std.specs.Prelude.{ℕ, zero, suc, ◌-◌, ◌==◌, nat_lt, Bool, not, ◌&&◌, ◌||◌, if◌then◌else◌, List, [], ◌∷◌, ◌++◌, codes, drop}
+use Rattle.std.specs.Prelude.{ℕ, zero, suc, ◌-◌, ◌==◌, nat_lt, Bool, false, not, ◌&&◌, ◌||◌, if◌then◌else◌, List, [], ◌∷◌, ◌++◌, codes, drop}
 use Rattle.std.specs.Prelude.{filter, flat_map, length, map, take_while, Option, None, Some, is_none, is_some, option_and_then}
 use Rattle.std.specs.List.{list_all}
 use Rattle.std.specs.Option.{option_or, unwrap_or}
@@ -249,8 +249,15 @@ line_taken i f xs n =
 abbrev pub line_removed : ℕ → ArrayFields → List Node → List Node
 line_removed i f xs = with_gap i (owned (gap_left i f xs)) f (removed_at i xs)
 
+-- no comma ends an array without slots
+abbrev pub comma_kept : List Node → ArrayFields → ArrayFields
+comma_kept [] f = record f { comma = false }
+comma_kept (n ∷ xs) f = f
+
 abbrev pub fields_removed : ℕ → ArrayFields → List Node → ArrayFields
-fields_removed i f xs = fields_with_gap i (owned (gap_left i f xs)) f (removed_at i xs)
+fields_removed i f xs =
+    comma_kept (line_removed i f xs)
+    (fields_with_gap i (owned (gap_left i f xs)) f (removed_at i xs))
 
 -- ---- comments
 

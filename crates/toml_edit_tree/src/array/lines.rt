@@ -6,7 +6,7 @@ ghost use Rattle.toml_edit_model.specs.Comments.{side_text};
 ghost use Rattle.toml_edit_model.specs.Print.{element_default};
 ghost use Rattle.toml_edit_model.specs.Slots.{changed_at};
 ghost use Rattle.toml_edit_model.specs.Tree.{owned};
-ghost use Rattle.toml_edit_tree.specs.ArrayLines.{before_comma, behind, beside, broken_gap, comment_behind, decor_taken, fields_inserted, fields_removed, fields_with_gap, followed, gap, gap_left, gaps_around, gaps_on_line, indent_at, is_broken, is_closed, is_last, last_suffix, line_begun, line_inserted, line_removed, line_taken, newline_at, newline_in, placed, prefix_at, redecorated, suffix_at, with_gap, with_prefix, with_suffix};
+ghost use Rattle.toml_edit_tree.specs.ArrayLines.{before_comma, behind, beside, broken_gap, comma_kept, comment_behind, decor_taken, fields_inserted, fields_removed, fields_with_gap, followed, gap, gap_left, gaps_around, gaps_on_line, indent_at, is_broken, is_closed, is_last, last_suffix, line_begun, line_inserted, line_removed, line_taken, newline_at, newline_in, placed, prefix_at, redecorated, suffix_at, with_gap, with_prefix, with_suffix};
 ghost use Rattle.toml_edit_tree.specs.Elements.{array_fields, items_of};
 ghost use Rattle.toml_edit_tree.specs.View.{array_view, value_view};
 
@@ -83,8 +83,8 @@ impl Array {
     /// The value then has its comment in its suffix, and the comments above it in its prefix, so
     /// [`insert_line`](Self::insert_line) puts them back. The comments of the values before and
     /// after it stay. Where other values are on the same line, it is returned with its decor, and a
-    /// comment at the end of the line stays. A contract requires that there is a value: check with
-    /// [`get`](Self::get).
+    /// comment at the end of the line stays. The comma after the last value goes with the only one.
+    /// A contract requires that there is a value: check with [`get`](Self::get).
     ///
     /// # Errors
     ///
@@ -102,6 +102,7 @@ impl Array {
     {
         let (left, decor) = parts_removed(self, at)?;
         let value = take_between(self, at, left);
+        drop_lone_comma(self);
         Ok(with_decor_taken(value, decor))
     }
 
@@ -428,6 +429,17 @@ fn take_between(array: &mut Array, at: usize, left: RawString) -> Value
     let value = array.remove(at);
     put_gap(array, at, left);
     value
+}
+
+/// Removes the comma that ends the array if no slot is before it.
+fn drop_lone_comma(array: &mut Array)
+    ensures items { items_of array.new ≡ items_of array.old }
+    ensures fields { array_fields array.new
+        ≡ comma_kept (items_of array.old) (array_fields array.old) }
+{
+    if array.is_empty() {
+        array.set_trailing_comma(false);
+    }
 }
 
 /// Returns the value with this decor, if there is one, in place of its own.
