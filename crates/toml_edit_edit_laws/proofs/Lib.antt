@@ -4,3 +4,4 @@ pub mod comments
 pub mod placing
 pub mod path_calls
 pub mod fitting
+pub mod fitting_inside

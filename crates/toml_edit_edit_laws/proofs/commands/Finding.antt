@@ -399,7 +399,7 @@ module _ (k : Text) (go : Node → Answer Node) (l : Text) (path : List Text)
   below-was (leaf s r d) m h = absurd cc
   below-was nothing m h = absurd cc
 
-was-there : (path : List Text) (n m : Node) → remove_below path n ≡ done m → (x : Node) × (item_below path n ≡ Some x)
+pub was-there : (path : List Text) (n m : Node) → remove_below path n ≡ done m → (x : Node) × (item_below path n ≡ Some x)
 was-there [] n m h = absurd cc
 was-there (k ∷ []) n m h = let r = child-was k n m h in (r.0, ap (and_then (item_below [])) r.1)
 was-there (k ∷ l ∷ path) n m h = below-was k (remove_below (l ∷ path)) l path (λ a b g. was-there (l ∷ path) a b g) n m h

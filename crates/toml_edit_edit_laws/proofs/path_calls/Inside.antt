@@ -118,10 +118,10 @@ below-same k go bare (tables x xs) a h e =
 below-same k go bare (leaf s r d) a h e = absurd cc
 below-same k go bare nothing a h e = absurd cc
 
-abbrev bare_keys : List Key → List Key
+abbrev pub bare_keys : List Key → List Key
 bare_keys path = map new_key (names path)
 
-there-same : (v : Node) (inner : List Key) (n old : Node) → item_below (names inner) n ≡ Some old
+pub there-same : (v : Node) (inner : List Key) (n old : Node) → item_below (names inner) n ≡ Some old
     → set_below v inner n ≡ set_below v (bare_keys inner) n
 there-same v [] n old h = refl
 there-same v (k ∷ inner) n old h =
