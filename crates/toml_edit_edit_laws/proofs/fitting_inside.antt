@@ -1,3 +1,4 @@
 pub mod Limits
 pub mod Parts
-pub mod Spared
+pub mod NoWorse
+pub mod Below

@@ -8,5 +8,6 @@ pub mod DottedAdds
 pub mod Staying
 pub mod PathEdits
 pub mod Fitting
+pub mod FittingInside
 -- Worked examples: nothing cites them.
 pub mod examples

@@ -1,14 +1,14 @@
 -- What suits and keeps the limits, by the items of an array and by the slots of an inline table.
-use Rattle.std.proofs.Common.{◌≡◌, refl, sym, ◌∙◌, ap, subst, ℕ, suc, ◌≤◌, arith, Bool, true, false, List, [], ◌∷◌, ◌++◌}
+use Rattle.std.proofs.Common.{refl, ℕ, arith, Bool, true, false, List, [], ◌∷◌, ◌++◌}
 use Rattle.std.specs.Prelude.{MatchBool}
 use Rattle.std.specs.List.{AllByRecursion}
 use Rattle.toml_edit_model.specs.Mode.{Mode}
 use Rattle.toml_edit_model.specs.Trivia.{IsWholeTrivia}
-use Rattle.toml_edit_model.specs.Syntax.{Elements, element, elements_depth, elements_have_short_keys}
+use Rattle.toml_edit_model.specs.Syntax.{element}
 use Rattle.toml_edit_model.specs.Tree.{Key, Node, Items, no_items, item, Slots, no_slots, slot, node_decor, is_value_node}
-use Rattle.toml_edit_model.specs.Print.{Line, line_of, is_line_node, around_of, value_of, elements_of, inside_lines, lines_inside}
+use Rattle.toml_edit_model.specs.Print.{line_of, is_line_node, around_of, value_of, elements_of, inside_lines, lines_inside}
 use Rattle.toml_edit_model.specs.Fits.{LineSuits, ElementSuits, Suits, ItemsSuit, InsideSuits, NodeSuitsInside}
-use Rattle.toml_edit_model.specs.Slots.{Slot, keyed}
+use Rattle.toml_edit_model.specs.Slots.{Slot}
 use Rattle.toml_edit_model.specs.Lists.{slot_list, slots_from, item_list, items_from}
 use Rattle.toml_edit_laws.specs.Locality.{value_line}
 use Rattle.toml_edit_laws.proofs.common.Each.{all-append, all-front, all-back}

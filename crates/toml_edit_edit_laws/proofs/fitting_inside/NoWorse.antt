@@ -1,23 +1,20 @@
 -- What is no worse than another item, at its place in a value.
-use Rattle.std.proofs.Common.{◌≡◌, refl, sym, ◌∙◌, ap, subst, ℕ, suc, ◌≤◌, arith, Bool, true, false, List, [], ◌∷◌, ◌++◌, length, Some}
+use Rattle.std.proofs.Common.{◌≡◌, refl, sym, ◌∙◌, subst, ℕ, arith, Bool, true, false, List, [], ◌∷◌, ◌++◌}
 use Rattle.std.specs.Prelude.{MatchBool}
 use Rattle.std.specs.List.{AllByRecursion}
 use Rattle.toml_edit_model.specs.Mode.{Mode}
 use Rattle.toml_edit_model.specs.Text.{Text}
 use Rattle.toml_edit_model.specs.Trivia.{IsWholeTrivia, IsWhiteSpace}
-use Rattle.toml_edit_model.specs.Syntax.{Value, Elements, Pairs, depth, elements_depth, pairs_depth}
-use Rattle.toml_edit_model.specs.Tree.{Decor, Key, Extent, ArrayFields, InlineFields, TableFields, Node, nothing, leaf, list, inline, table, tables, Items}
-use Rattle.toml_edit_model.specs.Tree.{Slots, node_decor, is_value_node, shown_raw, shown_prefix, shown_suffix, IsWellMade}
-use Rattle.toml_edit_model.specs.Print.{Line, one_space, is_line_node, value_of, elements_of, inside_lines, pairs_of_lines}
+use Rattle.toml_edit_model.specs.Syntax.{Elements, Pairs, elements_depth, pairs_depth}
+use Rattle.toml_edit_model.specs.Tree.{Decor, Key, Extent, ArrayFields, InlineFields, TableFields, Node, list, inline, table, tables, Items}
+use Rattle.toml_edit_model.specs.Tree.{Slots, node_decor, is_value_node, shown_raw, shown_prefix, shown_suffix}
+use Rattle.toml_edit_model.specs.Print.{Line, one_space, is_line_node, elements_of, inside_lines, pairs_of_lines}
 use Rattle.toml_edit_model.specs.Fits.{LineSuits, ElementSuits, Suits}
-use Rattle.toml_edit_model.specs.Shown.{is_table_node}
-use Rattle.toml_edit_model.specs.Slots.{Slot, keyed, with_item, lookup_slot, changed}
+use Rattle.toml_edit_model.specs.Slots.{Slot, keyed}
 use Rattle.toml_edit_model.specs.Lists.{slot_list, slots_from, item_list, items_from}
-use Rattle.toml_edit_model.specs.ArrayCalls.{written_at}
 use Rattle.toml_edit_laws.specs.Locality.{value_line}
 use Rattle.toml_edit_laws.proofs.common.Each.{all-append, all-front, all-back}
-use Rattle.toml_edit_laws.proofs.locality.Slots.{Found, found}
-use Rattle.toml_edit_edit_laws.proofs.fitting_inside.Limits.{Within, ElementsWithin, PairsWithin, LineWithin, array-closed, inline-closed, pairs-lines}
+use Rattle.toml_edit_edit_laws.proofs.fitting_inside.Limits.{PairsWithin, LineWithin, array-closed, inline-closed, pairs-lines}
 use Rattle.toml_edit_edit_laws.proofs.fitting_inside.Limits.{lines-pairs}
 use Rattle.toml_edit_edit_laws.proofs.fitting_inside.Parts.{Sound, ItemIsSound, InsideIsSound, SlotIsSound, items-sound, sound-items, slots-sound}
 use Rattle.toml_edit_edit_laws.proofs.fitting_inside.Parts.{sound-slots}
