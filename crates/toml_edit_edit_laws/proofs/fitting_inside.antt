@@ -2,3 +2,4 @@ pub mod Limits
 pub mod Parts
 pub mod NoWorse
 pub mod Below
+pub mod Held

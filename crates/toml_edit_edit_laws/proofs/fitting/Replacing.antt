@@ -100,7 +100,7 @@ module _ (mode : Mode) where
           out_back = a.out_back;
         }
 
-    w : Whole mode q itself v g M N [] [] (tree_blocks mode t) (tree_blocks mode u)
+    pub w : Whole mode q itself v g M N [] [] (tree_blocks mode t) (tree_blocks mode u)
     w = whole-tree mode q itself v g M N [] [] (at_key l.name) (front-refl q) edit-lines edit-blocks way t made (firm-visits mode t st)
         leads
 
