@@ -7,3 +7,6 @@ pub mod Adding
 pub mod Replacing
 pub mod Removing
 pub mod Edits
+pub mod Numbers
+pub mod Recounting
+pub mod RemovingElements

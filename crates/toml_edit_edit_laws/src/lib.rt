@@ -97,9 +97,9 @@ pub fn others_stay()
     ensures comment { (mode : Mode) → CommentStays mode }
 {}
 
-/// Keeps a steady tree that fits so: a value is replaced or added that fits anywhere, as a scalar
-/// does, with white space or the old decors around it and its key, or a slot is removed. So its
-/// print needs no test before it reads back.
+/// Says of which edits a steady tree that fits still fits, so that its print reads back untested: any
+/// removal, and a value that is replaced or added. That value fits anywhere, as a scalar does, and
+/// there is white space around it and its key, or what was there before.
 pub fn still_fits()
     ensures edit { (mode : Mode) → StillFits mode }
     ensures edits { (mode : Mode) → StillFitsAfterAll mode }

@@ -6,6 +6,7 @@ use Rattle.toml_edit_edit_laws.specs.Fitting.{StillFits, StillFitsAfterAll, Scal
 use Rattle.toml_edit_edit_laws.proofs.path_calls.Staying.{edit_stays}
 use Rattle.toml_edit_edit_laws.proofs.fitting.Adding.{added-fits}
 use Rattle.toml_edit_edit_laws.proofs.fitting.Removing.{removed-fits}
+use Rattle.toml_edit_edit_laws.proofs.fitting.RemovingElements.{removed-element-fits}
 use Rattle.toml_edit_edit_laws.proofs.fitting.Replacing.{replaced-fits}
 
 module _ (mode : Mode) where
@@ -15,7 +16,8 @@ module _ (mode : Mode) where
   still_fits (add way k n) t made steady fits (v, leads, is_new, plain, has, slot) h =
       added-fits mode t way v k n made steady leads is_new plain h fits has
   still_fits (remove way k) t made steady fits (v, s, leads, there) h = removed-fits mode t way v k s made steady leads there fits
-  still_fits (remove_element way k i) t made steady fits a h = absurd h
+  still_fits (remove_element way k i) t made steady fits (v, w, leads, last) h =
+      removed-element-fits mode t way v w k i made steady leads last fits
 
   pub still_fits_after_all : StillFitsAfterAll mode
   still_fits_after_all [] t made steady fits a h = fits

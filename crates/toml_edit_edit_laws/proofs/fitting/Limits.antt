@@ -1,11 +1,12 @@
 -- The limits of printed statements, of which one is changed, added or left out.
-use Rattle.std.proofs.Common.{◌≡◌, sym, ◌∙◌, subst, Bool, true, List, ◌∷◌, ◌++◌}
+use Rattle.std.proofs.Common.{◌≡◌, ap, sym, ◌∙◌, subst, Bool, true, List, ◌∷◌, ◌++◌}
 use Rattle.std.specs.Prelude.{filter}
 use Rattle.std.specs.List.{AllByRecursion, list_all}
 use Rattle.toml_edit_model.specs.Mode.{Mode}
 use Rattle.toml_edit_model.specs.Syntax.{keeps_limits}
 use Rattle.toml_edit_model.specs.Tree.{Tree}
 use Rattle.toml_edit_model.specs.Print.{Printed, printed, statements_of}
+use Rattle.toml_edit_laws.specs.Locality.{statements}
 use Rattle.toml_edit_laws.proofs.common.Each.{all-append, all-front, all-back, all-of, all-filter}
 use Rattle.toml_edit_laws.proofs.locality.Sound.{of-all}
 use Rattle.toml_edit_laws.proofs.normal_texts.LinesInModes.{all-statements}
@@ -45,6 +46,9 @@ module _ (mode : Mode) where
         (all-append KeepsLimits before (own ++ (x ∷ after)) (all-front KeepsLimits before (own ++ after) old)
         (all-append KeepsLimits own (x ∷ after) mine (f mine, all-back KeepsLimits own after rest))))
 
-  pub limits-filtered : (t u : Tree) (test : Printed → Bool) → printed mode u ≡ filter test (printed mode t) → HasLimits t → HasLimits u
+  pub limits-filtered : (t u : Tree) (test : Printed → Bool) → statements (printed mode u) ≡ statements (filter test (printed mode t))
+      → HasLimits t → HasLimits u
   limits-filtered t u test e h =
-      all-limits u (subst (AllByRecursion KeepsLimits) (sym e) (all-filter KeepsLimits test (printed mode t) (each-statement t h)))
+      let left : List Printed = filter test (printed mode t) in
+      ap (list_all keeps_limits) e ∙ all-statements left
+      ∙ of-all (λ p. keeps_limits p.statement) left (all-filter KeepsLimits test (printed mode t) (each-statement t h))

@@ -22,6 +22,12 @@ all-unsorted P before (x ∷ xs) h =
 passes-filter : {A : Type 0} (p test : A → Bool) (xs : List A) → list_all p xs ≡ true → list_all p (filter test xs) ≡ true
 passes-filter p test xs h = of-all p (filter test xs) (all-filter (λ x. p x ≡ true) test xs (all-of p xs h))
 
+pub passes-alike : {A : Type 0} (P : A → Type 0) (first second : A → Bool) (xs : List A) → ((x : A) → P x → first x ≡ second x)
+    → AllByRecursion P xs → list_all first xs ≡ list_all second xs
+passes-alike P first second [] f h = refl
+passes-alike P first second (x ∷ xs) f h =
+    ap (λ b. b && list_all first xs) (f x h.0) ∙ ap (λ b. second x && b) (passes-alike P first second xs f h.1)
+
 -- none is too late among fewer
 pub late-filter : (test : Visit → Bool) (vs : List Visit) → none_too_late vs ≡ true → none_too_late (filter test vs) ≡ true
 late-filter test [] h = refl

@@ -11,7 +11,7 @@ use Rattle.toml_edit_model.specs.Print.{Line, table_lines, below}
 use Rattle.toml_edit_model.specs.Fits.{has_own_prefix, FitsIn, is_steady_in}
 use Rattle.toml_edit_model.specs.Slots.{Slot, lookup_slot, without}
 use Rattle.toml_edit_model.specs.Lists.{slot_list, slots_from}
-use Rattle.toml_edit_laws.specs.Locality.{Turn, Leads, root_visit, edited, is_at_or_below}
+use Rattle.toml_edit_laws.specs.Locality.{Turn, Leads, root_visit, edited, is_at_or_below, statements}
 use Rattle.toml_edit_laws.proofs.common.Tests.{and_right}
 use Rattle.toml_edit_laws.proofs.common.PathLaws.{is_front, front-refl}
 use Rattle.toml_edit_laws.proofs.common.Each.{all-map, all-back}
@@ -132,4 +132,4 @@ module _ (mode : Mode) where
     removed-fits fits =
         let law = removed mode t way v k s made steady leads is_there in
         edited-fits mode q v g M N m blocks-in way t st (steady-parts mode u law.2.2) w as-before (λ h. tt)
-        (limits-filtered mode t u (λ p. not (is_at_or_below q p.path)) law.0 fits.limits) fits
+        (limits-filtered mode t u (λ p. not (is_at_or_below q p.path)) (ap statements law.0) fits.limits) fits
