@@ -16,3 +16,4 @@ pub mod HoldLaws
 pub mod AtLaws
 pub mod EditedLaws
 pub mod HeadedLaws
+pub mod LinesParsed

@@ -10,6 +10,9 @@ pub mod Ordered
 pub mod LaidView
 pub mod Tails
 pub mod Holding
+pub mod LinesReparse
+-- Worked examples: nothing cites them.
+pub mod examples
 -- What contracts of the crates below cite, for a program that lists `toml_edit` alone.
 pub use Rattle.toml_edit_model.specs as model
 pub use Rattle.toml_edit_laws.specs as laws

@@ -1,0 +1,2 @@
+-- Worked examples of arrays that are their own parse.
+pub mod LinesReparse
