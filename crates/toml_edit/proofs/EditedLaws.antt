@@ -6,6 +6,7 @@ use Rattle.toml_edit_model.specs.Mode.{Mode, plain}
 use Rattle.toml_edit_model.specs.Paths.{Path, to_key}
 use Rattle.toml_edit_model.specs.Keys.{names}
 use Rattle.toml_edit_model.specs.Tree.{Key, Node, Tree}
+use Rattle.toml_edit_model.specs.Print.{print_in}
 use Rattle.toml_edit_edit_laws.specs.Commands.{Answer, done, set_at, remove_at}
 use Rattle.toml_edit_laws.specs.EditLists.{named_path}
 use Rattle.toml_edit_edit_laws.specs.PathEdits.{PathCall, sets, removes, called, path_of_call, NamesSlot, OneCallMore, RemoveEdits, SetAddsAfterLines}
@@ -13,9 +14,10 @@ use Rattle.toml_edit_edit_laws.specs.PathEdits.{SetAddsUnder, SetReplaces}
 use Rattle.toml_edit_edit_laws.specs.Staying.{StaysButAt, NothingChanges, OneAfterAnother}
 use Rattle.toml_edit_paths.specs.Changes.{Changes}
 use Rattle.toml_edit_paths.specs.declared.fault.ChangeFault.{ChangeFault}
-use Rattle.toml_edit.specs.DocumentView.{IsPlain, IsPrintedAs, tree_owned}
+use Rattle.toml_edit.specs.DocumentView.{IsPlain, IsPrintedAs, open_owned, tree_owned}
 use Rattle.toml_edit.specs.Documents.{IsOwnedReading}
-use Rattle.toml_edit.specs.Edited.{IsEditedFrom, EditsBy, IsPlainValue, MayBePut, at_value, in_block, after_lines}
+use Rattle.toml_edit.specs.Edited.{EditedPrints, IsEditedFrom, EditsBy, IsHarmless, IsPlainValue, MayBePut, at_value, in_block, after_lines}
+use Rattle.toml_edit.proofs.PrintMeaning.{made-print}
 use Rattle.toml_edit.specs.declared.document.DocumentMut.{DocumentMut}
 
 pub done-where-ok : (meant : Answer Tree) (old new : Tree) (r : Result (Unit {0}) ChangeFault) → Changes meant old new r
@@ -92,3 +94,14 @@ module _ (both : (mode : Mode) → OneAfterAnother mode) (more : OneCallMore) (d
         named = named;
         at = refl;
       }) x.1
+
+-- the print of a document that fits
+pub edited-prints : EditedPrints
+edited-prints text calls d from fits =
+    record {
+      left = tree_owned d;
+      edited = from.edited;
+      print = ap (λ m. print_in m (open_owned d) (tree_owned d)) from.plain.0
+          ∙ ap (λ b. print_in plain b (tree_owned d)) from.plain.1;
+      back = made-print plain false (tree_owned d) (record { made = from.edited.stays.made; fits = fits });
+    }

@@ -4,6 +4,7 @@
 //! alone. docs/LAWS.md says in words what each one states.
 
 ghost use Rattle.toml_edit_model.specs.Mode.{Mode};
+ghost use Rattle.toml_edit.specs.Edited.{EditedPrints};
 ghost use Rattle.toml_edit.specs.LinesReparse.{ArraysAreParsed, InsertedIsOwnParse, ParsedAnywhere, ParsedAsOne, RemovedIsOwnParse};
 
 pub use toml_edit_edit_laws::{
@@ -14,6 +15,13 @@ pub use toml_edit_laws::{
     added, agree, cut, edits, in_order, late_places, normal, offsets, removed, reparse, replaced,
     steady, versions_accept, ways,
 };
+
+/// The print of a document that calls by paths have edited, and that fits, is accepted and means what
+/// its tree shows. After harmless calls it does fit, so there is nothing to check before it is
+/// printed.
+pub fn edited_prints()
+    ensures { EditedPrints }
+{}
 
 /// Inserting or removing a line of an array leaves what parsing the print gives, but for spans: the
 /// same comma, the same text before the bracket, and value by value the same text around it. What

@@ -1,10 +1,7 @@
 //! Changing the text of a document, and saying what stays.
-ghost use Rattle.std.specs.Prelude.{◌≡◌, List, true, IfErr, IfOk, IsTrue, OnOk, is_some, string_bytes};
+ghost use Rattle.std.specs.Prelude.{◌≡◌, true, IfErr, IfOk, IsTrue, OnOk, is_some, string_bytes};
 ghost use Rattle.toml_edit.specs.DocumentView.{print_of, tree_owned, IsPrintedAs};
-ghost use Rattle.toml_edit.specs.Edited.{IsEditedFrom, IsEditedText};
-ghost use Rattle.toml_edit.specs.edits.PathEdits.{PathCall};
 ghost use Rattle.toml_edit.specs.model.Conversions.{with_decor};
-ghost use Rattle.toml_edit.specs.model.Text.{Text};
 ghost use Rattle.toml_edit.specs.model.Lists.{slot_list};
 ghost use Rattle.toml_edit.specs.model.Tree.{is_value_node, node_decor};
 ghost use Rattle.toml_edit.specs.tree.Containers.{value_in};
@@ -58,8 +55,6 @@ pub fn set_string(
 pub fn print_edited(alloc: Global, document: &DocumentMut) -> Result<String, EditFault>
     ensures text { IfOk result (λ s. string_bytes s ≡ print_of document.now) }
     ensures means { OnOk result (∥ MeansItsTree document.now ∥₁) }
-    ensures edited { IfOk result (λ s. (text : Text) (calls : List PathCall)
-        → IsEditedFrom text calls document.now → ∥ IsEditedText text calls (string_bytes s) ∥₁) }
     ensures fails { IfErr result (FailsToFit (TreeFits document.now)) }
 {
     if !document.fits(alloc)? {

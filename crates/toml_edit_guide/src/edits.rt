@@ -6,10 +6,9 @@ ghost use Rattle.toml_edit.specs.edits.PathEdits.{removes, sets};
 ghost use Rattle.toml_edit.specs.model.Keys.{names, new_key};
 ghost use Rattle.toml_edit_guide.specs.Values.{flag_node, string_node, version_path};
 
-use crate::editing::print_edited;
 use crate::fault::EditFault;
 use std::alloc::Global;
-use toml_edit::laws::path_edits;
+use toml_edit::laws::{edited_prints, path_edits};
 use toml_edit::{DocumentMut, Key, Value};
 
 /// Replaces the version of a package, and returns the text in its normal form: all other statements
@@ -22,20 +21,20 @@ pub fn set_version(alloc: Global, text: &str, version: &str) -> Result<String, E
     ensures { IfOk result (λ s. ∥ IsEditedText text.now
         (sets version_path (string_node version.now) ∷ []) (string_bytes s) ∥₁) }
 {
+    edited_prints();
     let mut document = DocumentMut::from_str(alloc, text)?;
     let path = [Key::from_text(alloc, "package")?, Key::from_text(alloc, "version")?];
     replace(alloc, &mut document, &path, version)?;
-    print_edited(alloc, &document)
+    Ok(document.print(alloc)?)
 }
 
-/// Replaces two values by strings, and returns the text in its normal form: all other statements
-/// are as they were.
+/// Replaces two strings, and returns the text in its normal form: all other statements are as they
+/// were.
 ///
 /// # Errors
 ///
-/// [`EditFault::Toml`] if the text is refused, [`EditFault::Missing`] if there is no value at a
-/// path, [`EditFault::Unfit`] if the document would not fit, and [`EditFault::Memory`] if out of
-/// memory.
+/// [`EditFault::Toml`] if the text is refused, [`EditFault::Missing`] if there is no string at a
+/// path, and [`EditFault::Memory`] if out of memory.
 pub fn set_two(
     alloc: Global,
     text: &str,
@@ -47,13 +46,14 @@ pub fn set_two(
     ensures { IfOk result (λ s. ∥ IsEditedText text.now
         (sets first.now (string_node one.now) ∷ sets second.now (string_node two.now) ∷ []) (string_bytes s) ∥₁) }
 {
+    edited_prints();
     let mut document = DocumentMut::from_str(alloc, text)?;
     replace(alloc, &mut document, first, one)?;
     replace(alloc, &mut document, second, two)?;
-    print_edited(alloc, &document)
+    Ok(document.print(alloc)?)
 }
 
-/// Replaces a version by a string, adds a flag to the root, removes what is at a path, and returns
+/// Replaces a version, adds a flag to the root, removes what is at a path, and returns
 /// the text in its normal form: all other statements are as they were.
 ///
 /// # Errors
@@ -72,14 +72,15 @@ pub fn release(
         (sets version.now (string_node value.now) ∷ sets (new_key flag.now ∷ []) flag_node
         ∷ removes (names gone.now) ∷ []) (string_bytes s) ∥₁) }
 {
+    edited_prints();
     let mut document = DocumentMut::from_str(alloc, text)?;
     replace(alloc, &mut document, version, value)?;
     add_flag(alloc, &mut document, flag)?;
     document.remove_at(gone)?;
-    print_edited(alloc, &document)
+    Ok(document.print(alloc)?)
 }
 
-/// Replaces the value at a path by a string.
+/// Replaces the string at a path.
 fn replace(
     alloc: Global,
     document: &mut DocumentMut,
@@ -89,19 +90,19 @@ fn replace(
     ensures { OnOk result
         (EditsBy (sets path.now (string_node text.now)) document.old document.new) }
 {
-    if !has_value(document, path) {
+    if !has_string(document, path) {
         return Err(EditFault::Missing);
     }
     document.set_at(path, Value::string(alloc, text)?)?;
     Ok(())
 }
 
-/// Returns whether there is a value at a path.
-fn has_value(document: &DocumentMut, path: &[Key]) -> bool
+/// Returns whether there is a string at a path.
+fn has_string(document: &DocumentMut, path: &[Key]) -> bool
     ensures { IsTrue result → MayBePut (tree_owned document.now) path.now }
 {
     match document.get_at(path) {
-        Some(item) => item.is_value(),
+        Some(item) => item.is_str(),
         None => false,
     }
 }

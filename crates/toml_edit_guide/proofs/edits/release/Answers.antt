@@ -1,5 +1,6 @@
--- One step for each call.
-use Rattle.std.proofs.lemmas.Result.{IfOk-weaker}
+-- One step for each call. What is set is a scalar, so the document fits.
+use Rattle.std.proofs.Common.{refl, subst, sym}
+use Rattle.toml_edit.specs.Edited.{IsEditedText}
 use Rattle.toml_edit_guide.proofs.edits.release.Goals as goal
 
 pub returns : goal.returns
@@ -8,4 +9,5 @@ returns c =
     let one = c.in_ok-replace.ensures text _ c.in_ok-document.ensures.edits in
     let two = c.in_ok-add_flag.ensures text _ one in
     let three = c.in_ok-remove_at.ensures.edits text _ two in
-    IfOk-weaker c.print_edited.result _ _ (λ s h. h text _ three) c.print_edited.ensures.edited
+    let fits = three.fits ((refl, tt, tt), (refl, tt, tt), tt, tt) in
+    ∣ subst (IsEditedText text _) (sym c.in_ok-print.ensures) (c.edited_prints.ensures text _ _ three fits) ∣₁

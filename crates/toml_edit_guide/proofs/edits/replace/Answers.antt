@@ -9,4 +9,4 @@ pub returns : goal.returns
 returns c =
     let is = c.in_ok-string.ensures in
     subst (λ (n : Node). EditsBy (sets c.args.path.now n) c.args.document.now c.set_at.new.self) is
-    (c.in_ok-set_at.ensures.edits (subst IsPlainValue (sym is) (refl, (tt, tt))) (c.has_value.ensures c.if-not-has_value.false))
+    (c.in_ok-set_at.ensures.edits (subst IsPlainValue (sym is) (refl, (tt, tt))) (c.has_string.ensures c.if-not-has_string.false))

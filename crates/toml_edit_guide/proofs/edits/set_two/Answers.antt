@@ -1,5 +1,6 @@
--- One step for each call.
-use Rattle.std.proofs.lemmas.Result.{IfOk-weaker}
+-- One step for each call. What is set is a string, so the document fits.
+use Rattle.std.proofs.Common.{refl, subst, sym}
+use Rattle.toml_edit.specs.Edited.{IsEditedText}
 use Rattle.toml_edit_guide.proofs.edits.set_two.Goals as goal
 
 pub returns : goal.returns
@@ -7,4 +8,5 @@ returns c =
     let text = c.args.text.now in
     let one = c.in_ok-replace.ensures text _ c.in_ok-document.ensures.edits in
     let two = c.in_ok-replace-2.ensures text _ one in
-    IfOk-weaker c.print_edited.result _ _ (λ s h. h text _ two) c.print_edited.ensures.edited
+    let fits = two.fits ((refl, tt, tt), (refl, tt, tt), tt) in
+    ∣ subst (IsEditedText text _) (sym c.in_ok-print.ensures) (c.edited_prints.ensures text _ _ two fits) ∣₁
