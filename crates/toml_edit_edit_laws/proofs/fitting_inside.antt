@@ -3,3 +3,5 @@ pub mod Parts
 pub mod NoWorse
 pub mod Below
 pub mod Held
+pub mod NewKeys
+pub mod Calls

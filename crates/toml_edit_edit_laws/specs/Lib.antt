@@ -9,5 +9,6 @@ pub mod Staying
 pub mod PathEdits
 pub mod Fitting
 pub mod FittingInside
+pub mod CallsFit
 -- Worked examples: nothing cites them.
 pub mod examples

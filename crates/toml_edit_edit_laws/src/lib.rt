@@ -3,10 +3,12 @@
 #![tactic(auto)]
 
 ghost use Rattle.toml_edit_model.specs.Mode.{Mode};
+ghost use Rattle.toml_edit_edit_laws.specs.CallsFit.{RemoveFits, SetAddsAfterLinesFits, SetAddsUnderFits, SetReplacesFits};
 ghost use Rattle.toml_edit_edit_laws.specs.CommandLaws.{DecimalsName, GetAfterSet, OneTextNames, PathsHaveWays, ReadHasNoPlaceholders, RemoveChanges, RemoveDrops, RemoveElementDrops, RemoveFinds, RemoveKeepsItems, RemoveKeepsTheRest, RemoveReadsBack, RemoveRefuses, RemovedWasThere, SetAdds, SetChanges, SetKeepsItems, SetKeepsTheRest, SetReadsBack, SetRefuses, SetSteps, WaysHavePaths};
 ghost use Rattle.toml_edit_edit_laws.specs.Comments.{AfterLine, BeforeLine, HeaderRecommented, HeaderRecommentedMeans, HeaderRecommentedStaysMade, HiddenRecommented, KeepsHeader, LineRecommented, RecommentedMeans, RecommentedStaysMade, RootRecommented};
 ghost use Rattle.toml_edit_edit_laws.specs.DottedAdds.{AddedAfterLines};
 ghost use Rattle.toml_edit_edit_laws.specs.Fitting.{ScalarsFitAnywhere, StillFits, StillFitsAfterAll, StillFitsAfterLines};
+ghost use Rattle.toml_edit_edit_laws.specs.FittingInside.{HeldValuesFit, RemoveInsideFits, SetInsideFits};
 ghost use Rattle.toml_edit_edit_laws.specs.PathEdits.{OneCallMore, RemoveEdits, RootIsNamed, SetAddsAfterLines, SetAddsUnder, SetReplaces, TablesAreNamed};
 ghost use Rattle.toml_edit_edit_laws.specs.Placing.{AbsentStays, InsertedAt, InsertedMeans, InsertedStands, InsertedStaysMade, MovedInside, MovedLine, MovedMeans, MovedOthers, MovedStands, MovedStaysMade, PlacedStays};
 ghost use Rattle.toml_edit_edit_laws.specs.Renaming.{Renamed, RenamedLine, RenamedMeans, RenamedOthers, RenamedStaysMade, RenameRefused};
@@ -105,6 +107,20 @@ pub fn still_fits()
     ensures edits { (mode : Mode) → StillFitsAfterAll mode }
     ensures after_lines { (mode : Mode) → StillFitsAfterLines mode }
     ensures scalars { (mode : Mode) → ScalarsFitAnywhere mode }
+{}
+
+/// Says of which calls by paths a steady tree that fits still fits, so that its print reads back
+/// untested: any `remove_at`, a `set_at` of a scalar at a value or inside one, and a `set_at` at a
+/// new key of a value that fits anywhere, with white space around it. A value in a table of such a
+/// tree fits anywhere, and still does when a scalar is set inside it, or something is removed there.
+pub fn calls_still_fit()
+    ensures held { (mode : Mode) → HeldValuesFit mode }
+    ensures set_inside { (mode : Mode) → SetInsideFits mode }
+    ensures remove_inside { (mode : Mode) → RemoveInsideFits mode }
+    ensures replaces { (mode : Mode) → SetReplacesFits mode }
+    ensures adds { (mode : Mode) → SetAddsUnderFits mode }
+    ensures adds_after_lines { (mode : Mode) → SetAddsAfterLinesFits mode }
+    ensures removes { (mode : Mode) → RemoveFits mode }
 {}
 
 /// `set` at a path of the tree of what was read changes the statement of the value there, in its

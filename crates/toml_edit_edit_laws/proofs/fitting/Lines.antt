@@ -43,7 +43,7 @@ white-end mode t h = (line_end mode t, [], by_test (holds_return mode t), inl re
     by_test false = h
 
 module _ (mode : Mode) where
-  white-side : (r : Option Raw) → IsWhiteSpace (shown_side mode [] r) → IsWhiteSpace (shown_side mode one_space r)
+  pub white-side : (r : Option Raw) → IsWhiteSpace (shown_side mode [] r) → IsWhiteSpace (shown_side mode one_space r)
   white-side None h = refl
   white-side (Some (owned t)) h = h
   white-side (Some (span i j)) h = refl

@@ -25,7 +25,7 @@ use Rattle.toml_edit_laws.proofs.locality.Sound.{leads-made, leads-sound, sound-
 use Rattle.toml_edit_edit_laws.specs.PathEdits.{removes, GoesTo, IsEdit, RemoveEdits}
 use Rattle.toml_edit_edit_laws.proofs.path_calls.Spots.{GoesOn, at_slot, at_element, in_value, Spot, spot, spot-names}
 use Rattle.toml_edit_edit_laws.proofs.path_calls.Inside.{remove-stands, remove-made, spelled}
-use Rattle.toml_edit_edit_laws.proofs.path_calls.Setting.{edit-of}
+use Rattle.toml_edit_edit_laws.proofs.path_calls.Setting.{Replaces, EditSuch, edit-of}
 
 -- what the path leads to can be removed from the value that it goes into
 there-removes : (t : Tree) (x : Text) (inner : List Text) (top found : Node) → item_below (x ∷ inner) top ≡ Some found → (n : Node)
@@ -38,6 +38,10 @@ there-removes t x inner top found h =
     (mapped (λ m. changed [] (with_item m) (slot_list one.slots)) (remove_below (x ∷ inner) top)) root.from root.is in
     let item = was-mapped (λ m. changed [] (with_item m) (slot_list one.slots)) (remove_below (x ∷ inner) top) slots.from slots.is in
     (item.from, item.is)
+
+-- something inside the first value is removed, and that leaves the second
+abbrev pub RemovesInside : Node → Node → Type 0
+RemovesInside old n = (x : Text) × (inner : List Text) × (remove_below (x ∷ inner) old ≡ done n)
 
 module _ (mode : Mode) (t u : Tree) (path : List Text) (found : Node) (p : Spot (root_visit t) path found) (made : SlotsAreWellMade t.slots)
     (steady : is_steady_in mode t ≡ true) (gone : remove_at path t ≡ done u) where
@@ -65,15 +69,15 @@ module _ (mode : Mode) (t u : Tree) (path : List Text) (found : Node) (p : Spot 
   at more is = (p.front, p.goes, p.path_is ∙ ap (λ (z : List Text). p.front ++ (p.segment ∷ z)) is)
 
   by_end : (inner : List Text) → p.inner ≡ inner → item_below inner p.top ≡ Some found → GoesOn p.top found inner
-      → IsEdit mode (removes path) t u
+      → EditSuch mode (removes path) t u (Replaces mode t RemovesInside)
   by_end [] is below (at_slot same) =
       let here : remove_below (p.segment ∷ []) (table w.fields w.slots)
       ≡ done (table w.fields (slots_from (without p.segment (slot_list w.slots)))) =
       ap (λ o. mapped (λ xs. table w.fields (slots_from xs)) (drop_slot p.segment (slot_list w.slots) o)) p.shown in
-      edit-of mode (removes path) t u (remove p.way p.segment) made steady (at [] is)
+      edit-of mode (removes path) t u (Replaces mode t RemovesInside) (remove p.way p.segment) made steady (at [] is)
       (w, keyed p.key p.top, p.leads, p.there)
       (left [] (without p.segment) is (remove-goes-down p.segment []) here)
-      (spot-names t path found p (to_key w.path p.key.name) (ap (to_key w.path) (sym there-is.named)))
+      (spot-names t path found p (to_key w.path p.key.name) (ap (to_key w.path) (sym there-is.named))) tt
   by_end (x ∷ []) is below (at_element y e) =
       let i = length e.before in
       let g : List (Slot Node) → List (Slot Node) = changed p.segment (on_item (on_items (removed_at i))) in
@@ -89,9 +93,9 @@ module _ (mode : Mode) (t u : Tree) (path : List Text) (found : Node) (p : Spot 
       ∙ ap (λ ys. done (table w.fields (slots_from ys)))
       (changed-same p.segment (with_item (tables e.extent (items_from (removed_at i (item_list e.items))))) (on_item (on_items (removed_at i)))
       w.slots (keyed p.key (tables e.extent e.items)) well there refl) in
-      edit-of mode (removes path) t u (remove_element p.way p.segment i) made steady (y, at (y ∷ []) is, e.number)
+      edit-of mode (removes path) t u (Replaces mode t RemovesInside) (remove_element p.way p.segment i) made steady (y, at (y ∷ []) is, e.number)
       (w, _, p.leads, (p.key, e.extent, e.items, e.before, e.fields, e.slots, e.after, there, e.parts, refl, refl))
-      (left (y ∷ []) g is (remove-goes-down p.segment (y ∷ [])) here) (spot-names t path found p (to_key w.path p.segment) refl)
+      (left (y ∷ []) g is (remove-goes-down p.segment (y ∷ [])) here) (spot-names t path found p (to_key w.path p.segment) refl) tt
   by_end (x ∷ inner) is below (in_value y more value) =
       let n = there-removes t y more p.top found below in
       let g : List (Slot Node) → List (Slot Node) = changed p.segment (with_item n.0) in
@@ -102,7 +106,7 @@ module _ (mode : Mode) (t u : Tree) (path : List Text) (found : Node) (p : Spot 
       ap (λ o. mapped (λ xs. table w.fields (slots_from xs)) (change_slot false (new_key p.segment) (remove_below (y ∷ more)) (slot_list w.slots) o))
       p.there
       ∙ ap (λ a. mapped (λ xs. table w.fields (slots_from xs)) (mapped (λ m. changed p.segment (with_item m) (slot_list w.slots)) a)) n.1 in
-      edit-of mode (removes path) t u (replace p.way p.segment (λ l. l) n.0) made steady (y, more, at (y ∷ more) is, λ l. refl) (
+      edit-of mode (removes path) t u (Replaces mode t RemovesInside) (replace p.way p.segment (λ l. l) n.0) made steady (y, more, at (y ∷ more) is, λ l. refl) (
         w,
         p.key,
         p.top,
@@ -115,11 +119,16 @@ module _ (mode : Mode) (t u : Tree) (path : List Text) (found : Node) (p : Spot 
       )
       (left (y ∷ more) g is (remove-goes-down p.segment (y ∷ more)) here)
       (spot-names t path found p (to_key w.path p.key.name) (ap (to_key w.path) (sym there-is.named)))
+      (λ l. refl, stands.1, there-is.made, (y, more, n.1))
 
 module _ (mode : Mode) where
-  pub remove_edits : RemoveEdits mode
-  remove_edits t u [] made steady gone = absurd cc
-  remove_edits t u (k ∷ rest) made steady gone =
+  pub remove-edit : (t u : Tree) (path : List Text) → SlotsAreWellMade t.slots → is_steady_in mode t ≡ true → remove_at path t ≡ done u
+      → EditSuch mode (removes path) t u (Replaces mode t RemovesInside)
+  remove-edit t u [] made steady gone = absurd cc
+  remove-edit t u (k ∷ rest) made steady gone =
       let was = removed_was_there t u (k ∷ rest) gone in
       let p : Spot (root_visit t) (k ∷ rest) was.0 = spot was.0 k rest (root_visit t) was.1 in
       by_end mode t u (k ∷ rest) was.0 p made steady gone p.inner refl p.below p.on
+
+  pub remove_edits : RemoveEdits mode
+  remove_edits t u path made steady gone = (remove-edit t u path made steady gone).0

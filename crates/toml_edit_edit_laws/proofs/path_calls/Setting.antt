@@ -3,15 +3,15 @@ use Rattle.std.proofs.Common.{◌≡◌, refl, sym, ◌∙◌, ap, subst, true, 
 use Rattle.toml_edit_model.specs.Mode.{Mode}
 use Rattle.toml_edit_model.specs.Text.{Text, one}
 use Rattle.toml_edit_model.specs.Paths.{to_key}
-use Rattle.toml_edit_model.specs.Tree.{Key, Node, table, SlotsAreWellMade, IsWellMade, Tree, is_value_node}
+use Rattle.toml_edit_model.specs.Tree.{Key, Node, table, SlotsAreWellMade, IsWellMade, Tree, is_value_node, node_decor}
 use Rattle.toml_edit_model.specs.HeaderOrder.{Visit}
 use Rattle.toml_edit_model.specs.Fits.{is_steady_in}
 use Rattle.toml_edit_model.specs.Keys.{cleared_key, names}
 use Rattle.toml_edit_model.specs.Slots.{Slot, keyed, with_item, lookup_slot, changed}
 use Rattle.toml_edit_model.specs.Lists.{slot_list, slots_from}
 use Rattle.toml_edit_laws.specs.Locality.{root_visit, edited, is_plain_value}
-use Rattle.toml_edit_laws.specs.EditLists.{Edit, replace, add, after, Applies, named_path}
-use Rattle.toml_edit_edit_laws.specs.Commands.{done, mapped, change_slot, item_below, root_item, set_below, set_at, with_slots}
+use Rattle.toml_edit_laws.specs.EditLists.{Edit, replace, add, remove, remove_element, after, Applies, named_path}
+use Rattle.toml_edit_edit_laws.specs.Commands.{done, mapped, change_slot, item_at, item_below, root_item, set_below, set_at, with_slots}
 use Rattle.toml_edit_edit_laws.specs.CommandLaws.{AreSpelled, Goes, NamesTable, made_below}
 use Rattle.toml_edit_edit_laws.proofs.commands.Going.{goes-along}
 use Rattle.toml_edit_edit_laws.proofs.commands.Setting.{done-is, made-below-is}
@@ -33,11 +33,11 @@ value-there top old (x ∷ []) (at_element y e) h =
     absurd (let c : is_value_node (table e.fields e.slots) ≡ true = subst (λ y. is_value_node y ≡ true) e.found_is h in cc)
 value-there top old (x ∷ inner) (in_value y rest is) h = is
 
-made-plain : (v : Node) (more : List Key) → is_plain_value v ≡ true → is_plain_value (made_below more v) ≡ true
+pub made-plain : (v : Node) (more : List Key) → is_plain_value v ≡ true → is_plain_value (made_below more v) ≡ true
 made-plain v [] h = h
 made-plain v (k ∷ more) h = refl
 
-made-made : (v : Node) (more : List Key) → AreSpelled more → IsWellMade v → IsWellMade (made_below more v)
+pub made-made : (v : Node) (more : List Key) → AreSpelled more → IsWellMade v → IsWellMade (made_below more v)
 made-made v [] sp w = w
 made-made v (k ∷ more) sp w = (refl, sp.0, made-made v more sp.1 w, tt)
 
@@ -80,7 +80,7 @@ keys-at (k ∷ path) (y ∷ front) x inner h =
     keys-next k path y front x inner first (keys-at path front x inner rest)
 
 -- a new key adds a slot at the end of its table
-adds-slot : (t u : Tree) (path : List Key) (w : Visit) (k : Key) (more : List Key) (v : Node) → SlotsAreWellMade t.slots
+pub adds-slot : (t u : Tree) (path : List Key) (w : Visit) (k : Key) (more : List Key) (v : Node) → SlotsAreWellMade t.slots
     → (named : NamesTable t (names path) w) → lookup_slot k.name (slot_list w.slots) ≡ None → set_at (path ++ (k ∷ more)) v t ≡ done u
     → u ≡ edited named.way (λ ss. ss ++ one (keyed (cleared_key k) (made_below more v))) t
 adds-slot t u path w k more v made named is_new set =
@@ -99,25 +99,45 @@ slot-named : (t : Tree) (path : List Key) (w : Visit) (k : Key) (more : List Key
 slot-named t path w k more named =
     record { front = names path; key = k.name; inner = names more; table = w; is = names-join path (k ∷ more); named = named; at = refl }
 
-module _ (mode : Mode) where
-  -- an edit that applies, with the tree that it leaves
-  pub edit-of : (c : PathCall) (t u : Tree) (e : Edit) → SlotsAreWellMade t.slots → is_steady_in mode t ≡ true → IsEditAt c e
-      → (a : Applies mode e t) → u ≡ after e t → NamesSlot t (path_of_call c) (named_path mode e t a) → IsEdit mode c t u
-  edit-of c t u e made steady at applies leaves names =
-      record {
-        edit = e;
-        at = at;
-        applies = applies;
-        leaves = leaves;
-        names = names;
-        stays = subst (StaysButAt mode (named_path mode e t applies ∷ []) t) (sym leaves) (edit_stays mode e t made steady applies);
-      }
+-- a value is set where the other is inside the first, and that leaves the second
+abbrev pub SetsInside : Node → Node → Node → Node → Type 0
+SetsInside v there old n = (inner : List Key) × (item_below (names inner) old ≡ Some there) × (set_below v inner old ≡ done n)
 
-  pub set_replaces : SetReplaces mode
-  set_replaces t u [] v old made steady wv plain there is set =
+module _ (mode : Mode) where
+  -- what becomes of a value that an edit replaces; no edit adds one
+  abbrev pub Replaces : (t : Tree) → (Node → Node → Type 0) → (e : Edit) → Applies mode e t → Type 0
+  Replaces t R (replace way k f n) a = ((l : Key) → f l ≡ l) × (node_decor n ≡ node_decor a.2) × IsWellMade a.2 × R a.2 n
+  Replaces t R (add way k n) a = ⊥
+  Replaces t R (remove way k) a = Unit {0}
+  Replaces t R (remove_element way k i) a = Unit {0}
+
+  -- the call is an edit of which more is known
+  abbrev pub EditSuch : (c : PathCall) (t u : Tree) → ((e : Edit) → Applies mode e t → Type 0) → Type 0
+  EditSuch c t u P = (x : IsEdit mode c t u) × P x.edit x.applies
+
+  -- an edit that applies, with the tree that it leaves
+  pub edit-of : (c : PathCall) (t u : Tree) (P : (e : Edit) → Applies mode e t → Type 0) (e : Edit) → SlotsAreWellMade t.slots
+      → is_steady_in mode t ≡ true → IsEditAt c e
+      → (a : Applies mode e t) → u ≡ after e t → NamesSlot t (path_of_call c) (named_path mode e t a) → P e a → EditSuch c t u P
+  edit-of c t u P e made steady at applies leaves names more = (
+    record {
+      edit = e;
+      at = at;
+      applies = applies;
+      leaves = leaves;
+      names = names;
+      stays = subst (StaysButAt mode (named_path mode e t applies ∷ []) t) (sym leaves) (edit_stays mode e t made steady applies);
+    },
+    more,
+  )
+
+  pub set-edit : (t u : Tree) (path : List Key) (v old : Node) → SlotsAreWellMade t.slots → is_steady_in mode t ≡ true → IsWellMade v
+      → is_plain_value v ≡ true → item_at (names path) t ≡ Some old → is_value_node old ≡ true → set_at path v t ≡ done u
+      → EditSuch (sets path v) t u (Replaces t (SetsInside v old))
+  set-edit t u [] v old made steady wv plain there is set =
       absurd (let same : root_item t ≡ old = some-is (root_item t) old there in
       let c : is_value_node (root_item t) ≡ true = subst (λ x. is_value_node x ≡ true) (sym same) is in cc)
-  set_replaces t u (j ∷ rest) v old made steady wv plain there is set =
+  set-edit t u (j ∷ rest) v old made steady wv plain there is set =
       let path : List Key = j ∷ rest in
       let p : Spot (root_visit t) (names path) old = spot old j.name (names rest) (root_visit t) there in
       let ks = keys-at path p.front p.segment p.inner p.path_is in
@@ -143,7 +163,7 @@ module _ (mode : Mode) where
       let leaves : u ≡ edited p.way g t =
       done-is u (edited p.way g t)
       (sym set ∙ ap (λ q. mapped (with_slots t) (set_below v q (root_item t))) ks.is ∙ ap (mapped (with_slots t)) along) in
-      edit-of (sets path v) t u (replace p.way k (λ l. l) n.0) made steady
+      edit-of (sets path v) t u (Replaces t (SetsInside v old)) (replace p.way k (λ l. l) n.0) made steady
       (names ks.after, (names ks.before, goes, ap names ks.is ∙ names-join ks.before (ks.key ∷ ks.after)), λ l. refl) (
         w,
         p.key,
@@ -156,13 +176,17 @@ module _ (mode : Mode) where
         (spelled k w.slots (keyed p.key p.top) well at, set-made t v ks.after p.top n.0 old wv fd.made below n.1),
       ) leaves
       (spot-names t (names path) old p (to_key w.path p.key.name) (ap (to_key w.path) (sym fd.named ∙ ks.key_is)))
+      (λ l. refl, stands.1, fd.made, (ks.after, below, n.1))
+
+  pub set_replaces : SetReplaces mode
+  set_replaces t u path v old made steady wv plain there is set = (set-edit t u path v old made steady wv plain there is set).0
 
   pub set_adds_under : SetAddsUnder mode
   set_adds_under t u path w k more v made steady wv plain sp named is_new has set =
-      edit-of (sets (path ++ (k ∷ more)) v) t u (add named.way (cleared_key k) (made_below more v)) made steady
+      (edit-of (sets (path ++ (k ∷ more)) v) t u (λ e a. Unit {0}) (add named.way (cleared_key k) (made_below more v)) made steady
       (path, k, more, named.goes, refl, refl, refl)
       (w, named.leads, is_new, made-plain v more plain, has, (sp.0, made-made v more sp.1 wv))
-      (adds-slot t u path w k more v made named is_new set) (slot-named t path w k more named)
+      (adds-slot t u path w k more v made named is_new set) (slot-named t path w k more named) tt).0
 
   pub set_adds_after_lines : SetAddsAfterLines mode
   set_adds_after_lines t u path w k more v made steady wv plain sp named is_new some set =
