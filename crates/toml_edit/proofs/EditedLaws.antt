@@ -1,16 +1,23 @@
 -- A document that calls by paths have edited.
-use Rattle.std.proofs.Common.{◌≡◌, refl, sym, ◌∙◌, ap, subst, List, [], ◌∷◌, ◌++◌, Result, Ok, Err}
+use Rattle.std.proofs.Common.{◌≡◌, refl, sym, ◌∙◌, ap, subst, true, List, [], ◌∷◌, ◌++◌, Result, Ok, Err}
 use Rattle.std.specs.Prelude.{OnOk}
+use Rattle.std.specs.List.{AllByRecursion}
+use Rattle.toml_edit_model.specs.Fits.{Fits}
+use Rattle.toml_edit_laws.proofs.common.Tests.{and_left}
 use Rattle.toml_edit_model.specs.Text.{Text}
 use Rattle.toml_edit_model.specs.Mode.{Mode, plain}
 use Rattle.toml_edit_model.specs.Paths.{Path, to_key}
 use Rattle.toml_edit_model.specs.Keys.{names}
-use Rattle.toml_edit_model.specs.Tree.{Key, Node, Tree}
+use Rattle.toml_edit_model.specs.Tree.{Key, Node, nothing, leaf, list, inline, table, tables, Tree, node_decor}
 use Rattle.toml_edit_model.specs.Print.{print_in}
 use Rattle.toml_edit_edit_laws.specs.Commands.{Answer, done, set_at, remove_at}
 use Rattle.toml_edit_laws.specs.EditLists.{named_path}
 use Rattle.toml_edit_edit_laws.specs.PathEdits.{PathCall, sets, removes, called, path_of_call, NamesSlot, OneCallMore, RemoveEdits, SetAddsAfterLines}
 use Rattle.toml_edit_edit_laws.specs.PathEdits.{SetAddsUnder, SetReplaces}
+use Rattle.toml_edit_edit_laws.specs.CallsFit.{IsHarmlessBelow, RemoveFits, SetAddsAfterLinesFits, SetAddsUnderFits, SetReplacesFits}
+use Rattle.toml_edit_edit_laws.specs.CommandLaws.{is_scalar}
+use Rattle.toml_edit_edit_laws.specs.Fitting.{IsSpaced}
+use Rattle.toml_edit_edit_laws.proofs.fitting.Edits.{scalars_fit_anywhere}
 use Rattle.toml_edit_edit_laws.specs.Staying.{StaysButAt, NothingChanges, OneAfterAnother}
 use Rattle.toml_edit_paths.specs.Changes.{Changes}
 use Rattle.toml_edit_paths.specs.declared.fault.ChangeFault.{ChangeFault}
@@ -37,7 +44,22 @@ read-so law text d reading p =
         stays = law plain (tree_owned d) reading.tree.made (reading.tree.steady plain);
       };
       plain = p;
+      fits = λ _. reading.tree.fits plain;
     }
+
+-- the calls before the last one, and the last
+all-before : (calls : List PathCall) (c : PathCall) → AllByRecursion IsHarmless (calls ++ (c ∷ []))
+    → AllByRecursion IsHarmless calls × IsHarmless c
+all-before [] c h = (tt, h.0)
+all-before (b ∷ calls) c h = let r = all-before calls c h.1 in ((h.0, r.0), r.1)
+
+harmless-scalar : (v : Node) → is_scalar v ≡ true → IsSpaced plain (node_decor v) → IsHarmlessBelow plain [] v
+harmless-scalar (leaf s r d) is white = (white, scalars_fit_anywhere plain s r d, refl)
+harmless-scalar (list f xs) is white = absurd cc
+harmless-scalar (inline f ss) is white = absurd cc
+harmless-scalar (table f ss) is white = absurd cc
+harmless-scalar (tables e xs) is white = absurd cc
+harmless-scalar nothing is white = absurd cc
 
 names-join : (path more : List Key) → names (path ++ more) ≡ names path ++ names more
 names-join [] more = refl
@@ -46,8 +68,9 @@ names-join (k ∷ path) more = ap (λ xs. k.name ∷ xs) (names-join path more)
 module _ (both : (mode : Mode) → OneAfterAnother mode) (more : OneCallMore) (d e : DocumentMut) (same : IsPrintedAs e d) where
   one-more : (c : PathCall) (p : Path) (text : Text) (calls : List PathCall) → IsEditedFrom text calls d
       → called c (tree_owned d) ≡ done (tree_owned e) → NamesSlot (tree_owned d) (path_of_call c) p
-      → StaysButAt plain (p ∷ []) (tree_owned d) (tree_owned e) → IsEditedFrom text (calls ++ (c ∷ [])) e
-  one-more c p text calls from is names stays =
+      → StaysButAt plain (p ∷ []) (tree_owned d) (tree_owned e)
+      → (Fits (tree_owned d) → IsHarmless c → Fits (tree_owned e)) → IsEditedFrom text (calls ++ (c ∷ [])) e
+  one-more c p text calls from is names stays fits =
       let x = from.edited in
       record {
         edited = record {
@@ -58,42 +81,51 @@ module _ (both : (mode : Mode) → OneAfterAnother mode) (more : OneCallMore) (d
           stays = both plain x.places (p ∷ []) x.tree (tree_owned d) (tree_owned e) x.stays stays;
         };
         plain = (same.0 ∙ from.plain.0, same.1 ∙ from.plain.1);
+        fits = λ harmless. let h = all-before calls c harmless in fits (from.fits h.0) h.1;
       }
 
-  pub removed-so : ((mode : Mode) → RemoveEdits mode) → (path : List Text) → remove_at path (tree_owned d) ≡ done (tree_owned e)
-      → EditsBy (removes path) d e
-  removed-so law path is text calls from =
+  pub removed-so : ((mode : Mode) → RemoveEdits mode) → ((mode : Mode) → RemoveFits mode) → (path : List Text)
+      → remove_at path (tree_owned d) ≡ done (tree_owned e) → EditsBy (removes path) d e
+  removed-so law fits path is text calls from =
       let s = from.edited.stays in
       let x = law plain (tree_owned d) (tree_owned e) path s.made s.steady.2 is in
       one-more (removes path) (named_path plain x.edit (tree_owned d) x.applies) text calls from is x.names x.stays
+      (λ old _. fits plain (tree_owned d) (tree_owned e) path s.made s.steady.2 old is)
 
-  pub set-so : ((mode : Mode) → SetReplaces mode) → ((mode : Mode) → SetAddsUnder mode) → ((mode : Mode) → SetAddsAfterLines mode)
-      → (path : List Key) (v : Node) → set_at path v (tree_owned d) ≡ done (tree_owned e) → IsPlainValue v
-      → MayBePut (tree_owned d) path → EditsBy (sets path v) d e
-  set-so replaces adds lines path v is (flat, well) (at_value old there value) text calls from =
-      let s = from.edited.stays in
-      let x = replaces plain (tree_owned d) (tree_owned e) path v old s.made s.steady.2 well flat there value is in
-      one-more (sets path v) (named_path plain x.edit (tree_owned d) x.applies) text calls from is x.names x.stays
-  set-so replaces adds lines path v is (flat, well) (in_block front k w same-path spelled named new has) text calls from =
-      let s = from.edited.stays in
-      let x = adds plain (tree_owned d) (tree_owned e) front w k [] v s.made s.steady.2 well flat (spelled, tt) named new has
-      (ap (λ q. set_at q v (tree_owned d)) (sym same-path) ∙ is) in
-      let p : Path = named_path plain x.edit (tree_owned d) x.applies in
-      one-more (sets path v) p text calls from is (subst (λ q. NamesSlot (tree_owned d) (names q) p) (sym same-path) x.names) x.stays
-  set-so replaces adds lines path v is (flat, well) (after_lines front k w same-path spelled named new some) text calls from =
-      let s = from.edited.stays in
-      let x = lines plain (tree_owned d) (tree_owned e) front w k [] v s.made s.steady.2 well flat (spelled, tt) named new some
-      (ap (λ q. set_at q v (tree_owned d)) (sym same-path) ∙ is) in
-      one-more (sets path v) (to_key w.path k.name) text calls from is
-      (record {
-        front = names front;
-        key = k.name;
-        inner = [];
-        table = w;
-        is = ap names same-path ∙ names-join front (k ∷ []);
-        named = named;
-        at = refl;
-      }) x.1
+  module _ (replaces : (mode : Mode) → SetReplaces mode) (adds : (mode : Mode) → SetAddsUnder mode)
+      (lines : (mode : Mode) → SetAddsAfterLines mode) (replaces-fit : (mode : Mode) → SetReplacesFits mode)
+      (adds-fit : (mode : Mode) → SetAddsUnderFits mode) (lines-fit : (mode : Mode) → SetAddsAfterLinesFits mode) where
+    pub set-so : (path : List Key) (v : Node) → set_at path v (tree_owned d) ≡ done (tree_owned e) → IsPlainValue v
+        → MayBePut (tree_owned d) path → EditsBy (sets path v) d e
+    set-so path v is (flat, well) (at_value old there value) text calls from =
+        let s = from.edited.stays in
+        let x = replaces plain (tree_owned d) (tree_owned e) path v old s.made s.steady.2 well flat there (and_left _ _ value) is in
+        one-more (sets path v) (named_path plain x.edit (tree_owned d) x.applies) text calls from is x.names x.stays
+        (λ fits h. replaces-fit plain (tree_owned d) (tree_owned e) path v old s.made s.steady.2 fits well h.0 there value is)
+    set-so path v is (flat, well) (in_block front k w same-path spelled named new has) text calls from =
+        let s = from.edited.stays in
+        let at-path = ap (λ q. set_at q v (tree_owned d)) (sym same-path) ∙ is in
+        let x = adds plain (tree_owned d) (tree_owned e) front w k [] v s.made s.steady.2 well flat (spelled, tt) named new has at-path in
+        let p : Path = named_path plain x.edit (tree_owned d) x.applies in
+        one-more (sets path v) p text calls from is (subst (λ q. NamesSlot (tree_owned d) (names q) p) (sym same-path) x.names) x.stays
+        (λ fits h. adds-fit plain (tree_owned d) (tree_owned e) front w k [] v s.made s.steady.2 fits well flat (spelled, tt) named new has
+        (harmless-scalar v h.0 h.1) at-path)
+    set-so path v is (flat, well) (after_lines front k w same-path spelled named new some) text calls from =
+        let s = from.edited.stays in
+        let at-path = ap (λ q. set_at q v (tree_owned d)) (sym same-path) ∙ is in
+        let x = lines plain (tree_owned d) (tree_owned e) front w k [] v s.made s.steady.2 well flat (spelled, tt) named new some at-path in
+        one-more (sets path v) (to_key w.path k.name) text calls from is
+        (record {
+          front = names front;
+          key = k.name;
+          inner = [];
+          table = w;
+          is = ap names same-path ∙ names-join front (k ∷ []);
+          named = named;
+          at = refl;
+        }) x.1
+        (λ fits h. lines-fit plain (tree_owned d) (tree_owned e) front w k [] v s.made s.steady.2 fits flat named new some
+        (harmless-scalar v h.0 h.1) at-path)
 
 -- the print of a document that fits
 pub edited-prints : EditedPrints

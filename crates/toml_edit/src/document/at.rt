@@ -13,7 +13,7 @@ ghost use Rattle.toml_edit_edit_laws.specs.PathEdits.{removes, sets};
 ghost use Rattle.toml_edit_model.specs.Keys.{names};
 
 use super::DocumentMut;
-use toml_edit_edit_laws::{others_stay, path_edits};
+use toml_edit_edit_laws::{calls_still_fit, others_stay, path_edits};
 use toml_edit_key::Key;
 use toml_edit_paths::ChangeFault;
 use toml_edit_tree::{Item, Value};
@@ -59,6 +59,7 @@ impl DocumentMut {
             → MayBePut (tree_owned self.old) path.now
             → EditsBy (sets path.now (value_view value)) self.old self.new) }
     {
+        calls_still_fit();
         others_stay();
         path_edits();
         let alloc = self.as_table().slots.allocator();
@@ -91,6 +92,7 @@ impl DocumentMut {
             → MayBePut (tree_owned self.old) path.now
             → EditsBy (sets path.now (value_view value)) self.old self.new) }
     {
+        calls_still_fit();
         others_stay();
         path_edits();
         let alloc = self.as_table().slots.allocator();
@@ -138,6 +140,7 @@ impl DocumentMut {
         // All statements stay but those at the path.
         ensures edits { OnOk result (EditsBy (removes (names path.now)) self.old self.new) }
     {
+        calls_still_fit();
         others_stay();
         path_edits();
         toml_edit_paths::remove(self.as_table_mut(), path)

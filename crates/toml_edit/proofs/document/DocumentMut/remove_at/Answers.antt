@@ -17,7 +17,8 @@ pub returns-clause-edits : goal.returns-clause-edits
 returns-clause-edits c =
     let path = names c.args.path.now in
     on_ok_weaker c.remove.result
-    (λ is. removed-so c.others_stay.ensures.both c.path_edits.ensures.more c.args.self.now _ (refl, refl) c.path_edits.ensures.removes path is)
+    (λ is. removed-so c.others_stay.ensures.both c.path_edits.ensures.more c.args.self.now _ (refl, refl) c.path_edits.ensures.removes
+    c.calls_still_fit.ensures.removes path is)
     (done-where-ok (remove_at path (tree_owned c.args.self.now)) (tree_owned c.args.self.now) _ c.remove.result
     (remove-root c.args.self.now c.as_table_mut.result.now c.remove.new.root c.as_table_mut.ensures.fields c.as_table_mut.ensures.slots path
     c.remove.result c.remove.ensures.changes))

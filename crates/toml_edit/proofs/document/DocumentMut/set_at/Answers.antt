@@ -19,9 +19,10 @@ returns-clause-edits c =
     let path = c.args.path.now in
     let v = value_view c.args.value in
     let e = c.path_edits.ensures in
+    let f = c.calls_still_fit.ensures in
     on_ok_weaker c.set.result
-    (λ is flat may. set-so c.others_stay.ensures.both e.more c.args.self.now _ (refl, refl) e.replaces e.adds e.adds_after_lines path v is flat
-    may)
+    (λ is flat may. set-so c.others_stay.ensures.both e.more c.args.self.now _ (refl, refl) e.replaces e.adds e.adds_after_lines f.replaces
+    f.adds f.adds_after_lines path v is flat may)
     (done-where-ok (set_at path v (tree_owned c.args.self.now)) (tree_owned c.args.self.now) _ c.set.result
     (set-root c.args.self.now c.as_table_mut.result.now c.set.new.root c.as_table_mut.ensures.fields c.as_table_mut.ensures.slots path v
     c.set.result c.set.ensures))

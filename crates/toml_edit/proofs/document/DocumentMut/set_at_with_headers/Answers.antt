@@ -20,8 +20,10 @@ returns-clause-edits c =
     let v = value_view c.args.value in
     let t = tree_owned c.args.self.now in
     let e = c.path_edits.ensures in
+    let f = c.calls_still_fit.ensures in
     on_ok_weaker c.set_with_headers.result
-    (λ is flat may. set-so c.others_stay.ensures.both e.more c.args.self.now _ (refl, refl) e.replaces e.adds e.adds_after_lines path v
+    (λ is flat may. set-so c.others_stay.ensures.both e.more c.args.self.now _ (refl, refl) e.replaces e.adds e.adds_after_lines f.replaces
+    f.adds f.adds_after_lines path v
     (sym (headers-not-made t v path may) ∙ is) flat may)
     (done-where-ok (set_at_with_headers path v t) t _ c.set_with_headers.result
     (headers-root c.args.self.now c.as_table_mut.result.now c.set_with_headers.new.root c.as_table_mut.ensures.fields
