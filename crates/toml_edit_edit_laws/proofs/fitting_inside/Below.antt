@@ -5,8 +5,8 @@ use Rattle.std.specs.List.{AllByRecursion}
 use Rattle.toml_edit_model.specs.Mode.{Mode}
 use Rattle.toml_edit_model.specs.Text.{Text}
 use Rattle.toml_edit_model.specs.Syntax.{nesting_limit}
-use Rattle.toml_edit_model.specs.Tree.{Decor, Key, Node, nothing, leaf, list, inline, table, tables, Items, node_decor, is_value_node, IsWellMade}
-use Rattle.toml_edit_model.specs.Tree.{ItemsAreWellMade}
+use Rattle.toml_edit_model.specs.Tree.{Decor, Key, Node, nothing, leaf, list, inline, table, tables, Items, Slots, node_decor}
+use Rattle.toml_edit_model.specs.Tree.{is_value_node, IsWellMade, ItemsAreWellMade, SlotsAreWellMade}
 use Rattle.toml_edit_model.specs.Print.{value_of}
 use Rattle.toml_edit_model.specs.Shown.{is_table_node}
 use Rattle.toml_edit_model.specs.Conversions.{with_decor}
@@ -20,7 +20,8 @@ use Rattle.toml_edit_laws.proofs.common.Each.{all-append, all-front, all-back, a
 use Rattle.toml_edit_laws.proofs.locality.Slots.{Found, found, items_from-list, change-item, remove-item}
 use Rattle.toml_edit_laws.proofs.locality.Elements.{item-made}
 use Rattle.toml_edit_laws.proofs.locality.Values.{plain-value, plain-undotted, line-value}
-use Rattle.toml_edit_edit_laws.specs.Commands.{Answer, done, mapped, element_of, present, child, item_below, change_slot, change_element, child_changed}
+use Rattle.toml_edit_edit_laws.specs.Commands.{Answer, done, element_of, present, second, child, item_below, change_slot, change_element}
+use Rattle.toml_edit_edit_laws.specs.Commands.{child_changed}
 use Rattle.toml_edit_edit_laws.specs.Commands.{set_here, set_below, drop_slot, drop_element, remove_child, remove_below}
 use Rattle.toml_edit_edit_laws.specs.CommandLaws.{is_scalar}
 use Rattle.toml_edit_edit_laws.specs.Fitting.{FitsAnywhere}
@@ -31,8 +32,8 @@ use Rattle.toml_edit_edit_laws.proofs.commands.Finding.{some-and, some-second, w
 use Rattle.toml_edit_edit_laws.proofs.commands.Setting.{was-mapped, done-is}
 use Rattle.toml_edit_edit_laws.proofs.fitting_inside.Limits.{limits-within, within-limits}
 use Rattle.toml_edit_edit_laws.proofs.fitting_inside.Parts.{ItemIsSound, SlotIsSound}
-use Rattle.toml_edit_edit_laws.proofs.fitting_inside.NoWorse.{NoWorse, inline-no-worse, table-no-worse, list-no-worse, tables-no-worse, slots-changed}
-use Rattle.toml_edit_edit_laws.proofs.fitting_inside.NoWorse.{items-changed}
+use Rattle.toml_edit_edit_laws.proofs.fitting_inside.NoWorse.{NoWorse, SlotsKeep, ItemsKeep, inline-no-worse, table-no-worse}
+use Rattle.toml_edit_edit_laws.proofs.fitting_inside.NoWorse.{list-no-worse, tables-no-worse, slots-changed, items-changed}
 
 -- the part that a segment leads to is well made where the whole is
 element-made : (xs : Items) (i : ℕ) (a : Node) (p : ItemParts i (item_list xs) a) → ItemsAreWellMade xs → IsWellMade a
@@ -60,81 +61,49 @@ child-made k nothing a w h = absurd cc
 module _ (mode : Mode) where
   -- ---- below a segment
 
-  below-no-worse : (makes : Bool) (k : Key) (go : Node → Answer Node) (n m a b : Node) → IsWellMade n → child k.name n ≡ Some a
-      → go a ≡ done b
-      → NoWorse mode a b → child_changed makes k go n ≡ done m → NoWorse mode n m
-  below-no-worse makes k go (table f ss) m a b w h g r c =
-      let p = present-is (lookup_slot k.name (slot_list ss)) a h in
-      let fd : Found k.name (keyed p.key a) (slot_list ss) = found k.name ss (keyed p.key a) w p.is in
-      let is : table f (slots_from (fd.front ++ (keyed p.key b ∷ fd.back))) ≡ m =
-      sym (ap (λ xs. table f (slots_from xs)) (fd.change (with_item b)))
-      ∙ done-is (table f (slots_from (changed k.name (with_item b) (slot_list ss)))) m
-      (sym (ap (λ o. mapped (λ xs. table f (slots_from xs)) (change_slot makes k go (slot_list ss) o)) p.is
-      ∙ ap (λ x. mapped (λ xs. table f (slots_from xs)) (mapped (λ m. changed k.name (with_item m) (slot_list ss)) x)) g) ∙ c) in
-      subst (NoWorse mode (table f ss)) is
-      (table-no-worse mode f ss (fd.front ++ (keyed p.key b ∷ fd.back)) (slots-changed mode a b r p.key (slot_list ss) fd.front fd.back fd.is))
-  below-no-worse makes k go (inline f ss) m a b w h g r c =
-      let p = present-is (lookup_slot k.name (slot_list ss)) a h in
-      let fd : Found k.name (keyed p.key a) (slot_list ss) = found k.name ss (keyed p.key a) w p.is in
-      let is : inline f (slots_from (fd.front ++ (keyed p.key b ∷ fd.back))) ≡ m =
-      sym (ap (λ xs. inline f (slots_from xs)) (fd.change (with_item b)))
-      ∙ done-is (inline f (slots_from (changed k.name (with_item b) (slot_list ss)))) m
-      (sym (ap (λ o. mapped (λ xs. inline f (slots_from xs)) (change_slot makes k go (slot_list ss) o)) p.is
-      ∙ ap (λ x. mapped (λ xs. inline f (slots_from xs)) (mapped (λ m. changed k.name (with_item m) (slot_list ss)) x)) g) ∙ c) in
-      subst (NoWorse mode (inline f ss)) is
-      (inline-no-worse mode f ss (fd.front ++ (keyed p.key b ∷ fd.back)) (slots-changed mode a b r p.key (slot_list ss) fd.front fd.back fd.is))
-  below-no-worse makes k go (list f xs) m a b w h g r c =
-      let y = some-second (element_of is_value_node k.name (item_list xs)) a h in
-      let e = named is_value_node k.name (item_list xs) (y.0, a) y.1 in
-      let p = item-parts y.0 (item_list xs) a e.item in
-      let ns : List Node = p.before ++ (b ∷ p.after) in
-      let is : list f (items_from ns) ≡ m =
-      sym (ap (λ zs. list f (items_from zs))
-      (ap (written_at y.0 b) p.is ∙ change-item p.before a p.after y.0 (λ old. b) p.place))
-      ∙ done-is (list f (items_from (written_at y.0 b (item_list xs)))) m
-      (sym (ap (λ o. mapped (λ ns. list f (items_from ns)) (change_element go (item_list xs) o)) y.1
-      ∙ ap (λ x. mapped (λ ns. list f (items_from ns)) (mapped (λ m. written_at y.0 m (item_list xs)) x)) g) ∙ c) in
-      subst (NoWorse mode (list f xs)) is (list-no-worse mode f xs ns (items-changed mode a b r (item_list xs) p.before p.after p.is))
-  below-no-worse makes k go (tables e xs) m a b w h g r c =
-      let y = was-mapped (λ ns. tables e (items_from ns)) (change_element go (item_list xs) (element_of is_table_node k.name (item_list xs))) m
-      c in
-      subst (NoWorse mode (tables e xs)) (sym y.gives) (tables-no-worse mode e xs (items_from y.from))
-  below-no-worse makes k go (leaf s x d) m a b w h g r c = absurd cc
-  below-no-worse makes k go nothing m a b w h g r c = absurd cc
+  module _ (makes : Bool) (k : Key) (go : Node → Answer Node) (a : Node) (each : (b : Node) → go a ≡ done b → NoWorse mode a b) where
+    slots-below : (ss : Slots) (xs : List (Slot Node)) → SlotsAreWellMade ss → present (lookup_slot k.name (slot_list ss)) ≡ Some a
+        → change_slot makes k go (slot_list ss) (lookup_slot k.name (slot_list ss)) ≡ done xs
+        → SlotsKeep mode (slot_list ss) xs
+    slots-below ss xs w there h =
+        let p = present-is (lookup_slot k.name (slot_list ss)) a there in
+        let fd : Found k.name (keyed p.key a) (slot_list ss) = found k.name ss (keyed p.key a) w p.is in
+        let r = was-mapped (λ m. changed k.name (with_item m) (slot_list ss)) (go a) xs
+        (sym (ap (change_slot makes k go (slot_list ss)) p.is) ∙ h) in
+        subst (SlotsKeep mode (slot_list ss)) (sym (r.gives ∙ fd.change (with_item r.from)))
+        (slots-changed mode a r.from (each r.from r.is) p.key (slot_list ss) fd.front fd.back fd.is)
 
-  -- what the step inside gave
-  step-inside : (makes : Bool) (k : Key) (go : Node → Answer Node) (n m a : Node) → child k.name n ≡ Some a
-      → child_changed makes k go n ≡ done m → (b : Node) × (go a ≡ done b)
-  step-inside makes k go (table f ss) m a h c =
-      let p = present-is (lookup_slot k.name (slot_list ss)) a h in
-      let f1 = λ (xs : List (Slot Node)). table f (slots_from xs) in
-      let o = was-mapped f1 (change_slot makes k go (slot_list ss) (Some (keyed p.key a))) m
-      (sym (ap (λ o. mapped f1 (change_slot makes k go (slot_list ss) o)) p.is) ∙ c) in
-      let y = was-mapped (λ m. changed k.name (with_item m) (slot_list ss)) (go a) o.from o.is in
-      (y.from, y.is)
-  step-inside makes k go (inline f ss) m a h c =
-      let p = present-is (lookup_slot k.name (slot_list ss)) a h in
-      let f1 = λ (xs : List (Slot Node)). inline f (slots_from xs) in
-      let o = was-mapped f1 (change_slot makes k go (slot_list ss) (Some (keyed p.key a))) m
-      (sym (ap (λ o. mapped f1 (change_slot makes k go (slot_list ss) o)) p.is) ∙ c) in
-      let y = was-mapped (λ m. changed k.name (with_item m) (slot_list ss)) (go a) o.from o.is in
-      (y.from, y.is)
-  step-inside makes k go (list f xs) m a h c =
-      let p = some-second (element_of is_value_node k.name (item_list xs)) a h in
-      let f1 = λ (ns : List Node). list f (items_from ns) in
-      let o = was-mapped f1 (change_element go (item_list xs) (Some (p.0, a))) m
-      (sym (ap (λ o. mapped f1 (change_element go (item_list xs) o)) p.1) ∙ c) in
-      let y = was-mapped (λ m. written_at p.0 m (item_list xs)) (go a) o.from o.is in
-      (y.from, y.is)
-  step-inside makes k go (tables e xs) m a h c =
-      let p = some-second (element_of is_table_node k.name (item_list xs)) a h in
-      let f1 = λ (ns : List Node). tables e (items_from ns) in
-      let o = was-mapped f1 (change_element go (item_list xs) (Some (p.0, a))) m
-      (sym (ap (λ o. mapped f1 (change_element go (item_list xs) o)) p.1) ∙ c) in
-      let y = was-mapped (λ m. written_at p.0 m (item_list xs)) (go a) o.from o.is in
-      (y.from, y.is)
-  step-inside makes k go (leaf s x d) m a h c = absurd cc
-  step-inside makes k go nothing m a h c = absurd cc
+    items-below : (is : Node → Bool) (ns ys : List Node) → second (element_of is k.name ns) ≡ Some a
+        → change_element go ns (element_of is k.name ns) ≡ done ys
+        → ItemsKeep mode ns ys
+    items-below is ns ys there h =
+        let x = some-second (element_of is k.name ns) a there in
+        let p = item-parts x.0 ns a (named is k.name ns (x.0, a) x.1).item in
+        let r = was-mapped (λ m. written_at x.0 m ns) (go a) ys (sym (ap (change_element go ns) x.1) ∙ h) in
+        subst (ItemsKeep mode ns)
+        (sym (r.gives ∙ ap (written_at x.0 r.from) p.is ∙ change-item p.before a p.after x.0 (λ old. r.from) p.place))
+        (items-changed mode a r.from (each r.from r.is) ns p.before p.after p.is)
+
+    below-no-worse : (n m : Node) → IsWellMade n → child k.name n ≡ Some a → child_changed makes k go n ≡ done m → NoWorse mode n m
+    below-no-worse (table f ss) m w there h =
+        let c = change_slot makes k go (slot_list ss) (lookup_slot k.name (slot_list ss)) in
+        let r = was-mapped (λ xs. table f (slots_from xs)) c m h in
+        subst (NoWorse mode (table f ss)) (sym r.gives) (table-no-worse mode f ss r.from (slots-below ss r.from w there r.is))
+    below-no-worse (inline f ss) m w there h =
+        let c = change_slot makes k go (slot_list ss) (lookup_slot k.name (slot_list ss)) in
+        let r = was-mapped (λ xs. inline f (slots_from xs)) c m h in
+        subst (NoWorse mode (inline f ss)) (sym r.gives) (inline-no-worse mode f ss r.from (slots-below ss r.from w there r.is))
+    below-no-worse (list f xs) m w there h =
+        let c = change_element go (item_list xs) (element_of is_value_node k.name (item_list xs)) in
+        let r = was-mapped (λ ns. list f (items_from ns)) c m h in
+        subst (NoWorse mode (list f xs)) (sym r.gives)
+        (list-no-worse mode f xs r.from (items-below is_value_node (item_list xs) r.from there r.is))
+    below-no-worse (tables e xs) m w there h =
+        let c = change_element go (item_list xs) (element_of is_table_node k.name (item_list xs)) in
+        let r = was-mapped (λ ns. tables e (items_from ns)) c m h in
+        subst (NoWorse mode (tables e xs)) (sym r.gives) (tables-no-worse mode e xs (items_from r.from))
+    below-no-worse (leaf s x d) m w there h = absurd cc
+    below-no-worse nothing m w there h = absurd cc
 
   -- ---- set
 
@@ -171,58 +140,50 @@ module _ (mode : Mode) where
       here-no-worse v old n is (subst (λ y. is_plain_value y ≡ true) (sym (some-is old x at)) plain) h
   set-no-worse v x (k ∷ inner) old n is plain w at h =
       let a = some-and (item_below (names inner)) (child k.name old) x at in
-      let b = step-inside true k (set_below v inner) old n a.0 a.1 h in
-      below-no-worse true k (set_below v inner) old n a.0 b.0 w a.1 b.1
-      (set-no-worse v x inner a.0 b.0 is plain (child-made k.name old a.0 w a.1) a.2 b.1) h
+      let made = child-made k.name old a.0 w a.1 in
+      below-no-worse true k (set_below v inner) a.0 (λ b g. set-no-worse v x inner a.0 b is plain made a.2 g) old n w a.1 h
 
   -- ---- remove
 
+  slots-less : (k : Text) (ss xs : List (Slot Node)) (o : Option Node) → drop_slot k ss o ≡ done xs → SlotsKeep mode ss xs
+  slots-less k ss xs (Some n) h =
+      subst (SlotsKeep mode ss) (done-is (without k ss) xs h)
+      (λ d ks g. all-filter (SlotIsSound mode d ks) (λ s. not (is_at k s)) ss g)
+  slots-less k ss xs None h = absurd cc
+
+  items-less : (is : Node → Bool) (k : Text) (ns ys : List Node) (o : Option (ℕ × Node)) → element_of is k ns ≡ o
+      → drop_element ns o ≡ done ys → ItemsKeep mode ns ys
+  items-less is k ns ys (Some x) e h =
+      let p = item-parts x.0 ns x.1 (named is k ns x e).item in
+      let left : p.before ++ p.after ≡ ys =
+      sym (ap (removed_at x.0) p.is ∙ remove-item p.before x.1 p.after x.0 p.place) ∙ done-is (removed_at x.0 ns) ys h in
+      subst (ItemsKeep mode ns) left
+      (λ d g. without_one (ItemIsSound mode d) p.before x.1 p.after (subst (AllByRecursion (ItemIsSound mode d)) p.is g))
+    where
+      without_one : (P : Node → Type 0) (before : List Node) (n : Node) (after : List Node) → AllByRecursion P (before ++ (n ∷ after))
+          → AllByRecursion P (before ++ after)
+      without_one P before n after g =
+          all-append P before after (all-front P before (n ∷ after) g) (all-back P before (n ∷ after) g).1
+  items-less is k ns ys None e h = absurd cc
+
   drop-no-worse : (k : Text) (n m : Node) → remove_child k n ≡ done m → NoWorse mode n m
   drop-no-worse k (table f ss) m h =
-      let o = was-mapped (λ xs. table f (slots_from xs)) (drop_slot k (slot_list ss) (present (lookup_slot k (slot_list ss)))) m h in
-      by_slot (present (lookup_slot k (slot_list ss))) o.from o.is o.gives
-    where
-      by_slot : (p : Option Node) (ys : List (Slot Node)) → drop_slot k (slot_list ss) p ≡ done ys → m ≡ table f (slots_from ys)
-          → NoWorse mode (table f ss) m
-      by_slot (Some x) ys is gives =
-          subst (NoWorse mode (table f ss)) (ap (λ zs. table f (slots_from zs)) (done-is (without k (slot_list ss)) ys is) ∙ sym gives)
-          (table-no-worse mode f ss (without k (slot_list ss))
-          (λ d ks g. all-filter (SlotIsSound mode d ks) (λ s. not (is_at k s)) (slot_list ss) g))
-      by_slot None ys is gives = absurd cc
+      let o = present (lookup_slot k (slot_list ss)) in
+      let r = was-mapped (λ xs. table f (slots_from xs)) (drop_slot k (slot_list ss) o) m h in
+      subst (NoWorse mode (table f ss)) (sym r.gives) (table-no-worse mode f ss r.from (slots-less k (slot_list ss) r.from o r.is))
   drop-no-worse k (inline f ss) m h =
-      let o = was-mapped (λ xs. inline f (slots_from xs)) (drop_slot k (slot_list ss) (present (lookup_slot k (slot_list ss)))) m h in
-      by_slot (present (lookup_slot k (slot_list ss))) o.from o.is o.gives
-    where
-      by_slot : (p : Option Node) (ys : List (Slot Node)) → drop_slot k (slot_list ss) p ≡ done ys → m ≡ inline f (slots_from ys)
-          → NoWorse mode (inline f ss) m
-      by_slot (Some x) ys is gives =
-          subst (NoWorse mode (inline f ss)) (ap (λ zs. inline f (slots_from zs)) (done-is (without k (slot_list ss)) ys is) ∙ sym gives)
-          (inline-no-worse mode f ss (without k (slot_list ss))
-          (λ d ks g. all-filter (SlotIsSound mode d ks) (λ s. not (is_at k s)) (slot_list ss) g))
-      by_slot None ys is gives = absurd cc
+      let o = present (lookup_slot k (slot_list ss)) in
+      let r = was-mapped (λ xs. inline f (slots_from xs)) (drop_slot k (slot_list ss) o) m h in
+      subst (NoWorse mode (inline f ss)) (sym r.gives) (inline-no-worse mode f ss r.from (slots-less k (slot_list ss) r.from o r.is))
   drop-no-worse k (list f xs) m h =
-      let o = was-mapped (λ ns. list f (items_from ns)) (drop_element (item_list xs) (element_of is_value_node k (item_list xs))) m h in
-      by_element (element_of is_value_node k (item_list xs)) o.from refl o.is o.gives
-    where
-      by_element : (p : Option (ℕ × Node)) (ys : List Node) → element_of is_value_node k (item_list xs) ≡ p
-          → drop_element (item_list xs) p ≡ done ys → m ≡ list f (items_from ys)
-          → NoWorse mode (list f xs) m
-      by_element (Some x) ys e is gives =
-          let r = named is_value_node k (item_list xs) x e in
-          let p = item-parts x.0 (item_list xs) x.1 r.item in
-          let left : List Node = p.before ++ p.after in
-          let same : left ≡ ys =
-          sym (ap (removed_at x.0) p.is ∙ remove-item p.before x.1 p.after x.0 p.place) ∙ done-is (removed_at x.0 (item_list xs)) ys is in
-          subst (NoWorse mode (list f xs)) (ap (λ zs. list f (items_from zs)) same ∙ sym gives)
-          (list-no-worse mode f xs left
-          (λ d g.
-          let P = ItemIsSound mode d in
-          let old : AllByRecursion P (p.before ++ (x.1 ∷ p.after)) = subst (AllByRecursion P) p.is g in
-          all-append P p.before p.after (all-front P p.before (x.1 ∷ p.after) old) (all-back P p.before (x.1 ∷ p.after) old).1))
-      by_element None ys e is gives = absurd cc
+      let o = element_of is_value_node k (item_list xs) in
+      let r = was-mapped (λ ns. list f (items_from ns)) (drop_element (item_list xs) o) m h in
+      subst (NoWorse mode (list f xs)) (sym r.gives)
+      (list-no-worse mode f xs r.from (items-less is_value_node k (item_list xs) r.from o refl r.is))
   drop-no-worse k (tables e xs) m h =
-      let o = was-mapped (λ ns. tables e (items_from ns)) (drop_element (item_list xs) (element_of is_table_node k (item_list xs))) m h in
-      subst (NoWorse mode (tables e xs)) (sym o.gives) (tables-no-worse mode e xs (items_from o.from))
+      let o = element_of is_table_node k (item_list xs) in
+      let r = was-mapped (λ ns. tables e (items_from ns)) (drop_element (item_list xs) o) m h in
+      subst (NoWorse mode (tables e xs)) (sym r.gives) (tables-no-worse mode e xs (items_from r.from))
   drop-no-worse k (leaf s r d) m h = absurd cc
   drop-no-worse k nothing m h = absurd cc
 
@@ -232,9 +193,8 @@ module _ (mode : Mode) where
   remove-no-worse x (y ∷ inner) old n w h =
       let there = was-there (x ∷ y ∷ inner) old n h in
       let a = some-and (item_below (y ∷ inner)) (child x old) there.0 there.1 in
-      let b = step-inside false (new_key x) (remove_below (y ∷ inner)) old n a.0 a.1 h in
-      below-no-worse false (new_key x) (remove_below (y ∷ inner)) old n a.0 b.0 w a.1 b.1
-      (remove-no-worse y inner a.0 b.0 (child-made x old a.0 w a.1) b.1) h
+      let made = child-made x old a.0 w a.1 in
+      below-no-worse false (new_key x) (remove_below (y ∷ inner)) a.0 (λ b g. remove-no-worse y inner a.0 b made g) old n w a.1 h
 
   -- ---- so it still fits
 

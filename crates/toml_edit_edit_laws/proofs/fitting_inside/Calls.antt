@@ -1,5 +1,5 @@
 -- A tree that fits still does after calls by paths.
-use Rattle.std.proofs.Common.{◌≡◌, refl, sym, ap, subst, true, List, ◌∷◌, inl}
+use Rattle.std.proofs.Common.{◌≡◌, refl, sym, ap, subst, true, inl}
 use Rattle.toml_edit_model.specs.Mode.{Mode}
 use Rattle.toml_edit_model.specs.Tree.{Key, Node, nothing, leaf, list, inline, table, tables, SlotsAreWellMade, IsWellMade, Tree}
 use Rattle.toml_edit_model.specs.Fits.{FitsIn, is_steady_in}
@@ -62,10 +62,12 @@ module _ (mode : Mode) where
   pub set_adds_after_lines_fits : SetAddsAfterLinesFits mode
   set_adds_after_lines_fits t u path w k more v made steady fits plain named is_new some harmless set =
       subst (FitsIn mode) (sym (adds-slot t u path w k more v made named is_new set))
-      (still_fits_after_lines mode t named.way w (cleared_key k) (made_below more v) made steady fits named.leads is_new (made-plain v more plain) some
+      (still_fits_after_lines mode t named.way w (cleared_key k) (made_below more v) made steady fits named.leads is_new
+      (made-plain v more plain) some
       (made-harmless mode k more v plain harmless))
 
   pub remove_fits : RemoveFits mode
   remove_fits t u path made steady fits gone =
-      call-fits t RemovesInside (λ old n w anywhere r. remove_inside_fits mode old n r.0 r.1 w anywhere r.2) made steady fits (removes path) u
+      call-fits t RemovesInside (λ old n w anywhere r. remove_inside_fits mode old n r.0 r.1 w anywhere r.2)
+      made steady fits (removes path) u
       (remove-edit mode t u path made steady gone)

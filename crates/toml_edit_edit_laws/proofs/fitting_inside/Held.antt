@@ -24,7 +24,8 @@ module _ (mode : Mode) where
   pub held_values_fit : HeldValuesFit mode
   held_values_fit t way v k l old made steady fits leads there value =
       let st : Steady mode t = steady-parts mode t steady in
-      let fd : Found k (keyed l old) (slot_list v.slots) = found k v.slots (keyed l old) (leads-made way (root_visit t) v made leads) there in
+      let fd : Found k (keyed l old) (slot_list v.slots) =
+      found k v.slots (keyed l old) (leads-made way (root_visit t) v made leads) there in
       let undotted = (sound-slot k (keyed l old) v.slots fd (leads-sound way (root_visit t) v made st.sound leads)).1 in
       let plain : is_plain_value old ≡ true = and_both (is_value_node old) (not (is_dotted_inline old)) value (ap not undotted) in
       let a = w mode t way v k (λ x. x) l old old made steady leads there value plain refl in

@@ -22,7 +22,8 @@ PairsWithin d ps = (pairs_depth ps ≤ d) × (pairs_have_short_keys ps ≡ true)
 
 pub limits-within : (v : Value) → (nat_le (depth v) nesting_limit && has_short_keys v) ≡ true → Within nesting_limit v
 limits-within v h =
-    (leb-true _ _ (and_left (nat_le (depth v) nesting_limit) (has_short_keys v) h), and_right (nat_le (depth v) nesting_limit) (has_short_keys v) h)
+    let room : Bool = nat_le (depth v) nesting_limit in
+    (leb-true _ _ (and_left room (has_short_keys v) h), and_right room (has_short_keys v) h)
 
 pub within-limits : (v : Value) → Within nesting_limit v → (nat_le (depth v) nesting_limit && has_short_keys v) ≡ true
 within-limits v h = and_both (nat_le (depth v) nesting_limit) (has_short_keys v) (le-leb _ _ h.0) h.1
@@ -80,20 +81,26 @@ module _ (mode : Mode) where
   abbrev pub LineWithin : ℕ → Line → Type 0
   LineWithin d l = (is_short (segments mode l.keys) ≡ true) × Within d l.value
 
+  -- the first of some pairs, and the others
+  first-pair : (d : ℕ) (l : Line) (ps : Pairs) → max (depth l.value) (pairs_depth ps) ≤ d
+      → (is_short (segments mode l.keys) && (has_short_keys l.value && pairs_have_short_keys ps)) ≡ true
+      → LineWithin d l × PairsWithin d ps
+  first-pair d l ps deep h =
+      let short : Bool = is_short (segments mode l.keys) in
+      let more = and_right short (has_short_keys l.value && pairs_have_short_keys ps) h in (
+        (
+          and_left short (has_short_keys l.value && pairs_have_short_keys ps) h,
+          (omega (arith, deep), and_left (has_short_keys l.value) (pairs_have_short_keys ps) more),
+        ),
+        (omega (arith, deep), and_right (has_short_keys l.value) (pairs_have_short_keys ps) more),
+      )
+
   pub pairs-lines : (d : ℕ) (ls : List Line) → PairsWithin d (pairs_of_lines mode ls) → AllByRecursion (LineWithin d) ls
   pairs-lines d [] h = tt
-  pairs-lines d (l ∷ []) h =
-      let deep : max (depth l.value) 0 ≤ d = h.0 in
-      let more = and_right (is_short (segments mode l.keys)) (has_short_keys l.value && true) h.1 in
-      ((and_left (is_short (segments mode l.keys)) (has_short_keys l.value && true) h.1, (omega (arith, deep), and_left (has_short_keys l.value) true more)), tt)
+  pairs-lines d (l ∷ []) h = ((first-pair d l no_pairs h.0 h.1).0, tt)
   pairs-lines d (l ∷ m ∷ ls) h =
-      let rest : Pairs = pairs_of_lines mode (m ∷ ls) in
-      let deep : max (depth l.value) (pairs_depth rest) ≤ d = h.0 in
-      let short : Bool = is_short (segments mode l.keys) in
-      let more = and_right short (has_short_keys l.value && pairs_have_short_keys rest) h.1 in (
-        (and_left short (has_short_keys l.value && pairs_have_short_keys rest) h.1, (omega (arith, deep), and_left (has_short_keys l.value) (pairs_have_short_keys rest) more)),
-        pairs-lines d (m ∷ ls) (omega (arith, deep), and_right (has_short_keys l.value) (pairs_have_short_keys rest) more),
-      )
+      let r = first-pair d l (pairs_of_lines mode (m ∷ ls)) h.0 h.1 in
+      (r.0, pairs-lines d (m ∷ ls) r.1)
 
   more-pairs : (d : ℕ) (l : Line) (ps : Pairs) → LineWithin d l → PairsWithin d ps → (max (depth l.value) (pairs_depth ps) ≤ d)
       × ((is_short (segments mode l.keys) && (has_short_keys l.value && pairs_have_short_keys ps)) ≡ true)

@@ -1,17 +1,16 @@
 -- A value below new keys fits anywhere, where the keys leave room for its depth.
-use Rattle.std.proofs.Common.{◌≡◌, refl, sym, ◌∙◌, ap, subst, ℕ, suc, ◌+◌, ◌≤◌, arith, true, List, [], ◌∷◌, length}
+use Rattle.std.proofs.Common.{◌≡◌, refl, sym, ◌∙◌, subst, ℕ, suc, ◌+◌, ◌≤◌, arith, true, List, [], ◌∷◌, length}
 use Rattle.std.specs.Prelude.{MatchBool}
-use Rattle.std.proofs.lemmas.Bool.{leb-true, le-leb}
+use Rattle.std.proofs.lemmas.Bool.{leb-true}
 use Rattle.toml_edit_model.specs.Mode.{Mode}
-use Rattle.toml_edit_model.specs.Text.{Text}
 use Rattle.toml_edit_model.specs.Trivia.{IsWholeTrivia}
-use Rattle.toml_edit_model.specs.Syntax.{Pairs, pairs_depth, depth, nesting_limit}
+use Rattle.toml_edit_model.specs.Syntax.{Pairs, depth, nesting_limit}
 use Rattle.toml_edit_model.specs.Tree.{Key, Node, inline, Slots, no_slots, slot, node_decor, shown_raw, shown_suffix}
 use Rattle.toml_edit_model.specs.Print.{is_line_node, value_of, inside_lines, pairs_of_lines}
 use Rattle.toml_edit_model.specs.Fits.{LineSuits, Suits}
 use Rattle.toml_edit_model.specs.Conversions.{new_inline}
 use Rattle.toml_edit_model.specs.Keys.{cleared_key}
-use Rattle.toml_edit_model.specs.Slots.{Slot, keyed}
+use Rattle.toml_edit_model.specs.Slots.{keyed}
 use Rattle.toml_edit_laws.specs.Locality.{is_plain_value, value_line}
 use Rattle.toml_edit_laws.proofs.common.WhiteSpace.{shown-none}
 use Rattle.toml_edit_laws.proofs.locality.Values.{plain-value, plain-undotted, line-value}

@@ -16,8 +16,8 @@ use Rattle.toml_edit_laws.specs.Locality.{value_line}
 use Rattle.toml_edit_laws.proofs.common.Each.{all-append, all-front, all-back}
 use Rattle.toml_edit_edit_laws.proofs.fitting_inside.Limits.{PairsWithin, LineWithin, array-closed, inline-closed, pairs-lines}
 use Rattle.toml_edit_edit_laws.proofs.fitting_inside.Limits.{lines-pairs}
-use Rattle.toml_edit_edit_laws.proofs.fitting_inside.Parts.{Sound, ItemIsSound, InsideIsSound, SlotIsSound, items-sound, sound-items, slots-sound}
-use Rattle.toml_edit_edit_laws.proofs.fitting_inside.Parts.{sound-slots}
+use Rattle.toml_edit_edit_laws.proofs.fitting_inside.Parts.{Sound, ItemIsSound, InsideIsSound, SlotIsSound}
+use Rattle.toml_edit_edit_laws.proofs.fitting_inside.Parts.{items-sound, sound-items, slots-sound, sound-slots}
 
 module _ (mode : Mode) where
   -- The second item is of the same kind, with the same decor around it, and fits wherever the first
@@ -29,10 +29,17 @@ module _ (mode : Mode) where
     pub sound : (d : ℕ) → Sound mode d old → Sound mode d n
     pub inside : (d : ℕ) (ks : List Key) → InsideIsSound mode d ks old → InsideIsSound mode d ks n
 
+  -- slots and items, of which each is sound where those before were
+  abbrev pub SlotsKeep : List (Slot Node) → List (Slot Node) → Type 0
+  SlotsKeep ss ys =
+      (d : ℕ) (ks : List Key) → AllByRecursion (SlotIsSound mode d ks) ss → AllByRecursion (SlotIsSound mode d ks) ys
+
+  abbrev pub ItemsKeep : List Node → List Node → Type 0
+  ItemsKeep xs ys = (d : ℕ) → AllByRecursion (ItemIsSound mode d) xs → AllByRecursion (ItemIsSound mode d) ys
+
   -- ---- an item with other parts
 
-  pub inline-no-worse : (f : InlineFields) (ss : Slots) (ys : List (Slot Node))
-      → ((d : ℕ) (ks : List Key) → AllByRecursion (SlotIsSound mode d ks) (slot_list ss) → AllByRecursion (SlotIsSound mode d ks) ys)
+  pub inline-no-worse : (f : InlineFields) (ss : Slots) (ys : List (Slot Node)) → SlotsKeep (slot_list ss) ys
       → NoWorse (inline f ss) (inline f (slots_from ys))
   inline-no-worse f ss ys h =
       record {
@@ -58,8 +65,7 @@ module _ (mode : Mode) where
         inside = λ d ks s. sound-slots mode d ks ys (h d ks (slots-sound mode d ks ss s.0 s.1));
       }
 
-  pub table-no-worse : (f : TableFields) (ss : Slots) (ys : List (Slot Node))
-      → ((d : ℕ) (ks : List Key) → AllByRecursion (SlotIsSound mode d ks) (slot_list ss) → AllByRecursion (SlotIsSound mode d ks) ys)
+  pub table-no-worse : (f : TableFields) (ss : Slots) (ys : List (Slot Node)) → SlotsKeep (slot_list ss) ys
       → NoWorse (table f ss) (table f (slots_from ys))
   table-no-worse f ss ys h =
       record {
@@ -70,8 +76,7 @@ module _ (mode : Mode) where
         inside = λ d ks s. sound-slots mode d ks ys (h d ks (slots-sound mode d ks ss s.0 s.1));
       }
 
-  pub list-no-worse : (f : ArrayFields) (xs : Items) (ys : List Node)
-      → ((d : ℕ) → AllByRecursion (ItemIsSound mode d) (item_list xs) → AllByRecursion (ItemIsSound mode d) ys)
+  pub list-no-worse : (f : ArrayFields) (xs : Items) (ys : List Node) → ItemsKeep (item_list xs) ys
       → NoWorse (list f xs) (list f (items_from ys))
   list-no-worse f xs ys h =
       record {
@@ -117,7 +122,8 @@ module _ (mode : Mode) where
 
     line-changed : (ks : List Key) → LineSuits mode IsWholeTrivia ks old → LineSuits mode IsWholeTrivia ks n
     line-changed ks h =
-        let value = subst (λ (x : Decor). IsWhiteSpace (shown_prefix mode one_space x) × IsWholeTrivia (shown_suffix mode [] x)) (sym r.decor)
+        let value = subst
+        (λ (x : Decor). IsWhiteSpace (shown_prefix mode one_space x) × IsWholeTrivia (shown_suffix mode [] x)) (sym r.decor)
         (h.after_equals, h.trailing) in
         record { leading = h.leading; segments = h.segments; before_equals = h.before_equals; after_equals = value.0; trailing = value.1 }
 
@@ -136,16 +142,15 @@ module _ (mode : Mode) where
         by_test at_end true false e h = absurd cc
         by_test at_end false true e h = absurd cc
 
-    pub slots-changed : (k : Key) (ss before after : List (Slot Node)) → ss ≡ before ++ (keyed k old ∷ after) → (d : ℕ) (ks : List Key)
-        → AllByRecursion (SlotIsSound mode d ks) ss → AllByRecursion (SlotIsSound mode d ks) (before ++ (keyed k n ∷ after))
+    pub slots-changed : (k : Key) (ss before after : List (Slot Node)) → ss ≡ before ++ (keyed k old ∷ after)
+        → SlotsKeep ss (before ++ (keyed k n ∷ after))
     slots-changed k ss before after is d ks h =
         let P = SlotIsSound mode d ks in
         let old_ones : AllByRecursion P (before ++ (keyed k old ∷ after)) = subst (AllByRecursion P) is h in
         let rest = all-back P before (keyed k old ∷ after) old_ones in
         all-append P before (keyed k n ∷ after) (all-front P before (keyed k old ∷ after) old_ones) (slot-changed d ks k rest.0, rest.1)
 
-    pub items-changed : (xs before after : List Node) → xs ≡ before ++ (old ∷ after) → (d : ℕ) → AllByRecursion (ItemIsSound mode d) xs
-        → AllByRecursion (ItemIsSound mode d) (before ++ (n ∷ after))
+    pub items-changed : (xs before after : List Node) → xs ≡ before ++ (old ∷ after) → ItemsKeep xs (before ++ (n ∷ after))
     items-changed xs before after is d h =
         let P = ItemIsSound mode d in
         let old_ones : AllByRecursion P (before ++ (old ∷ after)) = subst (AllByRecursion P) is h in

@@ -79,7 +79,8 @@ module _ (mode : Mode) where
   slots-sound d ks (slot k n ss) s h =
       by_test (ks ++ (k ∷ [])) (is_line_node n) s.0 h (λ g. slots-sound d ks ss s.1 g)
     where
-      by_test : (at_end : List Key) (c : Bool) → MatchBool c (LineSuits mode IsWholeTrivia at_end n × Suits mode n) (NodeSuitsInside mode n at_end)
+      by_test : (at_end : List Key) (c : Bool)
+          → MatchBool c (LineSuits mode IsWholeTrivia at_end n × Suits mode n) (NodeSuitsInside mode n at_end)
           → AllByRecursion (LineWithin mode d) ((elim c [
             | true ↦ line_of at_end n (value_of mode n)
             | false ↦ lines_inside mode n at_end
@@ -111,4 +112,5 @@ module _ (mode : Mode) where
           ]) ++ inside_lines mode (slots_from xs) ks)
       by_test at_end true h rest = (((h.0, h.1), rest.0), (h.2, rest.1))
       by_test at_end false h rest =
-          ((h.0, rest.0), all-append (LineWithin mode d) (lines_inside mode x.item at_end) (inside_lines mode (slots_from xs) ks) h.1 rest.1)
+          let P = LineWithin mode d in
+          ((h.0, rest.0), all-append P (lines_inside mode x.item at_end) (inside_lines mode (slots_from xs) ks) h.1 rest.1)

@@ -22,7 +22,7 @@ use Rattle.toml_edit_edit_laws.proofs.commands.Setting.{done-is, was-mapped}
 use Rattle.toml_edit_edit_laws.proofs.commands.Apart.{skip}
 use Rattle.toml_edit_laws.proofs.locality.Slots.{Found, found as found-in}
 use Rattle.toml_edit_laws.proofs.locality.Sound.{leads-made, leads-sound, sound-slot, Steady, steady-parts}
-use Rattle.toml_edit_edit_laws.specs.PathEdits.{removes, GoesTo, IsEdit, RemoveEdits}
+use Rattle.toml_edit_edit_laws.specs.PathEdits.{removes, GoesTo, RemoveEdits}
 use Rattle.toml_edit_edit_laws.proofs.path_calls.Spots.{GoesOn, at_slot, at_element, in_value, Spot, spot, spot-names}
 use Rattle.toml_edit_edit_laws.proofs.path_calls.Inside.{remove-stands, remove-made, spelled}
 use Rattle.toml_edit_edit_laws.proofs.path_calls.Setting.{Replaces, EditSuch, edit-of}
