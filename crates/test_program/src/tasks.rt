@@ -145,7 +145,11 @@ fn removes(root: &mut Table, key: &str, leaves_none: bool) -> bool {
 fn replace_second(alloc: Global, root: &mut Table) -> Mem<()> {
     if let Some(Item::ArrayOfTables(tables)) = root.get_mut("a") {
         let is_old = match replace_element(tables, 1, Table::new(alloc)) {
-            Some(old) => is_there(old),
+            Some(old) => {
+                let is_second = has_integer(&old, "x", 2);
+                drop(old);
+                is_second
+            }
             None => false,
         };
         return done(is_old && replace_element(tables, 2, Table::new(alloc)).is_none());
@@ -153,8 +157,11 @@ fn replace_second(alloc: Global, root: &mut Table) -> Mem<()> {
     Err(AllocError)
 }
 
-fn is_there<T: Drop>(_made: T) -> bool {
-    true
+fn has_integer(table: &Table, key: &str, wanted: i64) -> bool {
+    match table.get(key).and_then(|item| item.as_integer()) {
+        Some(number) => number == wanted,
+        None => false,
+    }
 }
 
 fn inline_mut<'a>(root: &'a mut Table, key: &str) -> Option<&'a mut InlineTable> {
