@@ -23,7 +23,10 @@ pub fn set_version(alloc: Global, text: &str, version: &str) -> Result<String, E
 {
     edited_prints();
     let mut document = DocumentMut::from_str(alloc, text)?;
-    let path = [Key::from_text(alloc, "package")?, Key::from_text(alloc, "version")?];
+    let path = [
+        Key::from_text(alloc, "package")?,
+        Key::from_text(alloc, "version")?,
+    ];
     replace(alloc, &mut document, &path, version)?;
     Ok(document.print(alloc)?)
 }

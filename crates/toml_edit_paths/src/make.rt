@@ -100,5 +100,8 @@ fn without_decors(alloc: Global, key: &Key) -> Mem<Key>
     ensures { IfOk result (λ copy. copy ≡ cleared_key key.now) }
 {
     let copy = key.clone(alloc)?;
-    Ok(copy.with_leaf_decor(Decor::default()).with_dotted_decor(Decor::default()))
+    Ok(
+        copy.with_leaf_decor(Decor::default())
+            .with_dotted_decor(Decor::default()),
+    )
 }
