@@ -1,0 +1,4 @@
+-- Lemmas of this crate.
+pub mod WalkLaws
+pub mod BelowLaws
+pub mod PathLaws

@@ -1,0 +1,3 @@
+-- Cited by public contracts.
+pub mod Below
+pub mod Steps
