@@ -1,5 +1,5 @@
 -- The items below an item, each with the steps that lead to it.
-use Rattle.std.specs.Prelude.{ℕ, suc, Bool, true, false, if◌then◌else◌, List, [], ◌∷◌, ◌++◌}
+use Rattle.std.specs.Prelude.{ℕ, suc, Bool, if◌then◌else◌, List, [], ◌∷◌, ◌++◌}
 use Rattle.toml_edit_model.specs.Lists.{is_item}
 use Rattle.toml_edit_model.specs.Shown.{is_table_node}
 use Rattle.toml_edit_model.specs.Tree.{Key, Node, nothing, leaf, list, inline, table, tables, Items, no_items, item, Slots, no_slots, slot, is_value_node}

@@ -1,6 +1,6 @@
 -- Each turn visits the items of a slot or an element.
-use Rattle.std.proofs.Common.{◌+◌, ◌<◌, ◌≤◌, drop, refl, sym, Bool, true, false, List, [], ◌∷◌, ◌++◌, length, ap, ◌∙◌, arith}
-use Rattle.std.specs.Prelude.{◌≡◌, if◌then◌else◌}
+use Rattle.std.proofs.Common.{◌+◌, ◌≤◌, drop, refl, sym, Bool, List, [], ◌∷◌, ◌++◌, length, ap, ◌∙◌, arith}
+use Rattle.std.specs.Prelude.{if◌then◌else◌}
 use Rattle.toml_edit_model.specs.Shown.{is_table_node}
 use Rattle.toml_edit_model.specs.Tree.{is_value_node}
 use Rattle.toml_edit_slots.specs.declared.slots.Slot.{Slot}
