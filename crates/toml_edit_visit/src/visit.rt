@@ -13,19 +13,26 @@ use toml_edit_slots::Slots;
 use toml_edit_tree::table::is_filled;
 use toml_edit_tree::{Item, Table, Value};
 
-/// What is done at each item of a walk.
+/// What is done at each item of a walk over a tree.
+///
+/// The walk is over as soon as a visit returns `false`. A visitor keeps in its fields what it has
+/// found, and the span of an item or a key says where in the source that is.
 pub trait Visit {
     // What a visit does: the visitor before it, the steps to the item and the item, whether the
     // walk goes on, and the visitor after it.
     ghost visits: { Self → List Step × Node → Bool → Self → Type 0 };
 
-    /// Visits an item. Returns `false` to end the walk.
+    /// Visits an item, to which the path leads. Returns `false` to end the walk.
     fn visit(&mut self, path: &Path<'_, '_>, item: &Item) -> bool
         ensures { visits self.old (steps_on path.now, item_view item.now) result self.new };
 }
 
-/// Visits the items below a table, each before those below it, in the order of the slots and of the
-/// elements. Returns `false` if a visit ended the walk.
+/// Visits the items below a table in order, each before those below it. Returns `false` if a visit
+/// ended the walk.
+///
+/// Each slot's item is visited, each value of an array, and each table of an array of tables.
+/// Placeholders are left out, and so is what else was written into a slot of an array, which isn't
+/// printed. The table itself is not visited.
 pub fn visit_table<V: Visit>(visitor: &mut V, table: &Table) -> bool
     ensures { VisitsInOrder V.visits (items_below [] (table_node (table_view table.now)))
         visitor.old result visitor.new }
@@ -33,7 +40,8 @@ pub fn visit_table<V: Visit>(visitor: &mut V, table: &Table) -> bool
     visit_slots(visitor, &table.slots, &Path::Root)
 }
 
-/// Visits the items below an item, as [`visit_table`] does those below a table.
+/// Visits the items below an item, as [`visit_table`] does those below a table. The item itself is
+/// not visited, and the paths begin at it.
 pub fn visit_item<V: Visit>(visitor: &mut V, item: &Item) -> bool
     ensures { VisitsInOrder V.visits (items_below [] (item_view item.now))
         visitor.old result visitor.new }
