@@ -1,0 +1,2 @@
+-- Worked examples of walks.
+pub mod Below
