@@ -75,6 +75,7 @@ pub mod laws;
 mod open_end;
 mod root;
 mod tail;
+pub mod visit;
 
 pub use document::{Document, DocumentMut, PrintFault, SourceText};
 pub use item::value;
