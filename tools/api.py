@@ -148,10 +148,17 @@ class Pages:
         if item is None:
             return self.law(path)
         if item.kind == "fn" and not rest:
-            return self.law(path) or ("functions.md#" + item.name if item in self.functions else None)
+            pages = {known.name: page for page, known in self.in_modules()}
+            return self.law(path) or ("functions.md#" + item.name if item in self.functions else None) or (
+                "%s#%s" % (pages[item.name], item.name) if item.name in pages else None)
         if self.types.get(item.name) is not item:
             return None
         return self.anchor(item, rest[0]) if rest else item.name + ".md"
+
+    def in_modules(self):
+        """The functions of modules other than that of the laws, each with its page."""
+        return [(page_of_module(name), item) for name, (_, given) in self.modules.items() if name not in ("laws", "toml_edit")
+                for _, item in given if item.kind == "fn"]
 
     def law(self, path):
         """Where a path to a law leads."""
@@ -249,7 +256,8 @@ class Pages:
     def definitions(self):
         """The definition files that the contracts of public calls lead to."""
         calls = [(call, uses_at(call, item, self.impls.get(item.name, []))) for item in self.types.values() for _, group in self.calls(item) for call in group]
-        calls += [(item, uses_of(item.module.items)) for item in self.functions + [law for _, law in self.modules["laws"][1]]]
+        calls += [(item, uses_of(item.module.items)) for item in self.functions + [law for _, law in self.modules["laws"][1]]
+                  + [item for _, item in self.in_modules()]]
         left = re.findall(r"crates/\S*?\.antt", self.words(calls))
         found = set()
         while left:
@@ -361,6 +369,8 @@ class Pages:
         for item in self.functions:
             star = "" if item.name + "()" in self.known else r"\*"
             calls.setdefault(item.name, []).append("[`toml_edit`](functions.md#%s)%s" % (item.name, star))
+        for page, item in self.in_modules():
+            calls.setdefault(item.name, []).append("[`toml_edit`](%s#%s)" % (page, item.name) + r"\*")
         for name, item in self.types.items():
             for _, group in self.calls(item):
                 for call in group:
@@ -380,9 +390,15 @@ class Pages:
                 pages["laws.md"] = self.list_of("Laws", laws, self.prose(module.docs, module, None, module.file).strip())
             elif name != "toml_edit":
                 text = MADE + "# Module `%s`\n\n%s\n" % (name, self.prose(module.docs, module, None, module.file))
+                functions = [item for _, item in given if item.kind == "fn"]
                 for known, item in given:
-                    text += "- [`%s`](%s.md): %s\n" % (known, item.name, self.first(item))
-                pages[page_of_module(name)] = text
+                    link = "#" + item.name if item in functions else item.name + ".md"
+                    text += "- [`%s`](%s): %s\n" % (known, link, self.first(item))
+                for item in functions:
+                    text += "\n" + self.call(item, None, False).rstrip() + "\n"
+                if functions:
+                    text += "\n" + self.words([(item, uses_of(item.module.items)) for item in functions])
+                pages[page_of_module(name)] = text.rstrip() + "\n"
         pages["README.md"] = self.index(pages)
         if len({name.lower() for name in pages}) != len(pages):
             self.faults.append("docs/api: two pages whose names differ only in case")
