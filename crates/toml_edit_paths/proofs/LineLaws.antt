@@ -1,5 +1,6 @@
 -- What is left of an item where an element of an array is removed with its line.
 use Rattle.std.proofs.Common.{◌≡◌, ◌∙◌, refl, sym, ap, ℕ, false, List, [], ◌∷◌, Some, None}
+use Rattle.toml_edit_model.specs.Keys.{new_key}
 use Rattle.toml_edit_model.specs.Lists.{item_list, items_from, on_slots, slots_in}
 use Rattle.toml_edit_model.specs.Slots.{Slot}
 use Rattle.toml_edit_model.specs.Text.{Text}
@@ -56,4 +57,4 @@ slots-without-line k [] (leaf s r d) ss h = absurd cc
 slots-without-line k [] (list f xs) ss h = absurd cc
 slots-without-line k [] (tables e xs) ss h = absurd cc
 slots-without-line k [] nothing ss h = absurd cc
-slots-without-line k (l ∷ path) n ss h = slots-go false k (remove_line_below (l ∷ path)) n ss h
+slots-without-line k (l ∷ path) n ss h = slots-go false (new_key k) (remove_line_below (l ∷ path)) n ss h
