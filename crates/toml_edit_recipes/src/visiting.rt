@@ -25,8 +25,10 @@ impl Visit for EmptyStrings<'_> {
 
 /// Returns a line for each empty string of a document, with its line, its column and its path.
 pub fn lint(alloc: Global, document: &Document<&str>) -> Result<String> {
-    let report = String::new(alloc);
-    let mut lint = EmptyStrings { source: document.raw(), report };
+    let mut lint = EmptyStrings {
+        source: document.raw(),
+        report: String::new(alloc),
+    };
     ensure!(visit_table(&mut lint, document.as_table()), "out of memory");
     Ok(lint.report)
 }

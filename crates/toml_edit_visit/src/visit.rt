@@ -16,7 +16,20 @@ use toml_edit_tree::{Item, Table, Value};
 /// What is done at each item of a walk over a tree.
 ///
 /// The walk is over as soon as a visit returns `false`. A visitor keeps in its fields what it has
-/// found, and the span of an item or a key says where in the source that is.
+/// found, and the span of an item or a key says where in the source that is. An `impl` states in
+/// `visits` what proofs need of a visit; `λ _ _ _ _. Unit {0}` states nothing.
+///
+/// # Examples
+///
+/// ```rust,ignore
+/// if let (Some(""), Some(span)) = (item.as_str(), item.span()) {
+///     let (line, column) = line_column(self.source, span.start);
+///     return write!(self.report, "{line}:{column}: {path} is empty\n").is_ok();
+/// }
+/// true
+/// ```
+///
+/// From `visit` of the crate `toml_edit_recipes`.
 pub trait Visit {
     // What a visit does: the visitor before it, the steps to the item and the item, whether the
     // walk goes on, and the visitor after it.
@@ -33,6 +46,19 @@ pub trait Visit {
 /// Each slot's item is visited, each value of an array, and each table of an array of tables.
 /// Placeholders are left out, and so is what else was written into a slot of an array, which isn't
 /// printed. The table itself is not visited.
+///
+/// # Examples
+///
+/// ```rust,ignore
+/// let mut lint = EmptyStrings {
+///     source: document.raw(),
+///     report: String::new(alloc),
+/// };
+/// ensure!(visit_table(&mut lint, document.as_table()), "out of memory");
+/// Ok(lint.report)
+/// ```
+///
+/// From `lint` of the crate `toml_edit_recipes`.
 pub fn visit_table<V: Visit>(visitor: &mut V, table: &Table) -> bool
     ensures { VisitsInOrder V.visits (items_below [] (table_node (table_view table.now)))
         visitor.old result visitor.new }
