@@ -331,13 +331,14 @@ fn normalizes(rt: HostRuntime) {
 /// Returns `true` if the document is read from its print, and prints this then.
 fn is_reloaded(alloc: Global, document: &DocumentMut, wanted: &str) -> bool {
     match reload(alloc, document) {
-        Ok(again) => is_text(again.print(alloc), wanted),
+        Ok(Some(again)) => is_text(again.print(alloc), wanted),
+        Ok(None) => false,
         Err(_) => false,
     }
 }
 
-fn is_unfit(reloaded: Result<DocumentMut, EditFault>) -> bool {
-    matches!(reloaded, Err(EditFault::Unfit))
+fn is_unfit(reloaded: Result<Option<DocumentMut>, ParseFault>) -> bool {
+    matches!(reloaded, Ok(None))
 }
 
 fn reloads_until_it_is_dotted(alloc: Global, document: &mut DocumentMut) -> bool {

@@ -1,9 +1,8 @@
 -- A value of a table under a key of the root, as an edit of the laws.
-use Rattle.std.proofs.Common.{◌≡◌, refl, sym, ◌∙◌, ap, subst, Bool, true, false, [], ◌∷◌, ◌++◌, Option, Some, None}
+use Rattle.std.proofs.Common.{◌≡◌, refl, sym, ◌∙◌, ap, subst, Bool, true, false, [], ◌∷◌, ◌++◌, Option, Some, None, inl}
 use Rattle.std.specs.Prelude.{◌||◌, if◌then◌else◌, option_map}
 use Rattle.std.proofs.lemmas.Slice.Eq.{bytes_eq-Decides}
 use Rattle.toml_edit.specs.model.Mode.{Mode, plain}
-use Rattle.toml_edit.specs.model.Print.{print_in}
 use Rattle.toml_edit.specs.model.Scalars.{string}
 use Rattle.toml_edit.specs.model.Text.{Text, same_text}
 use Rattle.toml_edit.specs.model.Spelling.{SpellsKey}
@@ -17,8 +16,10 @@ use Rattle.toml_edit.specs.model.Iterating.{filled}
 use Rattle.toml_edit.specs.model.TableCalls.{get}
 use Rattle.toml_edit.specs.laws.Locality.{KeepsFrame, is_plain_value}
 use Rattle.toml_edit.specs.laws.EditLists.{after_all, AllApply, EditsStayLocal}
-use Rattle.toml_edit.specs.Documents.{IsOwnedReading, MeansWhatIsShown}
+use Rattle.toml_edit.specs.edits.Fitting.{ScalarsFitAnywhere, StillFitsAfterAll}
+use Rattle.toml_edit.specs.Documents.{IsOwnedReading}
 use Rattle.toml_edit_guide.specs.Edits.{setting, string_like, HasValueSet}
+use Rattle.toml_edit_guide.specs.Prints.{ReadsBack}
 use Rattle.toml_edit_guide.specs.Sets.{SetsInTree}
 
 same-name : (k l : Text) → same_text k l ≡ true → k ≡ l
@@ -169,19 +170,21 @@ decor-like old x = refl
 
 -- a string that is put in place of a value of a table, in its decor, and what is written then
 pub told : (text name key x out : Text) (t u : Tree) → ((mode : Mode) → EditsStayLocal mode) → ((mode : Mode) → KeepsFrame mode)
-    → (r : IsOwnedReading text t)
-    → SetsInTree name key (leaf (string x) None unset) t u → out ≡ print_in plain false u → MeansWhatIsShown plain false u
-    → HasValueSet text name key x out
-told text name key x out t u law keeps r (
+    → ((mode : Mode) → StillFitsAfterAll mode) → ((mode : Mode) → ScalarsFitAnywhere mode) → (r : IsOwnedReading text t)
+    → SetsInTree name key (leaf (string x) None unset) t u → ReadsBack plain false u out → HasValueSet text name key x out
+told text name key x out t u law keeps still scalars r (
   root,
   trailing,
   (n, m, there, (f, ss, xs, n-is, m-is, (old, inside, value, changes)), others),
-) print back =
+) printed =
     let new : Node = string_like old x in
     let found : get name (slot_list t.slots) ≡ Some (table f ss) = there ∙ ap (λ (y : Node). Some y) n-is in
     let made : SlotsAreWellMade t.slots = r.tree.made in
     let a : AllApply plain (setting name key new) t = applies t made name key f ss old new found inside value refl (tt, tt) in
     let local = law plain (setting name key new) t made (r.tree.steady plain) a in
+    let was = was-old t made name key f ss old new found inside value refl (tt, tt) in
+    let fits = still plain (setting name key new) t made (r.tree.steady plain) (r.tree.fits plain) a
+    ((inl refl, inl refl, inl (ap node_decor (sym was)), scalars plain (string x) None (node_decor old)), tt) in
     let inner : xs ≡ slots_from (changed key (with_item new) (slot_list ss)) = sym (slots_from-list xs) ∙ ap slots_from changes in
     let outer : u.slots ≡ slots_from (changed name (with_item (table f (slots_from (changed key (with_item new) (slot_list ss)))))
     (slot_list t.slots)) =
@@ -191,16 +194,18 @@ told text name key x out t u law keeps r (
     tree-after t made name key f ss old new found inside value refl (tt, tt)
     ∙ same-tree t u (slots_from (changed name (with_item (table f (slots_from (changed key (with_item new) (slot_list ss)))))
     (slot_list t.slots))) root trailing outer in
+    let left : ReadsBack plain false (after_all (setting name key new) t) out =
+    subst (λ (y : Tree). ReadsBack plain false y out) (sym is) printed in
     record {
       document = r.document;
       tree = t;
       read = r.tree;
       old = old;
       applies = a;
-      was = was-old t made name key f ss old new found inside value refl (tt, tt);
+      was = was;
       leaves = local.0;
       around = keeps plain (local.0.0.keys ++ (a.0.1 ∷ [])) old new (decor-like old x);
       stays = local.1;
-      print = print ∙ ap (print_in plain false) (sym is);
-      back = subst (MeansWhatIsShown plain false) (sym is) back;
+      print = left.0;
+      back = left.1 (record { made = local.1.made; fits = fits });
     }

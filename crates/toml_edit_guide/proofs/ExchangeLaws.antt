@@ -3,15 +3,16 @@ use Rattle.std.proofs.Common.{◌≡◌, refl, sym, ◌∙◌, ap, subst, false,
 use Rattle.toml_edit.specs.model.Keys.{new_key}
 use Rattle.toml_edit.specs.model.Lists.{slot_list, slots_from}
 use Rattle.toml_edit.specs.model.Mode.{Mode, plain}
-use Rattle.toml_edit.specs.model.Print.{print_in}
 use Rattle.toml_edit.specs.model.Scalars.{string}
 use Rattle.toml_edit.specs.model.Slots.{Slot, keyed, lookup_slot, without}
 use Rattle.toml_edit.specs.model.Text.{Text, one}
 use Rattle.toml_edit.specs.model.Tree.{Node, leaf, Tree, unset}
 use Rattle.toml_edit.specs.laws.EditLists.{after_all, AllApply, EditsStayLocal}
+use Rattle.toml_edit.specs.edits.Fitting.{ScalarsFitAnywhere, StillFitsAfterAll}
 use Rattle.toml_edit.specs.laws.Locality.{root_visit}
-use Rattle.toml_edit.specs.Documents.{IsOwnedReading, MeansWhatIsShown}
+use Rattle.toml_edit.specs.Documents.{IsOwnedReading}
 use Rattle.toml_edit_guide.specs.Exchanges.{exchanging, ExchangesInTree, HasExchanged}
+use Rattle.toml_edit_guide.specs.Prints.{ReadsBack}
 use Rattle.toml_edit_guide.proofs.EditLaws.{slots_from-list}
 
 slot_list-from : (xs : List (Slot Node)) → slot_list (slots_from xs) ≡ xs
@@ -19,10 +20,10 @@ slot_list-from [] = refl
 slot_list-from (x ∷ xs) = ap (λ r. x ∷ r) (slot_list-from xs)
 
 -- a table that is removed from the root, and a string that is added there
-pub told : (text name key x out : Text) (t u : Tree) → ((mode : Mode) → EditsStayLocal mode) → (r : IsOwnedReading text t)
-    → ExchangesInTree name key (leaf (string x) None unset) t u → out ≡ print_in plain false u → MeansWhatIsShown plain false u
-    → HasExchanged text name key x out
-told text name key x out t u law r (root, trailing, (mid, (s, f, ss, there, s-is, less), (new, more))) print back =
+pub told : (text name key x out : Text) (t u : Tree) → ((mode : Mode) → EditsStayLocal mode) → ((mode : Mode) → StillFitsAfterAll mode)
+    → ((mode : Mode) → ScalarsFitAnywhere mode) → (r : IsOwnedReading text t)
+    → ExchangesInTree name key (leaf (string x) None unset) t u → ReadsBack plain false u out → HasExchanged text name key x out
+told text name key x out t u law still scalars r (root, trailing, (mid, (s, f, ss, there, s-is, less), (new, more))) printed =
     let n : Node = leaf (string x) None unset in
     let rest : slot_list (slots_from (without name (slot_list t.slots))) ≡ mid = slot_list-from (without name (slot_list t.slots))
     ∙ sym less in
@@ -41,11 +42,15 @@ told text name key x out t u law r (root, trailing, (mid, (s, f, ss, there, s-is
       ),
     ) in
     let local = law plain (exchanging name key x) t r.tree.made (r.tree.steady plain) a in
+    let fits = still plain (exchanging name key x) t r.tree.made (r.tree.steady plain) (r.tree.fits plain) a
+    (tt, (((refl, refl), (refl, refl), (refl, refl), scalars plain (string x) None unset), tt)) in
     let slots : slots_from (slot_list (slots_from (without name (slot_list t.slots))) ++ one (keyed (new_key key) n)) ≡ u.slots =
     ap (λ es. slots_from (es ++ one (keyed (new_key key) n))) rest ∙ ap slots_from (sym more) ∙ slots_from-list u.slots in
     let is : after_all (exchanging name key x) t ≡ u =
     ap (λ xs. record t { slots = xs }) slots ∙ ap (λ q. record (record t { trailing = q }) { slots = u.slots }) (sym trailing)
     ∙ ap (λ q. record u { root = q }) (sym root) in
+    let left : ReadsBack plain false (after_all (exchanging name key x) t) out =
+    subst (λ (y : Tree). ReadsBack plain false y out) (sym is) printed in
     record {
       document = r.document;
       tree = t;
@@ -56,6 +61,6 @@ told text name key x out t u law r (root, trailing, (mid, (s, f, ss, there, s-is
       was = s-is;
       leaves = local.0;
       stays = local.1;
-      print = print ∙ ap (print_in plain false) (sym is);
-      back = subst (MeansWhatIsShown plain false) (sym is) back;
+      print = left.0;
+      back = left.1 (record { made = local.1.made; fits = fits });
     }

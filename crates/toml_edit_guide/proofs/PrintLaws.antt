@@ -1,11 +1,22 @@
--- Strings, and keys that are not there.
-use Rattle.std.proofs.Common.{◌≡◌, refl, true, Option, Some, None, option_map}
+-- Prints, strings, and keys that are not there.
+use Rattle.std.proofs.Common.{◌≡◌, ◌∙◌, refl, subst, Bool, true, false, List, Option, Some, None, option_map}
 use Rattle.std.specs.Prelude.{is_some}
+use Rattle.toml_edit.specs.DocumentView.{IsPlain, IsPrintedAs, mode_owned, open_owned, tree_owned}
+use Rattle.toml_edit.specs.declared.document.DocumentMut.{DocumentMut}
 use Rattle.toml_edit.specs.laws.Locality.{is_plain_value}
+use Rattle.toml_edit.specs.model.Mode.{Mode, plain}
 use Rattle.toml_edit.specs.model.Slots.{Slot, lookup_key, lookup_slot}
 use Rattle.toml_edit.specs.model.Text.{Text}
 use Rattle.toml_edit.specs.model.Tree.{Node, nothing, leaf, list, inline, table, tables}
 use Rattle.toml_edit.specs.tree.Casts.{text_in}
+use Rattle.toml_edit_guide.specs.Prints.{ReadsBack}
+
+-- what is printed of a document that is printed as one that was read
+pub printed-plain : (d e : DocumentMut) (out : Text) → IsPlain d → IsPrintedAs e d
+    → ReadsBack (mode_owned e) (open_owned e) (tree_owned e) out → ReadsBack plain false (tree_owned e) out
+printed-plain d e out is same back =
+    subst (λ (m : Mode). ReadsBack m false (tree_owned e) out) (same.0 ∙ is.0)
+    (subst (λ (b : Bool). ReadsBack (mode_owned e) b (tree_owned e) out) (same.1 ∙ is.1) back)
 
 pub string-plain : (n : Node) → is_some (text_in n) ≡ true → is_plain_value n ≡ true
 string-plain (leaf s r d) h = refl

@@ -6,20 +6,14 @@ use Rattle.toml_edit.specs.change.declared.fault.ChangeFault.TheVariants as chan
 use Rattle.toml_edit.specs.error.declared.toml_error.ParseFault as parsing
 use Rattle.toml_edit.specs.error.declared.toml_error.ParseFault.TheVariants as parsings
 use Rattle.toml_edit.specs.model.Excerpt.{excerpt}
-use Rattle.toml_edit.specs.model.Fits.{FitsIn}
 use Rattle.toml_edit.specs.model.Lists.{slot_list}
-use Rattle.toml_edit.specs.model.Mode.{plain}
-use Rattle.toml_edit.specs.model.Scalars.{string}
 use Rattle.toml_edit.specs.model.Slots.{Slot, lookup, lookup_key, without}
 use Rattle.toml_edit.specs.model.Text.{Text, newline}
-use Rattle.toml_edit.specs.model.Tree.{Node, Tree, leaf, unset}
+use Rattle.toml_edit.specs.model.Tree.{Node, Tree}
 use Rattle.toml_edit.specs.tree.Containers.{table_in}
 use Rattle.toml_edit_guide.specs.declared.fault.EditFault.{EditFault}
-use Rattle.toml_edit_guide.specs.declared.fault.EditFault.TheVariants.{Toml, Memory, Missing, Present, Unfit}
-use Rattle.toml_edit_guide.specs.Exchanges.{ExchangesInTree}
+use Rattle.toml_edit_guide.specs.declared.fault.EditFault.TheVariants.{Toml, Memory, Missing, Present}
 use Rattle.toml_edit_guide.specs.Paths.{value_below}
-use Rattle.toml_edit_guide.specs.Removals.{without_key}
-use Rattle.toml_edit_guide.specs.Sets.{SetsInTree}
 
 -- what is shown of it
 abbrev pub fault_text : EditFault → Text
@@ -27,7 +21,6 @@ fault_text (Toml e) = excerpt e.input e.span e.message
 fault_text Memory = codes "out of memory" ++ newline
 fault_text Missing = codes "not found" ++ newline
 fault_text Present = codes "already there" ++ newline
-fault_text Unfit = codes "does not fit" ++ newline
 
 -- a fault of parsing, passed on
 abbrev pub parsing_fault : parsing.ParseFault → EditFault
@@ -40,24 +33,14 @@ changing_fault changings.NoSuchPath = Missing
 changing_fault changings.WrongKind = Missing
 changing_fault changings.Memory = Memory
 
--- memory ran out, or a tree does not fit
-abbrev pub FailsToFit : Type 0 → EditFault → Type 0
-FailsToFit Fits Unfit = Fits → ⊥
-FailsToFit Fits Memory = Unit {0}
-FailsToFit Fits _ = ⊥
-
--- Why no value under a key of a table is replaced by a string: the text is refused; its tree has no
--- value there; or the tree would not fit
--- with this string in place of the value.
-abbrev pub SetFails : Text → Text → Text → Text → EditFault → Type 0
-SetFails text name key value (Toml report) = IsRefusal text report
-SetFails text name key value Memory = Unit {0}
-SetFails text name key value Missing =
+-- why no value under a key of a table is replaced: the text is refused; or its tree has no value
+-- there
+abbrev pub SetFails : Text → Text → Text → EditFault → Type 0
+SetFails text name key (Toml report) = IsRefusal text report
+SetFails text name key Memory = Unit {0}
+SetFails text name key Missing =
     (t : Tree) × IsOwnedReading text t × (value_below name key (slot_list t.slots) ≡ None)
-SetFails text name key value Present = ⊥
-SetFails text name key value Unfit =
-    (t : Tree) × (u : Tree) × IsOwnedReading text t
-    × SetsInTree name key (leaf (string value) None unset) t u × (FitsIn plain u → ⊥)
+SetFails text name key Present = ⊥
 
 -- why a slot that has a table is not removed and a key not added: there is no such table; or there
 -- is, and the key is one of the others
@@ -67,28 +50,35 @@ SlotsStay name key es Missing = option_and_then table_in (lookup name es) ≡ No
 SlotsStay name key es Present =
     (is_some (option_and_then table_in (lookup name es)) ≡ true)
     × (is_some (lookup_key key (without name es)) ≡ true)
-SlotsStay name key es _ = ⊥
+SlotsStay name key es (Toml report) = ⊥
 
--- why no table is removed and no string added: the text is refused; so it is with the slots of its
--- root; or the tree would not fit
-abbrev pub ExchangeFails : Text → Text → Text → Text → EditFault → Type 0
-ExchangeFails text name key value (Toml report) = IsRefusal text report
-ExchangeFails text name key value Memory = Unit {0}
-ExchangeFails text name key value Missing =
+-- why no table is removed and no string added: the text is refused; or so it is with the slots of
+-- its root
+abbrev pub ExchangeFails : Text → Text → Text → EditFault → Type 0
+ExchangeFails text name key (Toml report) = IsRefusal text report
+ExchangeFails text name key Memory = Unit {0}
+ExchangeFails text name key Missing =
     (t : Tree) × IsOwnedReading text t × SlotsStay name key (slot_list t.slots) Missing
-ExchangeFails text name key value Present =
+ExchangeFails text name key Present =
     (t : Tree) × IsOwnedReading text t × SlotsStay name key (slot_list t.slots) Present
-ExchangeFails text name key value Unfit =
-    (t : Tree) × (u : Tree) × IsOwnedReading text t
-    × ExchangesInTree name key (leaf (string value) None unset) t u × (FitsIn plain u → ⊥)
 
--- why no key of the root is removed: the text is refused; there is no such key; or the tree would
--- not fit
+-- why no key of the root is removed: the text is refused; or there is no such key
 abbrev pub RemovalFails : Text → Text → EditFault → Type 0
 RemovalFails text name (Toml report) = IsRefusal text report
 RemovalFails text name Memory = Unit {0}
 RemovalFails text name Missing =
     (t : Tree) × IsOwnedReading text t × (lookup name (slot_list t.slots) ≡ None)
 RemovalFails text name Present = ⊥
-RemovalFails text name Unfit =
-    (t : Tree) × IsOwnedReading text t × (FitsIn plain (without_key name t) → ⊥)
+
+-- why no call by a path edits a text: it is refused; or it is read, and what a call names is not
+-- there, or what it adds is
+abbrev pub EditFails : Text → EditFault → Type 0
+EditFails text (Toml report) = IsRefusal text report
+EditFails text Memory = Unit {0}
+EditFails text Missing = (t : Tree) × IsOwnedReading text t
+EditFails text Present = (t : Tree) × IsOwnedReading text t
+
+-- no text is refused
+abbrev pub IsNoRefusal : EditFault → Type 0
+IsNoRefusal (Toml report) = ⊥
+IsNoRefusal _ = Unit {0}

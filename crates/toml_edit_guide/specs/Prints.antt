@@ -1,13 +1,14 @@
--- A document and its print.
-use Rattle.toml_edit.specs.DocumentView.{mode_owned, open_owned, tree_owned}
+-- A tree and what is printed of it.
+use Rattle.std.specs.Prelude.{◌≡◌, Bool}
 use Rattle.toml_edit.specs.Documents.{MeansWhatIsShown}
-use Rattle.toml_edit.specs.declared.document.DocumentMut.{DocumentMut}
-use Rattle.toml_edit.specs.model.Fits.{FitsIn}
+use Rattle.toml_edit.specs.laws.AcceptedPrints.{IsFitting}
+use Rattle.toml_edit.specs.model.Mode.{Mode}
+use Rattle.toml_edit.specs.model.Print.{print_in}
+use Rattle.toml_edit.specs.model.Text.{Text}
+use Rattle.toml_edit.specs.model.Tree.{Tree}
 
--- it fits
-abbrev pub TreeFits : DocumentMut → Type 0
-TreeFits d = FitsIn (mode_owned d) (tree_owned d)
-
--- what it prints is accepted, and means what its tree shows
-abbrev pub MeansItsTree : DocumentMut → Type 0
-MeansItsTree d = MeansWhatIsShown (mode_owned d) (open_owned d) (tree_owned d)
+-- The text is the print of the tree. If that fits, the text is accepted, and means what the tree
+-- shows.
+abbrev pub ReadsBack : Mode → Bool → Tree → Text → Type 0
+ReadsBack mode is_open t out =
+    (out ≡ print_in mode is_open t) × (IsFitting mode t → MeansWhatIsShown mode is_open t)

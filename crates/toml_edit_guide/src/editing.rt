@@ -1,6 +1,6 @@
 //! Changing the text of a document, and saying what stays.
-ghost use Rattle.std.specs.Prelude.{◌≡◌, true, IfErr, IfOk, IsTrue, OnOk, is_some, string_bytes};
-ghost use Rattle.toml_edit.specs.DocumentView.{print_of, tree_owned, IsPrintedAs};
+ghost use Rattle.std.specs.Prelude.{◌≡◌, true, IfErr, IfOk, IsTrue, is_some, string_bytes};
+ghost use Rattle.toml_edit.specs.DocumentView.{mode_owned, open_owned, tree_owned, IsPrintedAs};
 ghost use Rattle.toml_edit.specs.model.Conversions.{with_decor};
 ghost use Rattle.toml_edit.specs.model.Lists.{slot_list};
 ghost use Rattle.toml_edit.specs.model.Tree.{is_value_node, node_decor};
@@ -8,24 +8,24 @@ ghost use Rattle.toml_edit.specs.tree.Containers.{value_in};
 ghost use Rattle.toml_edit.specs.tree.SlotsOf.{slots_of};
 ghost use Rattle.toml_edit.specs.tree.View.{fields_view, item_view, value_view};
 ghost use Rattle.toml_edit_guide.specs.Edits.{HasValueSet};
-ghost use Rattle.toml_edit_guide.specs.Faults.{FailsToFit, SetFails};
+ghost use Rattle.toml_edit_guide.specs.Faults.{SetFails};
 ghost use Rattle.toml_edit_guide.specs.Paths.{value_below, value_inside, value_under};
-ghost use Rattle.toml_edit_guide.specs.Prints.{MeansItsTree, TreeFits};
+ghost use Rattle.toml_edit_guide.specs.Prints.{ReadsBack};
 ghost use Rattle.toml_edit_guide.specs.Sets.{SetsBelow, SetsInTable, SetsInTree, SetsValue};
 
 use crate::changing::replace_value;
 use crate::fault::EditFault;
 use std::alloc::Global;
-use toml_edit::laws::{edits, replaced};
-use toml_edit::{DocumentMut, Item, Table, Value};
+use toml_edit::laws::{agree, cut, edits, reparse, replaced, still_fits};
+use toml_edit::{DocumentMut, Item, Mem, Table, Value};
 
 /// Replaces the value under a key of a table by a string, and returns the text in its normal form:
 /// the rest of the line and all other statements are as they were.
 ///
 /// # Errors
 ///
-/// [`EditFault::Toml`] if the text is refused, [`EditFault::Missing`] if there is no such value,
-/// [`EditFault::Unfit`] if the document would not fit, and [`EditFault::Memory`] if out of memory.
+/// [`EditFault::Toml`] if the text is refused, [`EditFault::Missing`] if there is no such value, and
+/// [`EditFault::Memory`] if out of memory.
 pub fn set_string(
     alloc: Global,
     text: &str,
@@ -35,32 +35,32 @@ pub fn set_string(
 ) -> Result<String, EditFault>
     ensures set { IfOk result (λ s.
         ∥ HasValueSet text.now name.now key.now value.now (string_bytes s) ∥₁) }
-    ensures fails { IfErr result (SetFails text.now name.now key.now value.now) }
+    ensures fails { IfErr result (SetFails text.now name.now key.now) }
 {
     edits();
     replaced();
+    still_fits();
     let mut document = DocumentMut::from_str(alloc, text)?;
     let value = Value::string(alloc, value)?;
     if !replace_in_document(&mut document, name, key, value) {
         return Err(EditFault::Missing);
     }
-    print_edited(alloc, &document)
+    Ok(print_fitting(alloc, &document)?)
 }
 
-/// Returns the text of an edited document, which is valid TOML and means what the tree says.
+/// Returns the text of a document. If it fits, the text is valid TOML and means what the tree says.
 ///
 /// # Errors
 ///
-/// [`EditFault::Unfit`] if the document does not fit, and [`EditFault::Memory`] if out of memory.
-pub fn print_edited(alloc: Global, document: &DocumentMut) -> Result<String, EditFault>
-    ensures text { IfOk result (λ s. string_bytes s ≡ print_of document.now) }
-    ensures means { OnOk result (∥ MeansItsTree document.now ∥₁) }
-    ensures fails { IfErr result (FailsToFit (TreeFits document.now)) }
+/// Returns an `AllocError` if out of memory.
+pub fn print_fitting(alloc: Global, document: &DocumentMut) -> Mem<String>
+    ensures { IfOk result (λ s. ReadsBack (mode_owned document.now) (open_owned document.now)
+        (tree_owned document.now) (string_bytes s)) }
 {
-    if !document.fits(alloc)? {
-        return Err(EditFault::Unfit);
-    }
-    Ok(document.print(alloc)?)
+    cut();
+    agree();
+    reparse();
+    document.print(alloc)
 }
 
 /// Replaces the value under a key of a table of the document. Returns `false` if there is none.

@@ -9,10 +9,10 @@ ghost use Rattle.toml_edit.specs.tree.View.{fields_view, item_view};
 ghost use Rattle.toml_edit_guide.specs.Exchanges.{AddsNew, Exchanges, ExchangesInTree, HasExchanged, TakesTable};
 ghost use Rattle.toml_edit_guide.specs.Faults.{ExchangeFails, SlotsStay};
 
-use crate::editing::print_edited;
+use crate::editing::print_fitting;
 use crate::fault::EditFault;
 use std::alloc::Global;
-use toml_edit::laws::{added, edits};
+use toml_edit::laws::{added, edits, still_fits};
 use toml_edit::{DocumentMut, Item, Mem, Table, Value};
 
 /// Removes a table of the root, adds a string under a new key, and returns the text in its normal
@@ -21,8 +21,7 @@ use toml_edit::{DocumentMut, Item, Mem, Table, Value};
 /// # Errors
 ///
 /// [`EditFault::Toml`] if the text is refused, [`EditFault::Missing`] if there is no such table,
-/// [`EditFault::Present`] if the key is there, [`EditFault::Unfit`] if the document would not fit,
-/// and [`EditFault::Memory`] if out of memory.
+/// [`EditFault::Present`] if the key is there, and [`EditFault::Memory`] if out of memory.
 pub fn exchange(
     alloc: Global,
     text: &str,
@@ -32,13 +31,14 @@ pub fn exchange(
 ) -> Result<String, EditFault>
     ensures exchanged { IfOk result (λ s.
         ∥ HasExchanged text.now table.now key.now value.now (string_bytes s) ∥₁) }
-    ensures fails { IfErr result (ExchangeFails text.now table.now key.now value.now) }
+    ensures fails { IfErr result (ExchangeFails text.now table.now key.now) }
 {
     edits();
+    still_fits();
     let mut document = DocumentMut::from_str(alloc, text)?;
     let item = Item::Value(Value::string(alloc, value)?);
     exchange_in_document(&mut document, table, key, item)?;
-    print_edited(alloc, &document)
+    Ok(print_fitting(alloc, &document)?)
 }
 
 /// Removes a table of the document's root, and adds an item under a new key.

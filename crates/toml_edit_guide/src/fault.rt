@@ -15,8 +15,6 @@ pub enum EditFault {
     Missing,
     /// The key that is to be added is there.
     Present,
-    /// The edited document does not fit.
-    Unfit,
 }
 
 /// Writes the error as [`ParseFault`] does, or one line.
@@ -32,7 +30,6 @@ impl fmt::Display for EditFault {
             EditFault::Memory => f.write_str("out of memory\n"),
             EditFault::Missing => f.write_str("not found\n"),
             EditFault::Present => f.write_str("already there\n"),
-            EditFault::Unfit => f.write_str("does not fit\n"),
         }
     }
 }

@@ -1,15 +1,14 @@
 //! Writing a text in its normal form, and reading a document from its print.
-ghost use Rattle.std.specs.Prelude.{IfErr, IfOk, string_bytes};
-ghost use Rattle.toml_edit.specs.DocumentView.{print_of, tree_owned};
+ghost use Rattle.std.specs.Prelude.{◌↔◌, IfErr, IfOk, IfSome, IsOkUnless, IsSome, string_bytes};
+ghost use Rattle.toml_edit.specs.DocumentView.{mode_owned, print_of, tree_owned};
 ghost use Rattle.toml_edit.specs.Documents.{IsRefusal};
 ghost use Rattle.toml_edit.specs.error.Fault.{IfToml};
-ghost use Rattle.toml_edit_guide.specs.Faults.{FailsToFit};
+ghost use Rattle.toml_edit.specs.model.Fits.{FitsIn};
 ghost use Rattle.toml_edit_guide.specs.Normals.{IsNormalized, IsReloaded};
-ghost use Rattle.toml_edit_guide.specs.Prints.{TreeFits};
 
-use crate::fault::EditFault;
+use crate::editing::print_fitting;
 use std::alloc::Global;
-use toml_edit::laws::{agree, cut, normal, reparse};
+use toml_edit::laws::{cut, normal};
 use toml_edit::{DocumentMut, ParseFault};
 
 /// Returns the normal form of a text. That of the result is the result itself.
@@ -27,24 +26,23 @@ pub fn normalize(alloc: Global, text: &str) -> Result<String, ParseFault>
     Ok(document.print(alloc)?)
 }
 
-/// Reads a document from its print, as it is read after it was saved. What it means stays.
+/// Reads a document from its print, as it is read after it was saved. What it means stays. Returns
+/// `None` if the document does not fit.
 ///
 /// # Errors
 ///
-/// [`EditFault::Unfit`] if the document does not fit, and [`EditFault::Memory`] if out of memory.
-/// A document that fits is never refused.
-pub fn reload(alloc: Global, document: &DocumentMut) -> Result<DocumentMut, EditFault>
-    ensures reloaded { IfOk result (λ m.
-        ∥ IsReloaded (print_of document.now) (tree_owned document.now) (tree_owned m) ∥₁) }
-    ensures fails { IfErr result (FailsToFit (TreeFits document.now)) }
+/// [`ParseFault::Memory`] if out of memory. A document that fits is never refused.
+pub fn reload(alloc: Global, document: &DocumentMut) -> Result<Option<DocumentMut>, ParseFault>
+    ensures fits { IfOk result (λ read.
+        IsSome read ↔ FitsIn (mode_owned document.now) (tree_owned document.now)) }
+    ensures reloaded { IfOk result (λ read. IfSome read (λ m.
+        ∥ IsReloaded (print_of document.now) (tree_owned document.now) (tree_owned m) ∥₁)) }
+    ensures memory { IsOkUnless result ParseFault.Memory }
 {
-    cut();
-    agree();
-    reparse();
     if !document.fits(alloc)? {
-        return Err(EditFault::Unfit);
+        return Ok(None);
     }
-    let text = document.print(alloc)?;
+    let text = print_fitting(alloc, document)?;
     let reloaded = DocumentMut::from_str(alloc, text.as_str())?;
-    Ok(reloaded)
+    Ok(Some(reloaded))
 }

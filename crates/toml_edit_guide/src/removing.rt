@@ -8,10 +8,10 @@ ghost use Rattle.toml_edit.specs.tree.View.{fields_view};
 ghost use Rattle.toml_edit_guide.specs.Faults.{RemovalFails};
 ghost use Rattle.toml_edit_guide.specs.Removals.{HasKeyRemoved, without_key};
 
-use crate::editing::print_edited;
+use crate::editing::print_fitting;
 use crate::fault::EditFault;
 use std::alloc::Global;
-use toml_edit::laws::removed;
+use toml_edit::laws::{removed, still_fits};
 use toml_edit::{DocumentMut, Table};
 
 /// Removes a key of the root with all that is below it, and returns the text in its normal form:
@@ -19,18 +19,19 @@ use toml_edit::{DocumentMut, Table};
 ///
 /// # Errors
 ///
-/// [`EditFault::Toml`] if the text is refused, [`EditFault::Missing`] if there is no such key,
-/// [`EditFault::Unfit`] if the document would not fit, and [`EditFault::Memory`] if out of memory.
+/// [`EditFault::Toml`] if the text is refused, [`EditFault::Missing`] if there is no such key, and
+/// [`EditFault::Memory`] if out of memory.
 pub fn remove_key(alloc: Global, text: &str, name: &str) -> Result<String, EditFault>
     ensures removed { IfOk result (λ s. ∥ HasKeyRemoved text.now name.now (string_bytes s) ∥₁) }
     ensures fails { IfErr result (RemovalFails text.now name.now) }
 {
     removed();
+    still_fits();
     let mut document = DocumentMut::from_str(alloc, text)?;
     if !remove_in_document(&mut document, name) {
         return Err(EditFault::Missing);
     }
-    print_edited(alloc, &document)
+    Ok(print_fitting(alloc, &document)?)
 }
 
 /// Removes a key of the document's root. Returns `false` if there is none.
