@@ -3,16 +3,14 @@ use Rattle.std.proofs.Common.{◌≡◌, refl, sym, subst, false, Option, Some, 
 use Rattle.std.specs.Prelude.{IfErr, IsErrAnd, is_some}
 use Rattle.std.proofs.lemmas.Result.{err_from_is_err_and}
 use Rattle.toml_edit.specs.Documents.{IsOwnedReading, IsRefusal}
-use Rattle.toml_edit.specs.change.declared.fault.ChangeFault as changing
-use Rattle.toml_edit.specs.change.declared.fault.ChangeFault.TheVariants as changings
 use Rattle.toml_edit.specs.error.Fault.{IfToml}
 use Rattle.toml_edit.specs.error.declared.toml_error.ParseFault as parsing
 use Rattle.toml_edit.specs.error.declared.toml_error.ParseFault.TheVariants as parsings
 use Rattle.toml_edit.specs.model.Lists.{slot_list}
 use Rattle.toml_edit.specs.model.Text.{Text}
 use Rattle.toml_edit.specs.model.Tree.{Tree}
-use Rattle.toml_edit_guide.specs.Faults.{EditFails, ExchangeFails, IsNoRefusal, RemovalFails, SetFails, SlotsStay}
-use Rattle.toml_edit_guide.specs.Faults.{changing_fault, parsing_fault}
+use Rattle.toml_edit_guide.specs.Faults.{ExchangeFails, RemovalFails, SetFails, SlotsStay}
+use Rattle.toml_edit_guide.specs.Faults.{parsing_fault}
 use Rattle.toml_edit_guide.specs.declared.fault.EditFault.{EditFault}
 use Rattle.toml_edit_guide.specs.declared.fault.EditFault.TheVariants.{Toml, Memory, Missing, Present}
 
@@ -41,10 +39,6 @@ pub refusal-removal : (text name : Text) (p : parsing.ParseFault) → IfToml p (
 refusal-removal text name (parsings.Toml r) h = h
 refusal-removal text name parsings.Memory h = tt
 
-pub refusal-edit : (text : Text) (p : parsing.ParseFault) → IfToml p (IsRefusal text) → EditFails text (parsing_fault p)
-refusal-edit text (parsings.Toml r) h = h
-refusal-edit text parsings.Memory h = tt
-
 -- ---- a table and a key that stay
 
 pub stays-exchange : (text name key : Text) (t : Tree) → IsOwnedReading text t
@@ -53,21 +47,3 @@ stays-exchange text name key t r Memory h = tt
 stays-exchange text name key t r Missing h = (t, r, h)
 stays-exchange text name key t r Present h = (t, r, h)
 stays-exchange text name key t r (Toml x) h = absurd h
-
--- ---- calls by paths
-
-pub change-fails : (f : changing.ChangeFault) → IsNoRefusal (changing_fault f)
-change-fails changings.NoSuchPath = tt
-change-fails changings.WrongKind = tt
-change-fails changings.Memory = tt
-
-fails-read : (text : Text) (t : Tree) → IsOwnedReading text t → (e : EditFault) → IsNoRefusal e → EditFails text e
-fails-read text t r Memory h = tt
-fails-read text t r Missing h = (t, r)
-fails-read text t r Present h = (t, r)
-fails-read text t r (Toml x) h = absurd h
-
--- the error of a `?` where the text is read
-pub call-fails : {T : Type 0} (r : Result T EditFault) (e : EditFault) (text : Text) (t : Tree) → IsErrAnd r (λ y. y ≡ e)
-    → IsOwnedReading text t → IsNoRefusal e → IfErr r (EditFails text)
-call-fails r e text t h reading k = passed-on r e (EditFails text) h (fails-read text t reading e k)

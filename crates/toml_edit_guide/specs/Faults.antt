@@ -69,16 +69,3 @@ RemovalFails text name Memory = Unit {0}
 RemovalFails text name Missing =
     (t : Tree) × IsOwnedReading text t × (lookup name (slot_list t.slots) ≡ None)
 RemovalFails text name Present = ⊥
-
--- why no call by a path edits a text: it is refused; or it is read, and what a call names is not
--- there, or what it adds is
-abbrev pub EditFails : Text → EditFault → Type 0
-EditFails text (Toml report) = IsRefusal text report
-EditFails text Memory = Unit {0}
-EditFails text Missing = (t : Tree) × IsOwnedReading text t
-EditFails text Present = (t : Tree) × IsOwnedReading text t
-
--- no text is refused
-abbrev pub IsNoRefusal : EditFault → Type 0
-IsNoRefusal (Toml report) = ⊥
-IsNoRefusal _ = Unit {0}

@@ -1,10 +1,9 @@
 //! Editing the text of a document by paths, and saying what stays.
-ghost use Rattle.std.specs.Prelude.{[], ◌∷◌, IfErr, IfOk, IsTrue, OnOk, string_bytes};
+ghost use Rattle.std.specs.Prelude.{[], ◌∷◌, IfOk, IsTrue, OnOk, string_bytes};
 ghost use Rattle.toml_edit.specs.DocumentView.{tree_owned};
 ghost use Rattle.toml_edit.specs.Edited.{EditsBy, IsEditedText, MayBePut};
 ghost use Rattle.toml_edit.specs.edits.PathEdits.{removes, sets};
 ghost use Rattle.toml_edit.specs.model.Keys.{names, new_key};
-ghost use Rattle.toml_edit_guide.specs.Faults.{EditFails, IsNoRefusal};
 ghost use Rattle.toml_edit_guide.specs.Values.{flag_node, string_node, version_path};
 
 use crate::fault::EditFault;
@@ -19,9 +18,8 @@ use toml_edit::{DocumentMut, Key, Value};
 ///
 /// As [`set_two`].
 pub fn set_version(alloc: Global, text: &str, version: &str) -> Result<String, EditFault>
-    ensures edited { IfOk result (λ s. ∥ IsEditedText text.now
+    ensures { IfOk result (λ s. ∥ IsEditedText text.now
         (sets version_path (string_node version.now) ∷ []) (string_bytes s) ∥₁) }
-    ensures fails { IfErr result (EditFails text.now) }
 {
     edited_prints();
     let mut document = DocumentMut::from_str(alloc, text)?;
@@ -48,10 +46,9 @@ pub fn set_two(
     second: &[Key],
     two: &str,
 ) -> Result<String, EditFault>
-    ensures edited { IfOk result (λ s. ∥ IsEditedText text.now
+    ensures { IfOk result (λ s. ∥ IsEditedText text.now
         (sets first.now (string_node one.now) ∷ sets second.now (string_node two.now) ∷ [])
         (string_bytes s) ∥₁) }
-    ensures fails { IfErr result (EditFails text.now) }
 {
     edited_prints();
     let mut document = DocumentMut::from_str(alloc, text)?;
@@ -75,10 +72,9 @@ pub fn release(
     flag: &str,
     gone: &[Key],
 ) -> Result<String, EditFault>
-    ensures edited { IfOk result (λ s. ∥ IsEditedText text.now
+    ensures { IfOk result (λ s. ∥ IsEditedText text.now
         (sets version.now (string_node value.now) ∷ sets (new_key flag.now ∷ []) flag_node
         ∷ removes (names gone.now) ∷ []) (string_bytes s) ∥₁) }
-    ensures fails { IfErr result (EditFails text.now) }
 {
     edited_prints();
     let mut document = DocumentMut::from_str(alloc, text)?;
@@ -95,9 +91,8 @@ fn replace(
     path: &[Key],
     text: &str,
 ) -> Result<(), EditFault>
-    ensures edits { OnOk result
+    ensures { OnOk result
         (EditsBy (sets path.now (string_node text.now)) document.old document.new) }
-    ensures fails { IfErr result IsNoRefusal }
 {
     if !has_string(document, path) {
         return Err(EditFault::Missing);
@@ -118,9 +113,8 @@ fn has_string(document: &DocumentMut, path: &[Key]) -> bool
 
 /// Adds `true` under a new key of the root.
 fn add_flag(alloc: Global, document: &mut DocumentMut, name: &str) -> Result<(), EditFault>
-    ensures edits { OnOk result
+    ensures { OnOk result
         (EditsBy (sets (new_key name.now ∷ []) flag_node) document.old document.new) }
-    ensures fails { IfErr result IsNoRefusal }
 {
     path_edits();
     if document.as_table().key(name).is_some() {

@@ -10,19 +10,12 @@ use Rattle.toml_edit.specs.model.Lists.{slot_list}
 use Rattle.toml_edit.specs.model.Slots.{lookup_slot}
 use Rattle.toml_edit.specs.model.Tree.{Key, Node, Slots}
 use Rattle.toml_edit.specs.tree.View.{value_view}
-use Rattle.toml_edit_guide.specs.Faults.{IsNoRefusal, changing_fault}
-use Rattle.toml_edit_guide.proofs.FaultLaws.{change-fails, none-of, passed-on}
+use Rattle.toml_edit_guide.proofs.FaultLaws.{none-of}
 use Rattle.toml_edit_guide.proofs.PrintLaws.{key-none}
 use Rattle.toml_edit_guide.proofs.edits.add_flag.Goals as goal
 
-pub returns-in_err-set_at-clause-fails : goal.returns-in_err-set_at-clause-fails
-returns-in_err-set_at-clause-fails c =
-    let r = c.from_residual-in_err-set_at in
-    let f = c.in_err-set_at.field-0.0 in
-    passed-on r.result (changing_fault f) IsNoRefusal r.ensures.1 (change-fails f)
-
-pub returns-clause-edits : goal.returns-clause-edits
-returns-clause-edits c =
+pub returns : goal.returns
+returns c =
     let d = c.args.document.now in
     let t = tree_owned d in
     let key : Key = c.in_ok-from_text.field-0 in
