@@ -16,8 +16,9 @@ use toml_edit::{AnyTable, DocumentMut, Item, Key, ParsePath, RawString, Renamed,
 ///
 /// # Errors
 ///
-/// Fails if a path leads nowhere, if a name or a path is taken, or if the result doesn't fit. The
-/// document is unchanged then.
+/// Fails if a path leads nowhere, if a name or a path is taken, if an inline table that is moved has
+/// several lines, whose comments would be lost, or if the result doesn't fit. The document is
+/// unchanged then.
 pub fn migrate(
     alloc: Global,
     document: &mut DocumentMut,
@@ -73,6 +74,8 @@ fn move_table(alloc: Global, root: &mut Item, from: &[Key], to: &[Key]) -> Resul
 fn with_header(alloc: Global, key: &Key, item: &Item) -> Result<Table> {
     let mut table = item.clone(alloc)?.into_table().ok().context("no table")?;
     if let Some(inline) = item.as_inline_table() {
+        let text = format!(in alloc; "{inline}")?;
+        ensure!(!text.contains('\n'), "an inline table has lines");
         let decor = table.decor_mut();
         decor.set_prefix(RawString::from_text(alloc, "\n")?);
         for comment in key.leaf_decor().comments_before() {
