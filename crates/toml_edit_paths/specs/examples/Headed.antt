@@ -1,9 +1,10 @@
 -- Values that are set with headers: what is written, or the refusal, by computation.
-use Rattle.std.specs.Prelude.{◌≡◌, refl, Bool, true, false, ◌&&◌, List, [], ◌∷◌, codes}
+use Rattle.std.specs.Prelude.{◌≡◌, refl, Bool, true, false, ◌&&◌, List, [], ◌∷◌, ◌++◌, codes, map, Some}
 use Rattle.std.specs.Fmt.{digits}
 use Rattle.toml_edit_model.specs.Text.{Text, newline, same_text}
 use Rattle.toml_edit_model.specs.Syntax.{Segment, array, inline_table, no_elements, element, no_pairs, Statement, header, Document}
-use Rattle.toml_edit_model.specs.Tree.{nothing, no_slots, slot, Tree}
+use Rattle.toml_edit_model.specs.Tree.{owned, Key, Node, nothing, no_slots, slot, Tree}
+use Rattle.toml_edit_model.specs.Keys.{new_key}
 use Rattle.toml_edit_model.specs.Print.{print}
 use Rattle.toml_edit_model.specs.TreeOf.{owned_form}
 use Rattle.toml_edit_model.specs.examples.ComputedTree.{tree_of}
@@ -29,11 +30,15 @@ writes text (refused r) = false
 abbrev tree : Document → Tree
 tree d = tree_of owned_form d
 
+-- with keys in their default spelling
+abbrev set_headed : List Text → Node → Tree → Answer Tree
+set_headed path v t = set_at_with_headers (map new_key path) v t
+
 -- the document's print, and what is written after
 abbrev sets : Document → Text → List Text → Text → Bool
 sets d before path after =
     same_text (print (tree d)) before
-    && writes after (set_at_with_headers path (plain_int 2) (tree d))
+    && writes after (set_headed path (plain_int 2) (tree d))
 
 abbrev ka : Text
 ka = codes "a"
@@ -74,6 +79,16 @@ last_table_alone : all_true (
 unfolding digits print
 last_table_alone = refl
 
+-- a header and a key are spelled as the path spells them
+abbrev quoted : Text → Key
+quoted k = record (new_key k) { spelling = Some (owned (codes "'" ++ (k ++ codes "'"))) }
+
+spelled_as_the_path : writes (codes "['a'.b]\n'c' = 2\n")
+    (set_at_with_headers (quoted ka ∷ new_key kb ∷ quoted kc ∷ []) (plain_int 2) (tree (document [])))
+    ≡ true
+unfolding digits print
+spelled_as_the_path = refl
+
 abbrev removes_after : List Text → Answer Tree → Answer Tree
 removes_after path (done u) = remove_at path u
 removes_after path (refused r) = refused r
@@ -81,7 +96,7 @@ removes_after path (refused r) = refused r
 -- the header stays where its line is removed
 header_stays : writes (codes "[a.b]\n")
     (removes_after (ka ∷ kb ∷ kc ∷ [])
-    (set_at_with_headers (ka ∷ kb ∷ kc ∷ []) (plain_int 2) (tree (document [])))) ≡ true
+    (set_headed (ka ∷ kb ∷ kc ∷ []) (plain_int 2) (tree (document [])))) ≡ true
 unfolding digits print
 header_stays = refl
 
@@ -173,8 +188,8 @@ placeholder = root_of (slot (plain_key ka) nothing no_slots)
 -- one is filled with tables, or with the value
 filled : all_true (
     writes (codes "[a.b]\nc = 2\n")
-    (set_at_with_headers (ka ∷ kb ∷ kc ∷ []) (plain_int 2) placeholder)
-    ∷ writes (codes "a = 2\n") (set_at_with_headers (ka ∷ []) (plain_int 2) placeholder)
+    (set_headed (ka ∷ kb ∷ kc ∷ []) (plain_int 2) placeholder)
+    ∷ writes (codes "a = 2\n") (set_headed (ka ∷ []) (plain_int 2) placeholder)
     ∷ []
     ) ≡ true
 unfolding digits print
@@ -184,16 +199,16 @@ filled = refl
 
 -- below a scalar, at a table or an array of tables, and what names no element
 refusals : all_true (
-    refuses wrong_kind (set_at_with_headers (ka ∷ kb ∷ []) (plain_int 1) (tree one_line))
-    ∷ refuses wrong_kind (set_at_with_headers (ka ∷ []) (plain_int 1) (tree two_tables))
-    ∷ refuses wrong_kind (set_at_with_headers (ka ∷ []) (plain_int 1) (tree one_in_array))
+    refuses wrong_kind (set_headed (ka ∷ kb ∷ []) (plain_int 1) (tree one_line))
+    ∷ refuses wrong_kind (set_headed (ka ∷ []) (plain_int 1) (tree two_tables))
+    ∷ refuses wrong_kind (set_headed (ka ∷ []) (plain_int 1) (tree one_in_array))
     ∷ refuses wrong_kind
-    (set_at_with_headers (ka ∷ codes "0" ∷ []) (plain_int 1) (tree one_in_array))
-    ∷ refuses wrong_kind (set_at_with_headers [] (plain_int 1) (tree one_line))
+    (set_headed (ka ∷ codes "0" ∷ []) (plain_int 1) (tree one_in_array))
+    ∷ refuses wrong_kind (set_headed [] (plain_int 1) (tree one_line))
     ∷ refuses no_such_path
-    (set_at_with_headers (ka ∷ codes "1" ∷ kb ∷ kc ∷ []) (plain_int 1) (tree one_in_array))
+    (set_headed (ka ∷ codes "1" ∷ kb ∷ kc ∷ []) (plain_int 1) (tree one_in_array))
     ∷ refuses no_such_path
-    (set_at_with_headers (ka ∷ kb ∷ kc ∷ []) (plain_int 1) (tree one_in_array))
+    (set_headed (ka ∷ kb ∷ kc ∷ []) (plain_int 1) (tree one_in_array))
     ∷ []
     ) ≡ true
 unfolding digits print
