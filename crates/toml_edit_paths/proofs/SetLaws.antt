@@ -3,7 +3,6 @@ use Rattle.std.proofs.Common.{◌≡◌, ◌∙◌, refl, sym, ap, Bool, true, f
 use Rattle.toml_edit_model.specs.Keys.{cleared_key}
 use Rattle.toml_edit_model.specs.Lists.{items_in, slots_in}
 use Rattle.toml_edit_model.specs.Slots.{Slot, keyed, lookup_slot}
-use Rattle.toml_edit_model.specs.Text.{Text}
 use Rattle.toml_edit_model.specs.Tree.{Key, Node, nothing, leaf, list, inline, table, tables}
 use Rattle.toml_edit_edit_laws.specs.Commands.{done, refused, wrong_kind, mapped, change_slot, child_changed, set_here}
 use Rattle.toml_edit_edit_laws.proofs.commands.Setting.{made-below-is}

@@ -12,7 +12,7 @@ use Rattle.toml_edit_model.specs.HeaderOrder.{Visit}
 use Rattle.toml_edit_model.specs.Fits.{is_steady_in}
 use Rattle.toml_edit_model.specs.Print.{Printed, printed, printed_line, printed_table, value_of, line_statement}
 use Rattle.toml_edit_model.specs.Conversions.{with_decor}
-use Rattle.toml_edit_model.specs.Keys.{cleared_key, names}
+use Rattle.toml_edit_model.specs.Keys.{cleared_key}
 use Rattle.toml_edit_model.specs.Slots.{Slot, keyed, with_item, lookup_slot, changed}
 use Rattle.toml_edit_model.specs.Lists.{slot_list, slots_from, item_list, items_from, is_dotted_inline}
 use Rattle.toml_edit_laws.specs.Locality.{Turn, root_visit, edited, is_plain_value, value_line, statements, OneChanges, OneMore}

@@ -1,7 +1,7 @@
 -- Paths to the root, and to a table under a named one.
 use Rattle.std.proofs.Common.{◌≡◌, refl, ◌∙◌, ap, subst, true, false, List, [], ◌∷◌, ◌++◌, Some}
 use Rattle.toml_edit_model.specs.Text.{Text}
-use Rattle.toml_edit_model.specs.Paths.{Path, to_key, to_element}
+use Rattle.toml_edit_model.specs.Paths.{to_key, to_element}
 use Rattle.toml_edit_model.specs.Tree.{Key, TableFields, table, Slots}
 use Rattle.toml_edit_model.specs.HeaderOrder.{Visit, visit_of}
 use Rattle.toml_edit_model.specs.Slots.{keyed, lookup_slot}
@@ -9,7 +9,7 @@ use Rattle.toml_edit_model.specs.Lists.{slot_list}
 use Rattle.toml_edit_laws.specs.Locality.{Turn, into_table, into_element, Leads, root_visit, element_count}
 use Rattle.toml_edit_edit_laws.specs.CommandLaws.{Goes}
 use Rattle.toml_edit_edit_laws.specs.Commands.{done}
-use Rattle.toml_edit_edit_laws.specs.PathEdits.{PathCall, called, path_of_call, NamesSlot, AreDone, OneCallMore, RootIsNamed, TablesAreNamed}
+use Rattle.toml_edit_edit_laws.specs.PathEdits.{called, path_of_call, NamesSlot, OneCallMore, RootIsNamed, TablesAreNamed}
 
 pub root_is_named : RootIsNamed
 root_is_named t = record { way = []; goes = tt; leads = refl }

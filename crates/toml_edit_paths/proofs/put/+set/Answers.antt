@@ -1,9 +1,8 @@
 -- Each exit of the way down to a value that is set.
-use Rattle.std.proofs.Common.{◌≡◌, ◌<◌, ◌++◌, [], ◌∷◌, refl, ap, subst, sym, ◌∙◌, true, rules, List, length, Some, None, Vec, Global}
+use Rattle.std.proofs.Common.{◌≡◌, ◌<◌, refl, ap, subst, sym, ◌∙◌, true, rules, List, length, Some, None, Vec, Global}
 use Rattle.std.proofs.Common.{option_map}
 use Rattle.std.specs.Prelude.{Err}
 use Rattle.toml_edit_model.specs.Lists.{items_in, slots_in}
-use Rattle.toml_edit_model.specs.Slots.{keyed}
 use Rattle.toml_edit_model.specs.Text.{Text}
 use Rattle.toml_edit_model.specs.Tree.{nothing, is_value_node}
 use Rattle.toml_edit_edit_laws.specs.Commands.{change_element, child_changed, element_of}

@@ -5,7 +5,6 @@ use Rattle.toml_edit_tree.specs.View.{item_view}
 use Rattle.toml_edit_paths.specs.Setting.{set_by}
 use Rattle.toml_edit_paths.proofs.SetLaws.{made-is}
 use Rattle.toml_edit_paths.proofs.put.fill_below.Goals as goal
-use Rattle.toml_edit_model.specs.Keys.{names}
 
 pub returns : goal.returns
 returns c =

@@ -8,7 +8,6 @@ use Rattle.toml_edit_paths.proofs.ChangeLaws.{renamed}
 use Rattle.toml_edit_paths.proofs.SetLaws.{set-step}
 use Rattle.toml_edit_paths.proofs.StepLaws.{root-left, root-slots, slots-change, slots-go}
 use Rattle.toml_edit_paths.proofs.put.set_in_root.Goals as goal
-use Rattle.toml_edit_model.specs.Keys.{names}
 
 pub returns-in-Some : goal.returns-in-Some
 returns-in-Some c =
