@@ -73,7 +73,7 @@ fn act<O: Output>(
     match command {
         Command::Print => print(alloc, document, output),
         Command::Get(path) => get(alloc, document, path.as_slice(), output),
-        Command::Set(path, value) => set(alloc, document, path, value, output),
+        Command::Set(mut path, value) => set(alloc, document, path.as_mut_slice(), value, output),
         Command::Remove(path) => remove(alloc, document, path.as_slice(), output),
     }
 }

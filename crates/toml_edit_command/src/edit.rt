@@ -1,6 +1,9 @@
 //! The commands `set` and `remove`.
 ghost use Rattle.std.specs.Prelude.{◌≡◌, false, map, IfErr, OnOk};
+ghost use Rattle.toml_edit.specs.DocumentView.{IsPrintedAs, tree_owned};
+ghost use Rattle.toml_edit_paths.specs.Changes.{Changes};
 ghost use Rattle.toml_edit_tree.specs.View.{value_view};
+ghost use Rattle.toml_edit_command.specs.Edits.{set_names};
 ghost use Rattle.toml_edit_command.specs.Run.{written};
 ghost use Rattle.toml_edit_command.specs.Steps.{Printed, StopsActing, StopsPrinting, Wrote, error_for};
 ghost use Rattle.toml_edit_command.specs.Words.{removing, setting};
@@ -18,32 +21,43 @@ use toml_edit_io::Output;
 pub fn set<O: Output>(
     alloc: Global,
     document: &mut DocumentMut,
-    mut path: Vec<Key>,
+    path: &mut [Key],
     value: Value,
     output: &mut O,
 ) -> Result<(), RunError>
     requires { O.has_failed output.old ≡ false }
     ensures wrote { OnOk result
-        (Wrote (setting (names path.items) (value_view value)) (held document.old)
+        (Wrote (setting (names path.old) (value_view value)) (held document.old)
         (written O.contents O.has_failed output.old output.new)) }
     ensures ok { OnOk result (O.has_failed output.new ≡ false) }
     ensures err { IfErr result
-        (StopsActing (setting (names path.items) (value_view value)) (held document.old)
+        (StopsActing (setting (names path.old) (value_view value)) (held document.old)
         (written O.contents O.has_failed output.old output.new)) }
 {
-    reset_keys(path.as_mut_slice());
-    match document.set_at(path.as_slice(), value) {
+    match put(document, path, value) {
         Ok(()) => write_fitting(alloc, document, output),
         Err(fault) => Err(error_of(fault)),
     }
+}
+
+/// Puts the value at the path, whose keys get their default spelling.
+fn put(document: &mut DocumentMut, path: &mut [Key], value: Value) -> Result<(), ChangeFault>
+    ensures changes { Changes
+        (set_names (names path.old) (value_view value) (tree_owned document.old))
+        (tree_owned document.old) (tree_owned document.new) result }
+    ensures printed { IsPrintedAs document.new document.old }
+{
+    reset_keys(path);
+    document.set_at(path, value)
 }
 
 /// Resets the spelling and the decors of each key.
 fn reset_keys(keys: &mut [Key])
     ensures { keys.new ≡ map new_key (names keys.old) }
 {
-    for key in keys.iter_mut() {
-        key.fmt();
+    if let Some((first, rest)) = keys.split_first_mut() {
+        first.fmt();
+        reset_keys(rest);
     }
 }
 

@@ -6,6 +6,7 @@ use toml_edit::visit::{Path, Visit, visit_table};
 use toml_edit::{Document, Item, line_column};
 
 /// Collects a line for each empty string.
+#[derive(Drop)]
 struct EmptyStrings<'s> {
     source: &'s str,
     report: String,

@@ -30,15 +30,18 @@ returns-in-Get-clause-err g c =
 
 pub returns-in-Set-clause-wrote : goal.returns-in-Set-clause-wrote
 returns-in-Set-clause-wrote g c =
-    wrote-as c.set.result (setting (names c.in-Set.path.items) (value_view c.in-Set.value)) (action_of c.args.command)
+    wrote-as c.set.result (setting (names c.as_mut_slice.result.now) (value_view c.in-Set.value)) (action_of c.args.command)
     (held c.args.document.now)
-    (written g.O.Output.contents g.O.Output.has_failed c.args.output.now c.set.new.output) (sym (ap action_of c.in-Set.is))
-    c.set.ensures.wrote
+    (written g.O.Output.contents g.O.Output.has_failed c.args.output.now c.set.new.output)
+    (ap (λ ks. setting (names ks) (value_view c.in-Set.value)) c.as_mut_slice.ensures.value
+    ∙ sym (ap action_of c.in-Set.is)) c.set.ensures.wrote
 
 pub returns-in-Set-clause-err : goal.returns-in-Set-clause-err
 returns-in-Set-clause-err g c =
-    stops-as c.set.result (setting (names c.in-Set.path.items) (value_view c.in-Set.value)) (action_of c.args.command)
-    (held c.args.document.now) _ (sym (ap action_of c.in-Set.is)) c.set.ensures.err
+    stops-as c.set.result (setting (names c.as_mut_slice.result.now) (value_view c.in-Set.value)) (action_of c.args.command)
+    (held c.args.document.now) _
+    (ap (λ ks. setting (names ks) (value_view c.in-Set.value)) c.as_mut_slice.ensures.value
+    ∙ sym (ap action_of c.in-Set.is)) c.set.ensures.err
 
 pub returns-in-Remove-clause-wrote : goal.returns-in-Remove-clause-wrote
 returns-in-Remove-clause-wrote g c =
