@@ -3,7 +3,7 @@ use Rattle.toml_edit.specs.slots.declared.slots.Slot as held
 use Rattle.toml_edit.specs.tree.Indexed.{shown_slots}
 use Rattle.toml_edit.specs.tree.View.{item_view}
 use Rattle.toml_edit.specs.tree.declared.item.Item.{Item}
-use Rattle.std.proofs.Common.{◌≡◌, ◌+◌, ◌<◌, ℕ, zero, suc, List, [], ◌∷◌, Option, Some, None, slice_get, arith}
+use Rattle.std.proofs.Common.{◌≡◌, ◌+◌, ◌<◌, ℕ, zero, suc, List, [], ◌∷◌, Some, slice_get, arith}
 use Rattle.std.proofs.lemmas.Grind.{common_steps}
 use Rattle.toml_edit.specs.model.Lists.{slot_list, slots_in}
 use Rattle.toml_edit.specs.model.Slots.{Slot}

@@ -3,9 +3,9 @@ ghost use Rattle.std.specs.Prelude.{◌≡◌, OnErr, OnOk};
 ghost use Rattle.toml_edit.specs.DocumentView.{mode_owned, tree_owned};
 ghost use Rattle.toml_edit.specs.model.Fits.{FitsIn};
 
+use crate::parts;
 use anyhow::{Result, bail, ensure};
 use std::alloc::Global;
-use std::mem;
 use toml_edit::{DocumentMut, Value};
 
 /// Adds a member to a workspace, on a line of its own if the others have one. The comments of the
@@ -28,7 +28,5 @@ pub fn add_member(alloc: Global, document: &mut DocumentMut, member: &str) -> Re
     let is_there = members.iter().any(|value| value.as_str() == Some(member));
     ensure!(!is_there, "{member} is there already");
     members.push_line(Value::string(alloc, member)?)?;
-    ensure!(changed.fits(alloc)?, "the result doesn't fit");
-    drop(mem::replace(document, changed));
-    Ok(())
+    parts::replace(alloc, document, changed)
 }

@@ -1,4 +1,5 @@
 //! Setting the version of a dependency.
+use crate::parts::item_at;
 use std::alloc::Global;
 use toml_edit::{AnyTable, AsTableLike, DocumentMut, Item, Mem, Value};
 
@@ -7,11 +8,12 @@ pub fn bump(alloc: Global, document: &mut DocumentMut, name: &str, version: &str
     let root = document.as_table_mut();
     let mut count = bump_in(alloc, root, name, version)?;
     let item = root.get_mut("target");
-    let Some(mut targets) = item.and_then(|item| item.as_table_like_mut()) else {
+    let Some(targets) = item.and_then(|item| item.as_slots_mut()) else {
         return Ok(count);
     };
-    for at in 0..targets.slots() {
-        if let Some(mut target) = targets.slot_at(at).get_mut().as_table_like_mut() {
+    for at in 0..targets.len() {
+        let target = item_at(targets, at);
+        if let Some(mut target) = target.and_then(|item| item.as_table_like_mut()) {
             count = count.saturating_add(bump_in(alloc, &mut target, name, version)?);
         }
     }

@@ -7,4 +7,5 @@ pub mod count_values;
 pub mod lint;
 pub mod merge;
 pub mod migrate;
+mod parts;
 pub mod sort_deps;

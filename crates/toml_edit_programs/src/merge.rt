@@ -3,6 +3,7 @@ ghost use Rattle.std.specs.Prelude.{◌≡◌, OnErr, OnOk};
 ghost use Rattle.toml_edit.specs.DocumentView.{mode_owned, tree_owned};
 ghost use Rattle.toml_edit.specs.model.Fits.{FitsIn};
 
+use crate::parts;
 use anyhow::{Context, Result, ensure};
 use std::alloc::Global;
 use std::mem;
@@ -25,9 +26,7 @@ pub fn merge(alloc: Global, document: &mut DocumentMut, over: &DocumentMut) -> R
     let mut merged = document.clone(alloc)?;
     let table = root.into_table().ok().context("the root is no table")?;
     drop(mem::replace(merged.as_table_mut(), table));
-    ensure!(merged.fits(alloc)?, "the result doesn't fit");
-    drop(mem::replace(document, merged));
-    Ok(())
+    parts::replace(alloc, document, merged)
 }
 
 /// Overlays an item by another in its place. Returns `false` if the other is to be put there.

@@ -3,6 +3,7 @@ ghost use Rattle.std.specs.Prelude.{◌≡◌, OnErr, OnOk};
 ghost use Rattle.toml_edit.specs.DocumentView.{mode_owned, tree_owned};
 ghost use Rattle.toml_edit.specs.model.Fits.{FitsIn};
 
+use crate::parts;
 use anyhow::{Context, Result, bail, ensure};
 use std::alloc::Global;
 use std::mem;
@@ -39,9 +40,7 @@ pub fn migrate(
     let mut migrated = document.clone(alloc)?;
     let table = root.into_table().ok().context("the root is no table")?;
     drop(mem::replace(migrated.as_table_mut(), table));
-    ensure!(migrated.fits(alloc)?, "the result doesn't fit");
-    drop(mem::replace(document, migrated));
-    Ok(())
+    parts::replace(alloc, document, migrated)
 }
 
 /// Renames the key at a path, in a table of either kind.

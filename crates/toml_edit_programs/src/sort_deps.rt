@@ -1,4 +1,5 @@
 //! Sorting the dependencies of a manifest.
+use crate::parts::item_at;
 use toml_edit::{AnyTable, AsTableLike, DocumentMut, Item, Mem};
 
 /// Sorts the tables of dependencies by key, also those under `target.*`. Comments move along.
@@ -6,11 +7,12 @@ pub fn sort_deps(document: &mut DocumentMut) -> Mem<()> {
     let root = document.as_table_mut();
     sort_in(root)?;
     let item = root.get_mut("target");
-    let Some(mut targets) = item.and_then(|item| item.as_table_like_mut()) else {
+    let Some(targets) = item.and_then(|item| item.as_slots_mut()) else {
         return Ok(());
     };
-    for at in 0..targets.slots() {
-        if let Some(mut target) = targets.slot_at(at).get_mut().as_table_like_mut() {
+    for at in 0..targets.len() {
+        let target = item_at(targets, at);
+        if let Some(mut target) = target.and_then(|item| item.as_table_like_mut()) {
             sort_in(&mut target)?;
         }
     }
@@ -33,8 +35,11 @@ fn sort(item: &mut Item) -> Mem<()> {
         return Ok(());
     };
     table.sort_values()?;
-    for at in 0..table.slots() {
-        if let Some(below) = table.slot_at(at).get_mut().as_table_mut() {
+    let Some(slots) = item.as_slots_mut() else {
+        return Ok(());
+    };
+    for at in 0..slots.len() {
+        if let Some(below) = item_at(slots, at).and_then(|item| item.as_table_mut()) {
             below.forget_positions();
         }
     }
