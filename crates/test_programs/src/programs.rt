@@ -17,8 +17,10 @@ fn done(is_done: bool) -> Mem<()> {
 
 /// Runs the migration of this name.
 fn migrates(alloc: Global, document: &mut DocumentMut, name: &str) -> bool {
-    let (renames, moves): (&[(&str, &str)], &[(&str, &str)]) = match name {
-        "migrate" => (
+    let migrated = match name {
+        "migrate" => migrate(
+            alloc,
+            document,
             &[
                 ("old", "new"),
                 ("package.dep.default-features", "default_features"),
@@ -30,13 +32,13 @@ fn migrates(alloc: Global, document: &mut DocumentMut, name: &str) -> bool {
                 ("deps.serde", "deps.serde"),
             ],
         ),
-        "rename a missing key" => (&[("a.x", "y")], &[]),
-        "rename to a taken key" => (&[("a.b", "c")], &[]),
-        "move to a taken path" => (&[], &[("a", "d")]),
-        "move into itself" => (&[], &[("a", "a.e")]),
-        _ => (&[], &[("a.b", "e")]),
+        "rename a missing key" => migrate(alloc, document, &[("a.x", "y")], &[]),
+        "rename to a taken key" => migrate(alloc, document, &[("a.b", "c")], &[]),
+        "move to a taken path" => migrate(alloc, document, &[], &[("a", "d")]),
+        "move into itself" => migrate(alloc, document, &[], &[("a", "a.e")]),
+        _ => migrate(alloc, document, &[], &[("a.b", "e")]),
     };
-    migrate(alloc, document, renames, moves).is_ok()
+    migrated.is_ok()
 }
 
 /// Overlays a document by the one of a text.

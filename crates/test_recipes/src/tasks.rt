@@ -107,9 +107,9 @@ fn is_linted(alloc: Global, document: &Document<&str>, wanted: &str) -> bool {
 
 #[test]
 fn visits_all_values(rt: HostRuntime) {
-    let text = "a = ''\nb = [1, '', { c = '' }]\n[d]\n'é' = ''\n[[e]]\nf.g = ''\n";
+    let text = "a = ''\nb = [1, '', { c = '' }]\n[d]\n\"é\" = ''\n[[e]]\nf.g = ''\n";
     let wanted =
-        "1:5: a is empty\n2:9: b.1 is empty\n2:19: b.2.c is empty\n4:7: d.'é' is empty\n6:7: e.0.f.g is empty\n";
+        "1:5: a is empty\n2:9: b.1 is empty\n2:19: b.2.c is empty\n4:7: d.\"é\" is empty\n6:7: e.0.f.g is empty\n";
     match Document::parse(rt.alloc(), text) {
         Ok(document) => assert!(rt; is_linted(rt.alloc(), &document, wanted)),
         Err(_) => assert!(rt; false),
