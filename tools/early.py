@@ -3,9 +3,10 @@
 
     tools/early.py CRATE --only FUNCTION [FLAG..]
 
-Libraries that the gate has proved on this machine are put into `out/rlib` of their crates. Crates below that are not proved are read as
-sources: their contracts are taken, and those of their functions that FUNCTION calls are checked too. The flags are those of `rattle
-check`, such as `--allow-holes`; FUNCTION is a path, as `document::DocumentMut::set_at`. What is checked is kept in `out/early`.
+Libraries that the gate has proved on this machine are put into `out/rlib` of their crates, if the kit keeps them; else those that are there
+are taken. Crates below that are not proved are read as sources: their contracts are taken, and those of their functions that FUNCTION calls
+are checked too. The flags are those of `rattle check`, such as `--allow-holes`; FUNCTION is a path, as `document::DocumentMut::set_at`.
+What is checked is kept in `out/early`.
 
 It proves nothing for the gate. Ends with the status of the check.
 """
@@ -32,8 +33,18 @@ def kit():
     return module
 
 
+def crates_of(rt):
+    """The crates, lowest first. `rt.crates_of` of a kit whose gate keeps nothing would set aside what is in `out`."""
+    if hasattr(rt, "Kept"):
+        return rt.crates_of(TOP)
+    rt.rtlib.Crate = rt.Crate
+    return sorted(rt.rtlib.crates_below(TOP), key=lambda crate: len(crate.below()))
+
+
 def place(rt, crates):
     """Gives each crate the library that the gate has kept, lowest first, and returns the names of those that have one."""
+    if not hasattr(rt, "Kept"):
+        return {crate.name for crate in crates if not crate.is_program and crate.is_built()}
     kept, had = rt.Kept(crates), set()
     for crate in crates:
         if crate.is_program or any(below.name not in had for below in crate.below()):
@@ -74,7 +85,7 @@ def main():
     os.chdir(TOP)
     rt = kit()
     rt.Crate.allowed = rt.handles_of(TOP)
-    crates = rt.crates_of(TOP)
+    crates = crates_of(rt)
     crate = next((crate for crate in crates if crate.name == sys.argv[1]), None)
     if crate is None:
         print("no crate is named %s" % sys.argv[1])

@@ -4,9 +4,10 @@
     tools/gate_cost.py [WORD..]     `rt ci WORD..`: `--anew` to prove again what an earlier run has kept, or names of crates
 
 It prints, for each crate, the seconds of processor time of its proof, of its tests' proof and of its must-fail edits, how many edits there
-are, and the median and the most of one. Then come the sums, the minutes that it took, and the most memory of one check. What is kept takes
-no time, so only `--anew` tells what the gate costs from nothing. The lines of the gate go into gate-cost.log at the top of the repository,
-the last of them is printed, and the status is the gate's.
+are, and the median and the most of one. Then come the sums, the chain of crates, each above the one before it, whose proofs take longest,
+the minutes that the gate took, and the most memory of one check. What is kept takes no time, so only `--anew` tells what the gate costs from
+nothing; in a kit that keeps nothing the word is left out. The lines of the gate go into gate-cost.log at the top of the repository, the last
+of them is printed, and the status is the gate's.
 
 The kit's commands start one program, `rattle`, for each check. Here they run from a copy that starts this file in its place, which starts
 `rattle` in turn and notes what it took.
@@ -22,6 +23,7 @@ import sys
 import tempfile
 import time
 
+import sources
 import unproved
 from unproved import TOP
 
@@ -73,7 +75,24 @@ def table(lines):
         print("%-24s%8.0f%8.0f%8.0f%8d%8.0f%8.0f" % (crate, *cost[crate], len(seconds[crate, "edits"]), statistics.median(each), max(each)))
     sums = [sum(column) for column in zip(*cost.values())] or [0, 0, 0]
     print("%-24s%8.0f%8.0f%8.0f" % ("all", *sums))
+    chain = longest({crate: used for crate, (used, _, _) in cost.items()})
+    print("%.0f minutes of processor time in the longest chain, %s" % (sum(cost[crate][0] for crate in chain) / 60, " ".join(chain)))
     return sum(sums), most
+
+
+def longest(proofs):
+    """The crates whose proofs, one after another, take longest, the lowest first."""
+    library, chains = unproved.kit(), {}
+    made = [library.Crate("%s/crates/%s" % (TOP, name), TOP, {}) for name in proofs]
+    for crate in sorted(made, key=lambda crate: len(crate.below())):
+        below = max((chains[dep.name] for dep in crate.deps if dep.name in chains), key=lambda chain: sum(map(proofs.get, chain)), default=[])
+        chains[crate.name] = [*below, crate.name]
+    return max(chains.values(), key=lambda chain: sum(map(proofs.get, chain)), default=[])
+
+
+def is_keeping():
+    """Whether the kit's gate keeps what it passed. It then has the word `--anew`, and works at one crate at a time unless a number is set."""
+    return any("--anew" in sources.read("%s/bin/%s" % (unproved.kit().KIT, name)) for name in ("rt", "rtlib.py"))
 
 
 def main():
@@ -82,6 +101,10 @@ def main():
         return measured(words[1], words[2], words[3:])
     if words[:1] == ["--help"]:
         return print(__doc__.strip())
+    if is_keeping():
+        os.environ.setdefault("RT_JOBS", str(os.cpu_count()))
+    else:
+        words = [word for word in words if word != "--anew"]
     with tempfile.TemporaryDirectory(prefix="gate-cost-") as folder:
         notes, begun = folder + "/notes", time.time()
         open(notes, "w", encoding="utf-8").close()
