@@ -10,6 +10,7 @@ What is checked is kept in `out/early`.
 
 It proves nothing for the gate. Ends with the status of the check.
 """
+import functools
 import importlib.machinery
 import importlib.util
 import os
@@ -85,6 +86,8 @@ def main():
     os.chdir(TOP)
     rt = kit()
     rt.Crate.allowed = rt.handles_of(TOP)
+    # A stamp takes those of all crates below.
+    rt.Crate.stamp = functools.cache(rt.Crate.stamp)
     crates = crates_of(rt)
     crate = next((crate for crate in crates if crate.name == sys.argv[1]), None)
     if crate is None:
