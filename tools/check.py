@@ -11,8 +11,7 @@
 - Links, their anchors, paths in backticks, and pages that sources name lead somewhere.
 - Numbers that are marked, as `2,385<!-- rows -->`, are those of the repository. One that ends in zeros is a rounded one.
 - Pages say how many must-fail edits, tests and rows there are, so that none is lost unseen.
-- Each must-fail edit still fits: its file is there, has the old text once, and is changed in no more than one function. So does each bug
-  of tools/bugs.
+- Each must-fail edit still fits: its file is there, has the old text once, and is changed in one function. So does each bug of tools/bugs.
 - The list of files that share code, in DECISIONS between two comments, is that of tools/duplicates.py.
 - Pages are not too large, no sentence is too long, and no word of tools/words.txt is used.
 """
@@ -266,6 +265,8 @@ class Check:
                 self.fault(name, 1, "changes the bodies of %s: make it two edits" % " and ".join(sorted(changed)))
             if not texts:
                 self.fault(name, 1, "changes nothing")
+            elif not changed:
+                self.fault(name, 1, "changes no function: a constant or an import may change several")
         for path, old, _ in pairs_of(read(TOP + "/tools/bugs")):
             file = "crates/" + path
             if file not in self.files or read(TOP + "/" + file).count(old) != 1:

@@ -16,7 +16,7 @@ import tempfile
 from sources import TOP
 
 NEEDED = ("*.md", "crates.txt", "docs", "tools", "bench", ".ci")
-KEPT = re.compile(r".*/(src|specs|must-fail)(/.*)?|.*/toml_edit_(guide|jobs|example)/proofs|.*/(stdin|stdout|args|WORDS\.md)")
+KEPT = re.compile(r".*/(src|specs|must-fail)(/.*)?|.*/toml_edit_(guide|recipes|programs|example)/proofs|.*/(stdin|stdout|args|WORDS\.md)")
 
 
 class Copy:
@@ -165,6 +165,12 @@ def edit_of_two(copy):
     copy.add("crates/toml_edit_fits/must-fail/dotted_root_fits.edit", "file: src/route.rt\nold: && route.room > 0\nnew: && true\n")
 
 
+def edit_of_a_constant(copy):
+    """A must-fail edit changes a constant, and so each body that has it."""
+    path = "crates/toml_edit_syntax/must-fail/constant.edit"
+    copy.write(path, "file: src/value.rt\nold: pub const NESTING_LIMIT: usize = 80;\nnew: pub const NESTING_LIMIT: usize = 81;\n")
+
+
 def lost_edit(copy):
     """A must-fail edit is gone."""
     copy.forget(copy.names("crates/toml_edit_key/must-fail/*.edit")[0])
@@ -195,6 +201,7 @@ FAULTS = {
     stale_function: "differs from that of",
     dead_edit: "its text 1 is in",
     edit_of_two: "make it two edits",
+    edit_of_a_constant: "changes no function",
     lost_edit: "is said of edits",
     lost_test: "is said of tests",
     unsaid_tests: "no page says how many tests",
