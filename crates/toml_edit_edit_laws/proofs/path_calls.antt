@@ -5,3 +5,4 @@ pub mod Inside
 pub mod Setting
 pub mod Removing
 pub mod Names
+pub mod Keys

@@ -24,7 +24,7 @@ use Rattle.toml_edit_model.specs.Lists.{slot_list, item_list, is_item}
 use Rattle.toml_edit_laws.specs.Locality.{Turn, into_table, into_element, Leads, root_visit, StaysSteady, value_line, AreOutside}
 use Rattle.toml_edit_laws.specs.Locality.{statements, is_plain_value, has_block, outside}
 use Rattle.toml_edit_model.specs.Indexing.{text, item_under, index_or_inserted, with_indexed}
-use Rattle.toml_edit_edit_laws.specs.Commands.{Refusal, no_such_path, wrong_kind, done, refused, mapped, number_of, child, item_below, item_at}
+use Rattle.toml_edit_edit_laws.specs.Commands.{Refusal, no_such_path, wrong_kind, taken, done, refused, mapped, number_of, child, item_below, item_at}
 use Rattle.toml_edit_edit_laws.specs.Commands.{get_text, root_item, set_below, set_here, set_at, remove_below, remove_at}
 
 -- ---- paths
@@ -430,12 +430,13 @@ pub record Stops (P : Text → Node → Type 0) (path : List Text) (n : Node) : 
   pub such : P segment item
 
 -- the wrong kind: a table or an array of tables at the end, or a scalar before it; no such path: a
--- segment that names no element
+-- segment that names no element; never a name that is taken
 abbrev pub IsWhy : Refusal → List Text → Node → Type 0
 IsWhy wrong_kind path n =
     ((x : Node) × (item_below path n ≡ Some x) × (holds_tables x ≡ true))
     ⊎ Stops (λ k x. is_scalar x ≡ true) path n
 IsWhy no_such_path path n = Stops (λ k x. (is_listing x ≡ true) × (child k x ≡ None)) path n
+IsWhy taken path n = ⊥
 
 abbrev pub SetRefuses : Type 0
 SetRefuses =

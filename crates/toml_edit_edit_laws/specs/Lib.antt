@@ -1,5 +1,6 @@
 -- Cited by the laws, and by contracts of calls by paths.
 pub mod Commands
+pub mod KeyCalls
 pub mod CommandLaws
 pub mod Renaming
 pub mod Comments

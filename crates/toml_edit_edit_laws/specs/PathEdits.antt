@@ -1,5 +1,5 @@
--- `set_at` and `remove_at` as edits of a steady tree.
-use Rattle.std.specs.Prelude.{◌≡◌, true, false, List, [], ◌∷◌, ◌++◌, Some, None}
+-- Calls by paths as edits of a steady tree.
+use Rattle.std.specs.Prelude.{◌≡◌, ◌⊎◌, ℕ, true, false, List, [], ◌∷◌, ◌++◌, Some, None}
 use Rattle.toml_edit_model.specs.Mode.{Mode}
 use Rattle.toml_edit_model.specs.Text.{Text, is_empty}
 use Rattle.toml_edit_model.specs.Paths.{Path, to_key}
@@ -8,29 +8,50 @@ use Rattle.toml_edit_model.specs.HeaderOrder.{Visit, visit_of}
 use Rattle.toml_edit_model.specs.Print.{lines_of}
 use Rattle.toml_edit_model.specs.Fits.{is_steady_in}
 use Rattle.toml_edit_model.specs.Keys.{cleared_key, names}
-use Rattle.toml_edit_model.specs.Slots.{keyed, lookup_slot}
+use Rattle.toml_edit_model.specs.Rearranging.{is_free, moved_slot, renamed_slot}
+use Rattle.toml_edit_model.specs.Slots.{Slot, keyed, lookup_slot}
 use Rattle.toml_edit_model.specs.Lists.{slot_list}
-use Rattle.toml_edit_laws.specs.Locality.{Turn, root_visit, is_plain_value, has_block}
+use Rattle.toml_edit_laws.specs.Locality.{Turn, Leads, root_visit, edited, is_plain_value, has_block}
 use Rattle.toml_edit_laws.specs.EditLists.{Edit, replace, add, remove, remove_element, after, Applies, named_path}
 use Rattle.toml_edit_edit_laws.specs.Commands.{Answer, done, number_of, item_at, set_at, remove_at}
+use Rattle.toml_edit_edit_laws.specs.KeyCalls.{move_at, rename_at}
 use Rattle.toml_edit_edit_laws.specs.CommandLaws.{AreSpelled, Goes, NamesTable, made_below}
 use Rattle.toml_edit_edit_laws.specs.DottedAdds.{OneLineMore}
 use Rattle.toml_edit_edit_laws.specs.Staying.{StaysButAt}
 
 -- ---- calls
 
--- a call of `set_at`, or of `remove_at`
+-- a call of `set_at`, `remove_at`, `rename_at` or `move_at`
 pub data PathCall : Type 0 where
   sets : List Key → Node → PathCall
   removes : List Text → PathCall
+  renames : List Text → Text → PathCall
+  moves : List Text → ℕ → PathCall
 
 abbrev pub called : PathCall → Tree → Answer Tree
 called (sets path v) t = set_at path v t
 called (removes path) t = remove_at path t
+called (renames path u) t = rename_at path u t
+called (moves path i) t = move_at path i t
 
 abbrev pub path_of_call : PathCall → List Text
 path_of_call (sets path v) = names path
 path_of_call (removes path) = path
+path_of_call (renames path u) = path
+path_of_call (moves path i) = path
+
+-- a path with another last name
+abbrev pub with_last : Text → List Text → List Text
+with_last u [] = []
+with_last u (k ∷ []) = u ∷ []
+with_last u (k ∷ l ∷ path) = k ∷ with_last u (l ∷ path)
+
+-- the paths that a call changes: of a renaming also the new one
+abbrev pub paths_of_call : PathCall → List (List Text)
+paths_of_call (sets path v) = names path ∷ []
+paths_of_call (removes path) = path ∷ []
+paths_of_call (renames path u) = path ∷ with_last u path ∷ []
+paths_of_call (moves path i) = path ∷ []
 
 -- A path of names leads to the place of a slot of a table on the walk, which is there or not, or
 -- into what the slot has.
@@ -43,12 +64,18 @@ pub record NamesSlot (t : Tree) (path : List Text) (place : Path) : Type 0 where
   pub named : NamesTable t front table
   pub at : place ≡ to_key table.path key
 
--- each call is done on the tree that those before it left, at its place, and the last leaves the
+-- each path leads to its place
+abbrev pub NameSlots : Tree → List (List Text) → List Path → Type 0
+NameSlots t [] [] = Unit {0}
+NameSlots t (path ∷ paths) (p ∷ ps) = NamesSlot t path p × NameSlots t paths ps
+NameSlots t _ _ = ⊥
+
+-- each call is done on the tree that those before it left, at its places, and the last leaves the
 -- second tree
-abbrev pub AreDone : List PathCall → List Path → Tree → Tree → Type 0
+abbrev pub AreDone : List PathCall → List (List Path) → Tree → Tree → Type 0
 AreDone [] [] t w = w ≡ t
-AreDone (c ∷ cs) (p ∷ ps) t w =
-    (u : Tree) × (called c t ≡ done u) × NamesSlot t (path_of_call c) p × AreDone cs ps u w
+AreDone (c ∷ cs) (ps ∷ more) t w =
+    (u : Tree) × (called c t ≡ done u) × NameSlots t (paths_of_call c) ps × AreDone cs more u w
 AreDone _ _ t w = ⊥
 
 -- ---- which edit a call is
@@ -59,7 +86,8 @@ GoesTo way k inner path = (front : List Text) × Goes way front × (path ≡ fro
 
 -- A value is replaced at the path, or one that the path goes into, and the key stays; or a new key
 -- is added, in the spelling that the path has, with inline tables down to the value. What is removed is a
--- slot, an element, or something inside a value.
+-- slot, an element, or something inside a value. A key that is renamed or moved inside a value
+-- leaves another value there.
 abbrev pub IsEditAt : PathCall → Edit → Type 0
 IsEditAt (sets path v) (replace way k f n) =
     (inner : List Text) × GoesTo way k inner (names path) × ((l : Key) → f l ≡ l)
@@ -71,7 +99,30 @@ IsEditAt (removes path) (replace way k f n) =
 IsEditAt (removes path) (remove way k) = GoesTo way k [] path
 IsEditAt (removes path) (remove_element way k i) =
     (x : Text) × GoesTo way k (x ∷ []) path × (number_of x ≡ Some i)
+IsEditAt (renames path u) (replace way k f n) =
+    (x : Text) × (inner : List Text) × GoesTo way k (x ∷ inner) path × ((l : Key) → f l ≡ l)
+IsEditAt (moves path i) (replace way k f n) =
+    (x : Text) × (inner : List Text) × GoesTo way k (x ∷ inner) path × ((l : Key) → f l ≡ l)
 IsEditAt _ _ = ⊥
+
+-- the slot of a table on the walk that a path leads to
+pub record SlotAt (t : Tree) (path : List Text) : Type 0 where
+  pub way : List Turn
+  pub table : Visit
+  pub key : Text
+  pub slot : Slot Node
+  pub goes : GoesTo way key [] path
+  pub leads : Leads way (root_visit t) table
+  pub there : lookup_slot key (slot_list table.slots) ≡ Some slot
+
+-- it gets a name that is free, or moves to a place
+abbrev pub RenamesSlot : Tree → List Text → Text → Tree → Type 0
+RenamesSlot t path name u =
+    (s : SlotAt t path) × (is_free s.key name (slot_list s.table.slots) ≡ true)
+    × (u ≡ edited s.way (renamed_slot s.key name) t)
+
+abbrev pub MovesSlot : Tree → List Text → ℕ → Tree → Type 0
+MovesSlot t path i u = (s : SlotAt t path) × (u ≡ edited s.way (moved_slot s.key i) t)
 
 module _ (mode : Mode) where
   -- The call is an edit of the first tree, and leaves the second: all statements stay but those at
@@ -119,12 +170,34 @@ module _ (mode : Mode) where
       → OneLineMore mode t u w (cleared_key k) (made_below more v)
       × StaysButAt mode (to_key w.path k.name ∷ []) t u
 
+  -- ---- keys
+
+  -- All statements stay but those at the places of the call, and below them.
+  pub record IsLocal (c : PathCall) (t u : Tree) : Type 0 where
+    pub places : List Path
+    pub names : NameSlots t (paths_of_call c) places
+    pub stays : StaysButAt mode places t u
+
+  -- `rename_at` and `move_at`: of a slot, as the laws about names and places have it, or inside a
+  -- value.
+  abbrev pub RenameEdits : Type 0
+  RenameEdits =
+      (t u : Tree) (path : List Text) (name : Text) → SlotsAreWellMade t.slots
+      → is_steady_in mode t ≡ true → rename_at path name t ≡ done u
+      → (RenamesSlot t path name u ⊎ IsEdit (renames path name) t u) × IsLocal (renames path name) t u
+
+  abbrev pub MoveEdits : Type 0
+  MoveEdits =
+      (t u : Tree) (path : List Text) (i : ℕ) → SlotsAreWellMade t.slots
+      → is_steady_in mode t ≡ true → move_at path i t ≡ done u
+      → (MovesSlot t path i u ⊎ IsEdit (moves path i) t u) × IsLocal (moves path i) t u
+
 -- A call after others is one more of them.
 abbrev pub OneCallMore : Type 0
 OneCallMore =
-    (cs : List PathCall) (ps : List Path) (t u w : Tree) (c : PathCall) (p : Path)
-    → AreDone cs ps t u → called c u ≡ done w → NamesSlot u (path_of_call c) p
-    → AreDone (cs ++ (c ∷ [])) (ps ++ (p ∷ [])) t w
+    (cs : List PathCall) (more : List (List Path)) (t u w : Tree) (c : PathCall) (ps : List Path)
+    → AreDone cs more t u → called c u ≡ done w → NameSlots u (paths_of_call c) ps
+    → AreDone (cs ++ (c ∷ [])) (more ++ (ps ∷ [])) t w
 
 -- ---- tables by their paths
 

@@ -381,7 +381,7 @@ module _ (k : Text) (go : Node → Answer Node) (l : Text) (path : List Text)
   item-was xs None ys h = absurd cc
   item-was xs (Some y) ys h = let w = was-mapped (λ m. written_at y.0 m xs) (go y.1) ys h in each y.1 w.from w.is
 
-  below-was : (n m : Node) → child_changed false (new_key k) go n ≡ done m → (x : Node) × (and_then (item_below (l ∷ path)) (child k n) ≡ Some x)
+  pub below-was : (n m : Node) → child_changed false (new_key k) go n ≡ done m → (x : Node) × (and_then (item_below (l ∷ path)) (child k n) ≡ Some x)
   below-was (table f ss) m h =
       let w = was-mapped (λ xs. table f (slots_from xs)) (change_slot false (new_key k) go (slot_list ss) (lookup_slot k (slot_list ss))) m h in
       slot-was (slot_list ss) (lookup_slot k (slot_list ss)) w.from w.is

@@ -8,7 +8,7 @@ use Rattle.toml_edit_model.specs.Slots.{Slot, keyed, with_item, lookup_slot, cha
 use Rattle.toml_edit_model.specs.Lists.{slot_list, slots_from, item_list, items_from, is_item}
 use Rattle.toml_edit_model.specs.ArrayCalls.{written_at}
 use Rattle.toml_edit_model.specs.Shown.{is_table_node}
-use Rattle.toml_edit_edit_laws.specs.Commands.{Refusal, no_such_path, wrong_kind, Answer, done, refused, element_of, present, second, child}
+use Rattle.toml_edit_edit_laws.specs.Commands.{Refusal, no_such_path, wrong_kind, taken, Answer, done, refused, element_of, present, second, child}
 use Rattle.toml_edit_edit_laws.specs.Commands.{and_then, item_below, change_slot, change_element, set_here, set_below, root_item, with_slots}
 use Rattle.toml_edit_edit_laws.specs.CommandLaws.{made_below, is_listing, Stops, IsWhy, SetRefuses}
 use Rattle.toml_edit_edit_laws.proofs.commands.Setting.{made-below-is}
@@ -32,6 +32,7 @@ further : (r : Refusal) (k : Text) (path : List Text) (n a : Node) → child k n
 further no_such_path k path n a e w = stops-further _ k path n a e w
 further wrong_kind k path n a e (inl (x, there, is)) = inl (x, ap (and_then (item_below path)) e ∙ there, is)
 further wrong_kind k path n a e (inr s) = inr (stops-further _ k path n a e s)
+further taken k path n a e w = w
 
 -- below a placeholder nothing is refused
 never : {X : Type 0} (v : Node) (path : List Key) (r : Refusal) → set_below v path nothing ≡ refused r → X
