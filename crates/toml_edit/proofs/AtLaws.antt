@@ -186,4 +186,5 @@ module _ (d : DocumentMut) (t w : Table) (fields : fields_view t ≡ (tree_owned
             (item_view h.left) (item_view h.item) found
             (ap (replaced_below path (item_view h.left)) (sym was) ∙ h.put_back)
             ∙ ap done is;
+        unchanged = λ same. stays (h.unchanged same);
       }

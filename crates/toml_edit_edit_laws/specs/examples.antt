@@ -4,5 +4,6 @@ pub mod HeaderDecors
 pub mod Places
 pub mod Calls
 pub mod Commands
+pub mod KeyCalls
 pub mod Fitting
 pub mod CallsFit

@@ -67,6 +67,7 @@ module _ {F R : Type 0} (g : Change F R) (f : F) where
         returned = c.returned;
         put_back = p (item_view c.left)
             ∙ ap (mapped h) c.put_back;
+        unchanged = λ same. ap h (c.unchanged same);
       }
 
   pub renamed : {A : Type 0} (found : Option Node) (put : Node → Answer A) (a b c d : A) (r : Option R) → a ≡ c → b ≡ d

@@ -34,20 +34,22 @@ abbrev pub TakesFound : {F R : Type 0} → Change F R → F → Option Node → 
 TakesFound g f found =
     (item : Item) → found ≡ Some (item_view item) → FnOnceTakesAtMut g f item
 
--- The closure was called on the item that is found, and what it left there was put back.
+-- The closure was called on the item that is found, and what it left there was put back. If it left
+-- the item as it was, so is all.
 pub record CallsOn {F R A : Type 0} (g : Change F R) (f : F) (found : Option Node)
-    (put : Node → Answer A) (new : A) (r : R) : Type 0 where
+    (put : Node → Answer A) (old new : A) (r : R) : Type 0 where
   pub item : Item
   pub left : Item
   pub found_it : found ≡ Some (item_view item)
   pub returned : FnOnceReturnsAtMut g f item r left
   pub put_back : put (item_view left) ≡ done new
+  pub unchanged : item_view left ≡ item_view item → new ≡ old
 
 -- So it is where there is an item. Where there is none, all is as it was.
 abbrev pub ChangesFound : {F R A : Type 0} → Change F R → F → Option Node → (Node → Answer A)
     → A → A → Option R → Type 0
 ChangesFound g f found put old new None = (found ≡ None) × (new ≡ old)
-ChangesFound g f found put old new (Some r) = CallsOn g f found put new r
+ChangesFound g f found put old new (Some r) = CallsOn g f found put old new r
 
 -- so it is with the item at a path below this one
 abbrev pub ChangesBelow : {F R : Type 0} → Change F R → F → List Text → Node → Node → Option R

@@ -1,10 +1,12 @@
-//! Finding an item by a path of keys, putting a value there, changing it, and removing it.
+//! Finding an item by a path of keys, putting a value there, changing it, and removing it. Renaming
+//! and moving the last key of a path.
 #![tactic(auto)]
 
 mod alter;
 mod element;
 mod fault;
 mod find;
+mod keys;
 mod make;
 mod put;
 mod take;
@@ -14,6 +16,7 @@ pub use alter::change;
 pub use element::number_of;
 pub use fault::ChangeFault;
 pub use find::get;
+pub use keys::{move_to, rename};
 pub use put::{set, set_with_headers};
 pub use take::remove;
 pub use take_line::remove_line;

@@ -22,7 +22,6 @@ use Rattle.toml_edit_edit_laws.specs.KeyCalls.{key_changed, moved_where, renamed
 use Rattle.toml_edit_edit_laws.specs.Staying.{away_from, StaysButAt}
 use Rattle.toml_edit_edit_laws.specs.PathEdits.{PathCall, renames, moves, NamesSlot, with_last, GoesTo, SlotAt, RenamesSlot, MovesSlot}
 use Rattle.toml_edit_edit_laws.specs.PathEdits.{path_of_call, IsEdit, IsEditAt, IsLocal, RenameEdits, MoveEdits}
-use Rattle.toml_edit_edit_laws.proofs.commands.Apart.{skip}
 use Rattle.toml_edit_edit_laws.proofs.commands.Finding.{below-was, some-and, some-second}
 use Rattle.toml_edit_edit_laws.proofs.commands.Going.{goes-along, item-along, made-goes}
 use Rattle.toml_edit_edit_laws.proofs.commands.Keeping.{child-only, present-is}
@@ -40,35 +39,47 @@ use Rattle.toml_edit_edit_laws.proofs.renaming.Names.{made-renamed, others-of_na
 
 -- ---- down a path
 
+twice : {A B C : Type 0} (f : B → C) (g : A → B) (a : Answer A) → mapped f (mapped g a) ≡ mapped (λ x. f (g x)) a
+twice f g (done x) = refl
+twice f g (refused r) = refl
+
+-- where a key leads to an item, a change of that item is one of the whole
+pub child-at : (k : Text) (n a : Node) → child k n ≡ Some a → (whole : Node → Node)
+    × ((go : Node → Answer Node) → child_changed false (new_key k) go n ≡ mapped whole (go a))
+child-at k (table f ss) a at =
+    let p = present-is (lookup_slot k (slot_list ss)) a at in (
+      λ m. table f (slots_from (changed k (with_item m) (slot_list ss))),
+      λ go. ap (λ o. mapped (λ xs. table f (slots_from xs)) (change_slot false (new_key k) go (slot_list ss) o)) p.is
+          ∙ twice (λ xs. table f (slots_from xs)) (λ m. changed k (with_item m) (slot_list ss)) (go a),
+    )
+child-at k (inline f ss) a at =
+    let p = present-is (lookup_slot k (slot_list ss)) a at in (
+      λ m. inline f (slots_from (changed k (with_item m) (slot_list ss))),
+      λ go. ap (λ o. mapped (λ xs. inline f (slots_from xs)) (change_slot false (new_key k) go (slot_list ss) o)) p.is
+          ∙ twice (λ xs. inline f (slots_from xs)) (λ m. changed k (with_item m) (slot_list ss)) (go a),
+    )
+child-at k (list f xs) a at =
+    let y = some-second (element_of is_value_node k (item_list xs)) a at in (
+      λ m. list f (items_from (written_at y.0 m (item_list xs))),
+      λ go. ap (λ o. mapped (λ ns. list f (items_from ns)) (change_element go (item_list xs) o)) y.1
+          ∙ twice (λ ns. list f (items_from ns)) (λ m. written_at y.0 m (item_list xs)) (go a),
+    )
+child-at k (tables e xs) a at =
+    let y = some-second (element_of is_table_node k (item_list xs)) a at in (
+      λ m. tables e (items_from (written_at y.0 m (item_list xs))),
+      λ go. ap (λ o. mapped (λ ns. tables e (items_from ns)) (change_element go (item_list xs) o)) y.1
+          ∙ twice (λ ns. tables e (items_from ns)) (λ m. written_at y.0 m (item_list xs)) (go a),
+    )
+child-at k (leaf s r d) a at = absurd cc
+child-at k nothing a at = absurd cc
+
 -- what a key leads to was changed
 child-went : (k : Text) (go : Node → Answer Node) (n a m : Node) → child k n ≡ Some a → child_changed false (new_key k) go n ≡ done m → (b : Node)
     × (go a ≡ done b)
-child-went k go (table f ss) a m at h =
-    let p = present-is (lookup_slot k (slot_list ss)) a at in
-    let w = was-mapped (λ xs. table f (slots_from xs)) (mapped (λ m. changed k (with_item m) (slot_list ss)) (go a)) m
-    (sym (ap (λ o. mapped (λ xs. table f (slots_from xs)) (change_slot false (new_key k) go (slot_list ss) o)) p.is) ∙ h) in
-    let x = was-mapped (λ m. changed k (with_item m) (slot_list ss)) (go a) w.from w.is in
-    (x.from, x.is)
-child-went k go (inline f ss) a m at h =
-    let p = present-is (lookup_slot k (slot_list ss)) a at in
-    let w = was-mapped (λ xs. inline f (slots_from xs)) (mapped (λ m. changed k (with_item m) (slot_list ss)) (go a)) m
-    (sym (ap (λ o. mapped (λ xs. inline f (slots_from xs)) (change_slot false (new_key k) go (slot_list ss) o)) p.is) ∙ h) in
-    let x = was-mapped (λ m. changed k (with_item m) (slot_list ss)) (go a) w.from w.is in
-    (x.from, x.is)
-child-went k go (list f xs) a m at h =
-    let y = some-second (element_of is_value_node k (item_list xs)) a at in
-    let w = was-mapped (λ ns. list f (items_from ns)) (mapped (λ m. written_at y.0 m (item_list xs)) (go a)) m
-    (sym (ap (λ o. mapped (λ ns. list f (items_from ns)) (change_element go (item_list xs) o)) y.1) ∙ h) in
-    let x = was-mapped (λ m. written_at y.0 m (item_list xs)) (go a) w.from w.is in
-    (x.from, x.is)
-child-went k go (tables e xs) a m at h =
-    let y = some-second (element_of is_table_node k (item_list xs)) a at in
-    let w = was-mapped (λ ns. tables e (items_from ns)) (mapped (λ m. written_at y.0 m (item_list xs)) (go a)) m
-    (sym (ap (λ o. mapped (λ ns. tables e (items_from ns)) (change_element go (item_list xs) o)) y.1) ∙ h) in
-    let x = was-mapped (λ m. written_at y.0 m (item_list xs)) (go a) w.from w.is in
-    (x.from, x.is)
-child-went k go (leaf s r d) a m at h = absurd cc
-child-went k go nothing a m at h = absurd cc
+child-went k go n a m at h =
+    let c = child-at k n a at in
+    let w = was-mapped c.0 (go a) m (sym (c.1 go) ∙ h) in
+    (w.from, w.is)
 
 -- ---- what was changed
 
@@ -91,6 +102,12 @@ record InValue (mode : Mode) (c : PathCall) (t u : Tree) (path : List Text) : Ty
   named : NamesTable t front table
   at : named_path mode edit.edit t edit.applies ≡ to_key table.path key
 
+pub key-goes-down : (g : Text → List (Slot Node) → Answer (List (Slot Node))) (j : Text) (more : List Text) (k : Text) (path : List Text)
+    (n : Node)
+    → key_changed g (k ∷ (path ++ (j ∷ more))) n ≡ child_changed false (new_key k) (key_changed g (path ++ (j ∷ more))) n
+key-goes-down g j more k [] n = refl
+key-goes-down g j more k (x ∷ path) n = refl
+
 -- ---- any change of the slots where the last key is
 
 -- a change that is made only where a key leads to an item, and keeps slots well made
@@ -99,11 +116,6 @@ module _ (g : Text → List (Slot Node) → Answer (List (Slot Node))) (f : Text
     (there : (k : Text) (xs ys : List (Slot Node)) → g k xs ≡ done ys → (n : Node) × (present (lookup_slot k xs) ≡ Some n))
     (keeps : (k : Text) (ss : Slots) (ys : List (Slot Node)) → SlotsAreWellMade ss → g k (slot_list ss) ≡ done ys
     → SlotsAreWellMade (slots_from ys)) where
-  goes-down : (j : Text) (more : List Text) (k : Text) (path : List Text) (n : Node)
-      → key_changed g (k ∷ (path ++ (j ∷ more))) n ≡ child_changed false (new_key k) (key_changed g (path ++ (j ∷ more))) n
-  goes-down j more k [] n = refl
-  goes-down j more k (x ∷ path) n = refl
-
   -- the last key is there
   last-there : (k : Text) (n m : Node) → slots_changed (g k) n ≡ done m → (x : Node) × (child k n ≡ Some x)
   last-there k (table f ss) m h =
@@ -129,7 +141,7 @@ module _ (g : Text → List (Slot Node) → Answer (List (Slot Node))) (f : Text
   rest-done [] j more n a m at h = (m, ap (key_changed g (j ∷ more)) (sym (some-is n a at)) ∙ h)
   rest-done (k ∷ front) j more n a m at h =
       let c = some-and (item_below front) (child k n) a at in
-      let r = child-went k (key_changed g (front ++ (j ∷ more))) n c.0 m c.1 (sym (goes-down j more k front n) ∙ h) in
+      let r = child-went k (key_changed g (front ++ (j ∷ more))) n c.0 m c.1 (sym (key-goes-down g j more k front n) ∙ h) in
       rest-done front j more c.0 a r.0 c.2 r.1
 
   -- a value after a change inside it
@@ -201,7 +213,7 @@ module _ (g : Text → List (Slot Node) → Answer (List (Slot Node))) (f : Text
           → key_changed g (p.segment ∷ more) (table w.fields w.slots) ≡ done (table w.fields (slots_from (h (slot_list w.slots))))
           → u ≡ edited p.way h t
       left more h is here =
-          let along = goes-along new_key false (key_changed g) (p.segment ∷ more) (goes-down p.segment more) h p.way p.front (root_visit t) w
+          let along = goes-along new_key false (key_changed g) (p.segment ∷ more) (key-goes-down g p.segment more) h p.way p.front (root_visit t) w
           made (made-goes p.way p.front p.goes) p.leads here in
           done-is u (edited p.way h t)
           (sym is_done ∙ ap (λ q. mapped (with_slots t) (key_changed g q (root_item t))) (split more is)

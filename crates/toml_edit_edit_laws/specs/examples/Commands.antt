@@ -14,21 +14,22 @@ use Rattle.toml_edit_model.specs.TreeOf.{owned_form}
 use Rattle.toml_edit_model.specs.examples.ComputedTree.{tree_of}
 use Rattle.toml_edit_model.specs.examples.Parts.{line, head, document, pair_of, a, b, c, x, one_value, two_value, plain_int, plain_list}
 use Rattle.toml_edit_model.specs.examples.Parts.{all_true}
-use Rattle.toml_edit_edit_laws.specs.Commands.{Refusal, no_such_path, wrong_kind, Answer, done, refused, get_text, set_at, remove_at}
+use Rattle.toml_edit_edit_laws.specs.Commands.{Refusal, no_such_path, wrong_kind, taken, Answer, done, refused, get_text, set_at, remove_at}
 use Rattle.toml_edit_laws.specs.examples.Edits.{commented, three_lines}
 
 -- ---- answers
 
-abbrev same_refusal : Refusal → Refusal → Bool
+abbrev pub same_refusal : Refusal → Refusal → Bool
 same_refusal no_such_path no_such_path = true
 same_refusal wrong_kind wrong_kind = true
+same_refusal taken taken = true
 same_refusal _ _ = false
 
-abbrev refuses : {A : Type 0} → Refusal → Answer A → Bool
+abbrev pub refuses : {A : Type 0} → Refusal → Answer A → Bool
 refuses r (done a) = false
 refuses r (refused s) = same_refusal r s
 
-abbrev writes : Text → Answer Tree → Bool
+abbrev pub writes : Text → Answer Tree → Bool
 writes text (done u) = same_text (print u) text
 writes text (refused r) = false
 
@@ -36,7 +37,7 @@ abbrev shows : Text → Answer Text → Bool
 shows text (done t) = same_text t text
 shows text (refused r) = false
 
-abbrev tree : Document → Tree
+abbrev pub tree : Document → Tree
 tree d = tree_of owned_form d
 
 -- `set` at a path of keys in their default spelling
@@ -70,27 +71,27 @@ head_after before p =
 abbrev empty : Document
 empty = document []
 
-abbrev ka : Text
+abbrev pub ka : Text
 ka = codes "a"
 
-abbrev kb : Text
+abbrev pub kb : Text
 kb = codes "b"
 
-abbrev kc : Text
+abbrev pub kc : Text
 kc = codes "c"
 
-abbrev kt : Text
+abbrev pub kt : Text
 kt = codes "t"
 
-abbrev kx : Text
+abbrev pub kx : Text
 kx = codes "x"
 
-abbrev ky : Text
+abbrev pub ky : Text
 ky = codes "y"
 
 -- ---- values, and a new path
 
-abbrev inline_one : Document
+abbrev pub inline_one : Document
 inline_one =
     document (commented [] a
     (inline_table (pair_of (codes " ") (b ∷ []) one_value (codes " ") no_pairs) false [])
@@ -175,7 +176,7 @@ remove_element : removes two_in_array (codes "[[a]]\nx = 1\n[[a]]\nx = 2\n") (ka
 unfolding digits print
 remove_element = refl
 
-abbrev one_in_array : Document
+abbrev pub one_in_array : Document
 one_in_array = document (head true (a ∷ []) ∷ line (x ∷ []) one_value ∷ [])
 
 get_array : gets one_in_array (codes "[[a]]\nx = 1\n") (ka ∷ []) (codes "[{ x = 1 }]\n") ≡ true

@@ -32,6 +32,7 @@ change_in_item-returns-in_default g t c =
       found_it = found-at-end c.args.path.now (item_view c.args.item.now) ended;
       returned = search rules;
       put_back = replaced-at-end c.args.path.now (item_view c.change.new.arg2) (item_view c.args.item.now) ended;
+      unchanged = λ same. same;
     }
 
 pub change_in_item-returns-in-Some-as_slots_mut : goal.change_in_item-returns-in-Some-as_slots_mut
