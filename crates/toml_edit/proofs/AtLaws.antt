@@ -1,19 +1,22 @@
 -- The tree of a document whose root was changed.
-use Rattle.std.proofs.Common.{◌≡◌, refl, sym, ap, ◌∙◌, rules, true, false, List, [], ◌∷◌, Option, Some, None, Result, Ok, Err}
+use Rattle.std.proofs.Common.{◌≡◌, refl, sym, ap, ◌∙◌, rules, ℕ, Bool, true, false, List, [], ◌∷◌, Option, Some, None, Result, Ok, Err}
 use Rattle.toml_edit_model.specs.Text.{Text}
 use Rattle.toml_edit_model.specs.Keys.{new_key}
 use Rattle.toml_edit_model.specs.Tree.{Key, Raw, Node, nothing, leaf, list, inline, table, tables, TableFields, Slots, Tree}
 use Rattle.toml_edit_model.specs.Slots.{Slot, lookup_slot}
 use Rattle.toml_edit_model.specs.Lists.{slot_list, slots_from}
-use Rattle.toml_edit_edit_laws.specs.Commands.{Answer, Refusal, done, refused, no_such_path, wrong_kind, mapped, root_slots, root_item}
+use Rattle.toml_edit_edit_laws.specs.Commands.{Answer, Refusal, done, refused, no_such_path, wrong_kind, taken, mapped, root_slots, root_item}
 use Rattle.toml_edit_edit_laws.specs.Commands.{with_slots, change_slot, drop_slot, present, set_below, set_at, remove_below, remove_at}
+use Rattle.toml_edit_edit_laws.specs.KeyCalls.{key_changed, move_at, moved_where, rename_at, renamed_where}
 use Rattle.toml_edit_edit_laws.proofs.commands.Setting.{was-mapped}
 use Rattle.toml_edit_tree.specs.View.{fields_view, item_view, table_slots, tree_view}
 use Rattle.toml_edit_tree.specs.declared.item.Item.{the_lemmas}
 use Rattle.toml_edit_tree.specs.declared.item.Item.TheVariants as items
 use Rattle.toml_edit_tree.specs.declared.table.Table.{Table}
 use Rattle.toml_edit_paths.specs.Calls.{Change, ChangesFound, TakesFound, item_inside, replaced_at, replaced_below}
-use Rattle.toml_edit_paths.specs.Changes.{Changes}
+use Rattle.toml_edit_slots.specs.declared.slots.rearrange.Renamed.{Renamed}
+use Rattle.toml_edit_slots.specs.declared.slots.rearrange.Renamed.TheVariants.{Done, Absent, Taken}
+use Rattle.toml_edit_paths.specs.Changes.{Changes, Moves, Renames}
 use Rattle.toml_edit_paths.specs.Headed.{set_at_with_headers, set_headed_below}
 use Rattle.toml_edit_paths.specs.Lines.{remove_line_at, remove_line_below}
 use Rattle.toml_edit_paths.specs.declared.fault.ChangeFault.{ChangeFault}
@@ -73,6 +76,15 @@ module _ (t u : Tree) (trailing : u.trailing ≡ t.trailing) where
       ap (mapped (with_slots t)) h
       ∙ ap done
       (slots-change (change_slot false (new_key k) (remove_below (l ∷ path)) (slot_list t.slots) (lookup_slot k (slot_list t.slots))) h)
+
+  pub key-done : (g : Text → List (Slot Node) → Answer (List (Slot Node))) (path : List Text)
+      → key_changed g path (root_item t) ≡ done (root_item u) → mapped (with_slots t) (key_changed g path (root_item t)) ≡ done u
+  key-done g [] h = absurd cc
+  key-done g (k ∷ []) h = ap (mapped (with_slots t)) h ∙ ap done (slots-change (g k (slot_list t.slots)) h)
+  key-done g (k ∷ l ∷ path) h =
+      ap (mapped (with_slots t)) h
+      ∙ ap done
+      (slots-change (change_slot false (new_key k) (key_changed g (l ∷ path)) (slot_list t.slots) (lookup_slot k (slot_list t.slots))) h)
 
   pub remove-line-done : (path : List Text) → remove_line_below path (root_item t) ≡ done (root_item u) → remove_line_at path t ≡ done u
   remove-line-done [] h = cc
@@ -152,6 +164,31 @@ module _ (d : DocumentMut) (t w : Table) (fields : fields_view t ≡ (tree_owned
       (ap (remove_line_below path) (sym was) ∙ h)
       ∙ ap done is)
       (λ q h. ap (mapped (with_slots (tree_owned d))) (ap (remove_line_below path) (sym was) ∙ h))
+
+  module _ (g : Text → List (Slot Node) → Answer (List (Slot Node))) (path : List Text) where
+    key-root-done : key_changed g path (node_of t) ≡ done (node_of w)
+        → mapped (with_slots (tree_owned d)) (key_changed g path (root_item (tree_owned d))) ≡ done (tree_under (items.Table w) d.trailing)
+    key-root-done h =
+        key-done (tree_owned d) (tree_view w d.trailing) (sym (trailing-at (item_view d.root) d.trailing)) g path
+        (ap (key_changed g path) (sym was) ∙ h)
+        ∙ ap done is
+
+    key-root-refused : (q : Refusal) → key_changed g path (node_of t) ≡ refused q
+        → mapped (with_slots (tree_owned d)) (key_changed g path (root_item (tree_owned d))) ≡ refused q
+    key-root-refused q h = ap (mapped (with_slots (tree_owned d))) (ap (key_changed g path) (sym was) ∙ h)
+
+  pub rename-root : {E : Type 0} (path : List Text) (u : Text) (r : Result Renamed E)
+      → Renames (key_changed (renamed_where u) path (node_of t)) (node_of t) (node_of w) r
+      → Renames (rename_at path u (tree_owned d)) (tree_owned d) (tree_under (items.Table w) d.trailing) r
+  rename-root path u (Ok Done) h = key-root-done (renamed_where u) path h
+  rename-root path u (Ok Absent) h = (key-root-refused (renamed_where u) path no_such_path h.0, stays h.1)
+  rename-root path u (Ok Taken) h = (key-root-refused (renamed_where u) path taken h.0, stays h.1)
+  rename-root path u (Err e) h = stays h
+
+  pub move-root : (path : List Text) (i : ℕ) (b : Bool) → Moves (key_changed (moved_where i) path (node_of t)) (node_of t) (node_of w) b
+      → Moves (move_at path i (tree_owned d)) (tree_owned d) (tree_under (items.Table w) d.trailing) b
+  move-root path i true h = key-root-done (moved_where i) path h
+  move-root path i false h = (key-root-refused (moved_where i) path no_such_path h.0, stays h.1)
 
   pub headers-root : (path : List Key) (v : Node) (r : Result (Unit {0}) ChangeFault)
       → Changes (set_headed_below v path (node_of t)) (node_of t) (node_of w) r

@@ -1,6 +1,6 @@
 -- A document that calls by paths have edited.
-use Rattle.std.proofs.Common.{◌≡◌, refl, sym, ◌∙◌, ap, subst, false, true, List, [], ◌∷◌, ◌++◌, Result, Ok, Err}
-use Rattle.std.specs.Prelude.{OnOk}
+use Rattle.std.proofs.Common.{◌≡◌, refl, sym, ◌∙◌, ap, subst, ℕ, Bool, IsTrue, false, true, List, [], ◌∷◌, ◌++◌, append-nil, append_assoc, Result, Ok, Err}
+use Rattle.std.specs.Prelude.{IfOk, OnOk, flat_map}
 use Rattle.std.specs.List.{AllByRecursion}
 use Rattle.toml_edit_model.specs.Fits.{Fits}
 use Rattle.toml_edit_laws.proofs.common.Tests.{and_left}
@@ -12,14 +12,18 @@ use Rattle.toml_edit_model.specs.Tree.{Key, Node, nothing, leaf, list, inline, t
 use Rattle.toml_edit_model.specs.Print.{print_in}
 use Rattle.toml_edit_edit_laws.specs.Commands.{Answer, done, set_at, remove_at}
 use Rattle.toml_edit_laws.specs.EditLists.{named_path}
-use Rattle.toml_edit_edit_laws.specs.PathEdits.{PathCall, sets, removes, called, path_of_call, NamesSlot, OneCallMore, RemoveEdits, SetAddsAfterLines}
+use Rattle.toml_edit_edit_laws.specs.KeyCalls.{move_at, rename_at}
+use Rattle.toml_edit_edit_laws.specs.PathEdits.{PathCall, sets, removes, renames, moves, called, paths_of_call, NamesSlot, NameSlots, OneCallMore}
+use Rattle.toml_edit_edit_laws.specs.PathEdits.{MoveEdits, RemoveEdits, RenameEdits, SetAddsAfterLines}
 use Rattle.toml_edit_edit_laws.specs.PathEdits.{SetAddsUnder, SetReplaces}
 use Rattle.toml_edit_edit_laws.specs.CallsFit.{IsHarmlessBelow, RemoveFits, SetAddsAfterLinesFits, SetAddsUnderFits, SetReplacesFits}
 use Rattle.toml_edit_edit_laws.specs.CommandLaws.{is_scalar}
 use Rattle.toml_edit_edit_laws.specs.Fitting.{IsSpaced}
 use Rattle.toml_edit_edit_laws.proofs.fitting.Edits.{scalars_fit_anywhere}
 use Rattle.toml_edit_edit_laws.specs.Staying.{StaysButAt, NothingChanges, OneAfterAnother}
-use Rattle.toml_edit_paths.specs.Changes.{Changes}
+use Rattle.toml_edit_slots.specs.declared.slots.rearrange.Renamed.{Renamed}
+use Rattle.toml_edit_slots.specs.declared.slots.rearrange.Renamed.TheVariants.{Done, Absent, Taken}
+use Rattle.toml_edit_paths.specs.Changes.{Changes, Moves, Renames}
 use Rattle.toml_edit_paths.specs.declared.fault.ChangeFault.{ChangeFault}
 use Rattle.toml_edit.specs.DocumentView.{IsPlain, IsPrintedAs, open_owned, tree_owned}
 use Rattle.toml_edit.specs.Documents.{IsOwnedReading}
@@ -31,6 +35,17 @@ pub done-where-ok : (meant : Answer Tree) (old new : Tree) (r : Result (Unit {0}
     → OnOk r (meant ≡ done new)
 done-where-ok meant old new (Ok u) h = h
 done-where-ok meant old new (Err e) h = tt
+
+pub done-where-renamed : {E : Type 0} (meant : Answer Tree) (old new : Tree) (r : Result Renamed E) → Renames meant old new r
+    → IfOk r (λ told. told ≡ Done → meant ≡ done new)
+done-where-renamed meant old new (Ok Done) h = λ _. h
+done-where-renamed meant old new (Ok Absent) h = λ e. absurd cc
+done-where-renamed meant old new (Ok Taken) h = λ e. absurd cc
+done-where-renamed meant old new (Err e) h = tt
+
+pub done-where-moved : (meant : Answer Tree) (old new : Tree) (b : Bool) → Moves meant old new b → IsTrue b → meant ≡ done new
+done-where-moved meant old new true h is = h
+done-where-moved meant old new false h is = absurd cc
 
 pub read-so : ((mode : Mode) → NothingChanges mode) → (text : Text) (d : DocumentMut) → IsOwnedReading text (tree_owned d) → IsPlain d
     → IsEditedFrom text [] d
@@ -61,35 +76,55 @@ harmless-scalar (table f ss) is white = absurd cc
 harmless-scalar (tables e xs) is white = absurd cc
 harmless-scalar nothing is white = absurd cc
 
+-- the places of calls, one list for each
+all-places : (pss : List (List Path)) (ps : List Path) → flat_map (λ qs. qs) (pss ++ (ps ∷ [])) ≡ flat_map (λ qs. qs) pss ++ ps
+all-places [] ps = append-nil ps
+all-places (qs ∷ pss) ps = ap (λ z. qs ++ z) (all-places pss ps) ∙ sym (append_assoc qs (flat_map (λ qs. qs) pss) ps)
+
 names-join : (path more : List Key) → names (path ++ more) ≡ names path ++ names more
 names-join [] more = refl
 names-join (k ∷ path) more = ap (λ xs. k.name ∷ xs) (names-join path more)
 
 module _ (both : (mode : Mode) → OneAfterAnother mode) (more : OneCallMore) (d e : DocumentMut) (same : IsPrintedAs e d) where
-  one-more : (c : PathCall) (p : Path) (text : Text) (calls : List PathCall) → IsEditedFrom text calls d
-      → called c (tree_owned d) ≡ done (tree_owned e) → NamesSlot (tree_owned d) (path_of_call c) p
-      → StaysButAt plain (p ∷ []) (tree_owned d) (tree_owned e)
+  one-more : (c : PathCall) (ps : List Path) (text : Text) (calls : List PathCall) → IsEditedFrom text calls d
+      → called c (tree_owned d) ≡ done (tree_owned e) → NameSlots (tree_owned d) (paths_of_call c) ps
+      → StaysButAt plain ps (tree_owned d) (tree_owned e)
       → (Fits (tree_owned d) → IsHarmless c → Fits (tree_owned e)) → IsEditedFrom text (calls ++ (c ∷ [])) e
-  one-more c p text calls from is names stays fits =
+  one-more c ps text calls from is names stays fits =
       let x = from.edited in
       record {
         edited = record {
           tree = x.tree;
           reading = x.reading;
-          places = x.places ++ (p ∷ []);
-          done = more calls x.places x.tree (tree_owned d) (tree_owned e) c p x.done is names;
-          stays = both plain x.places (p ∷ []) x.tree (tree_owned d) (tree_owned e) x.stays stays;
+          places = x.places ++ (ps ∷ []);
+          done = more calls x.places x.tree (tree_owned d) (tree_owned e) c ps x.done is names;
+          stays = subst (λ qs. StaysButAt plain qs x.tree (tree_owned e)) (sym (all-places x.places ps))
+              (both plain (flat_map (λ qs. qs) x.places) ps x.tree (tree_owned d) (tree_owned e) x.stays stays);
         };
         plain = (same.0 ∙ from.plain.0, same.1 ∙ from.plain.1);
         fits = λ harmless. let h = all-before calls c harmless in fits (from.fits h.0) h.1;
       }
+
+  pub renamed-so : ((mode : Mode) → RenameEdits mode) → (path : List Text) (name : Text)
+      → rename_at path name (tree_owned d) ≡ done (tree_owned e) → EditsBy (renames path name) d e
+  renamed-so law path name is text calls from =
+      let s = from.edited.stays in
+      let x = (law plain (tree_owned d) (tree_owned e) path name s.made s.steady.2 is).1 in
+      one-more (renames path name) x.places text calls from is x.names x.stays (λ old h. absurd h)
+
+  pub moved-so : ((mode : Mode) → MoveEdits mode) → (path : List Text) (i : ℕ)
+      → move_at path i (tree_owned d) ≡ done (tree_owned e) → EditsBy (moves path i) d e
+  moved-so law path i is text calls from =
+      let s = from.edited.stays in
+      let x = (law plain (tree_owned d) (tree_owned e) path i s.made s.steady.2 is).1 in
+      one-more (moves path i) x.places text calls from is x.names x.stays (λ old h. absurd h)
 
   pub removed-so : ((mode : Mode) → RemoveEdits mode) → ((mode : Mode) → RemoveFits mode) → (path : List Text)
       → remove_at path (tree_owned d) ≡ done (tree_owned e) → EditsBy (removes path) d e
   removed-so law fits path is text calls from =
       let s = from.edited.stays in
       let x = law plain (tree_owned d) (tree_owned e) path s.made s.steady.2 is in
-      one-more (removes path) (named_path plain x.edit (tree_owned d) x.applies) text calls from is x.names x.stays
+      one-more (removes path) (named_path plain x.edit (tree_owned d) x.applies ∷ []) text calls from is (x.names, tt) x.stays
       (λ old _. fits plain (tree_owned d) (tree_owned e) path s.made s.steady.2 old is)
 
   module _ (replaces : (mode : Mode) → SetReplaces mode) (adds : (mode : Mode) → SetAddsUnder mode)
@@ -100,30 +135,33 @@ module _ (both : (mode : Mode) → OneAfterAnother mode) (more : OneCallMore) (d
     set-so path v is (flat, well) (at_value old there value) text calls from =
         let s = from.edited.stays in
         let x = replaces plain (tree_owned d) (tree_owned e) path v old s.made s.steady.2 well flat there (and_left _ _ value) is in
-        one-more (sets path v) (named_path plain x.edit (tree_owned d) x.applies) text calls from is x.names x.stays
+        one-more (sets path v) (named_path plain x.edit (tree_owned d) x.applies ∷ []) text calls from is (x.names, tt) x.stays
         (λ fits h. replaces-fit plain (tree_owned d) (tree_owned e) path v old s.made s.steady.2 fits well h.0 there value is)
     set-so path v is (flat, well) (in_block front k w same-path spelled named new has) text calls from =
         let s = from.edited.stays in
         let at-path = ap (λ q. set_at q v (tree_owned d)) (sym same-path) ∙ is in
         let x = adds plain (tree_owned d) (tree_owned e) front w k [] v s.made s.steady.2 well flat (spelled, tt) named new has at-path in
         let p : Path = named_path plain x.edit (tree_owned d) x.applies in
-        one-more (sets path v) p text calls from is (subst (λ q. NamesSlot (tree_owned d) (names q) p) (sym same-path) x.names) x.stays
+        one-more (sets path v) (p ∷ []) text calls from is
+        (subst (λ q. NamesSlot (tree_owned d) (names q) p) (sym same-path) x.names, tt) x.stays
         (λ fits h. adds-fit plain (tree_owned d) (tree_owned e) front w k [] v s.made s.steady.2 fits well flat (spelled, tt) named new has
         (harmless-scalar v h.0 h.1) at-path)
     set-so path v is (flat, well) (after_lines front k w same-path spelled named new some) text calls from =
         let s = from.edited.stays in
         let at-path = ap (λ q. set_at q v (tree_owned d)) (sym same-path) ∙ is in
         let x = lines plain (tree_owned d) (tree_owned e) front w k [] v s.made s.steady.2 well flat (spelled, tt) named new some at-path in
-        one-more (sets path v) (to_key w.path k.name) text calls from is
-        (record {
-          front = names front;
-          key = k.name;
-          inner = [];
-          table = w;
-          is = ap names same-path ∙ names-join front (k ∷ []);
-          named = named;
-          at = refl;
-        }) x.1
+        one-more (sets path v) (to_key w.path k.name ∷ []) text calls from is (
+          record {
+            front = names front;
+            key = k.name;
+            inner = [];
+            table = w;
+            is = ap names same-path ∙ names-join front (k ∷ []);
+            named = named;
+            at = refl;
+          },
+          tt,
+        ) x.1
         (λ fits h. lines-fit plain (tree_owned d) (tree_owned e) front w k [] v s.made s.steady.2 fits flat named new some
         (harmless-scalar v h.0 h.1) at-path)
 

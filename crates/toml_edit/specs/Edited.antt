@@ -1,5 +1,5 @@
 -- What calls by paths leave of a document that was read: which statements stay, and what is printed.
-use Rattle.std.specs.Prelude.{◌≡◌, true, false, List, [], ◌∷◌, ◌++◌, Some, None}
+use Rattle.std.specs.Prelude.{◌≡◌, true, false, List, [], ◌∷◌, ◌++◌, flat_map, Some, None}
 use Rattle.std.specs.List.{AllByRecursion}
 use Rattle.toml_edit_model.specs.Text.{Text, is_empty}
 use Rattle.toml_edit_model.specs.Mode.{plain}
@@ -16,25 +16,27 @@ use Rattle.toml_edit_laws.specs.Locality.{is_plain_value, has_block}
 use Rattle.toml_edit_edit_laws.specs.Commands.{item_at}
 use Rattle.toml_edit_edit_laws.specs.CommandLaws.{NamesTable, is_scalar}
 use Rattle.toml_edit_edit_laws.specs.Fitting.{IsSpaced}
-use Rattle.toml_edit_edit_laws.specs.PathEdits.{PathCall, AreDone, removes, sets}
+use Rattle.toml_edit_edit_laws.specs.PathEdits.{PathCall, AreDone, moves, removes, renames, sets}
 use Rattle.toml_edit_edit_laws.specs.Staying.{StaysButAt}
 use Rattle.toml_edit.specs.DocumentView.{IsPlain, print_of, tree_owned}
 use Rattle.toml_edit.specs.Documents.{IsOwnedReading, MeansWhatIsShown}
 use Rattle.toml_edit.specs.declared.document.DocumentMut.{DocumentMut}
 
--- The tree is what the calls leave of the text's tree, each done at its place. All statements that
+-- The tree is what the calls leave of the text's tree, each done at its places. All statements that
 -- are at none of the places, nor below one, are those of the text, in their order.
 pub record IsEditedTree (text : Text) (calls : List PathCall) (left : Tree) : Type 0 where
   pub tree : Tree
   pub reading : IsOwnedReading text tree
-  pub places : List Path
+  pub places : List (List Path)
   pub done : AreDone calls places tree left
-  pub stays : StaysButAt plain places tree left
+  pub stays : StaysButAt plain (flat_map (λ ps. ps) places) tree left
 
 -- A scalar is set that has white space around it, or nothing; or something is removed.
 abbrev pub IsHarmless : PathCall → Type 0
 IsHarmless (sets path v) = (is_scalar v ≡ true) × IsSpaced plain (node_decor v)
 IsHarmless (removes path) = Unit {0}
+IsHarmless (renames path u) = ⊥
+IsHarmless (moves path i) = ⊥
 
 -- A document that keeps no line endings was read from the text and has such a tree. After harmless
 -- calls it fits.

@@ -9,3 +9,5 @@ pub mod AlterLaws
 pub mod ElementViews
 pub mod StepLaws
 pub mod LineLaws
+pub mod KeyLaws
+pub mod SeenLaws

@@ -114,11 +114,11 @@ fn move_in_slots(slots: &mut Slots<Item>, key: &Key, at: usize) -> bool
     ensures { Moves (moved_where at key.now.name (shown_slots slots.old)) (shown_slots slots.old)
         (shown_slots slots.new) result }
 {
+    let Some(last) = slots.len().checked_sub(1) else {
+        return false;
+    };
     match filled_item(slots, key.get()) {
-        Some(_) => {
-            let last = slots.len().saturating_sub(1);
-            slots.move_to(key.get(), at.min(last))
-        }
+        Some(_) => slots.move_to(key.get(), at.min(last)),
         None => false,
     }
 }

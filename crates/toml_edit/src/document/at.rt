@@ -1,21 +1,25 @@
 //! Access to items by paths of keys.
-ghost use Rattle.std.specs.Prelude.{◌≡◌, IfErr, OnOk, option_map};
+ghost use Rattle.std.specs.Prelude.{◌≡◌, IfErr, IfOk, IsTrue, OnOk, option_map};
 ghost use Rattle.toml_edit_edit_laws.specs.Commands.{item_at, remove_at, root_item, set_at};
 ghost use Rattle.toml_edit_tree.specs.View.{item_view, value_view};
 ghost use Rattle.toml_edit_paths.specs.Calls.{ChangesFound, TakesFound, item_inside, replaced_at};
-ghost use Rattle.toml_edit_paths.specs.Changes.{Changes};
+ghost use Rattle.toml_edit_paths.specs.Changes.{Changes, Moves, Renames};
 ghost use Rattle.toml_edit_paths.specs.Headed.{set_at_with_headers};
 ghost use Rattle.toml_edit_paths.specs.Lines.{remove_line_at};
 ghost use Rattle.toml_edit_paths.specs.declared.fault.ChangeFault.TheVariants.{NoSuchPath};
 ghost use Rattle.toml_edit.specs.DocumentView.{IsPrintedAs, tree_owned};
 ghost use Rattle.toml_edit.specs.Edited.{EditsBy, IsPlainValue, MayBePut};
-ghost use Rattle.toml_edit_edit_laws.specs.PathEdits.{removes, sets};
+ghost use Rattle.toml_edit_edit_laws.specs.KeyCalls.{move_at, rename_at};
+ghost use Rattle.toml_edit_edit_laws.specs.PathEdits.{moves, removes, renames, sets};
+ghost use Rattle.toml_edit_slots.specs.declared.slots.rearrange.Renamed.TheVariants.{Done};
 ghost use Rattle.toml_edit_model.specs.Keys.{names};
 
 use super::DocumentMut;
 use toml_edit_edit_laws::{calls_still_fit, others_stay, path_edits};
 use toml_edit_key::Key;
 use toml_edit_paths::ChangeFault;
+use toml_edit_repr::Mem;
+use toml_edit_slots::Renamed;
 use toml_edit_tree::{Item, Value};
 
 /// # Paths
@@ -121,6 +125,47 @@ impl DocumentMut {
         ensures printed { IsPrintedAs self.new self.old }
     {
         toml_edit_paths::change(self.as_table_mut(), path, change)
+    }
+
+    /// Gives the last key of `path` the name `name`, as [`Table::rename`] does.
+    ///
+    /// It is a key of a table or an inline table, and no placeholder is found. The key keeps its
+    /// place, its decor and its item, and gets the default spelling of its name. If there is no such
+    /// key, or another one beside it has the name, nothing changes. See
+    /// [`laws::renamed`](crate::laws::renamed).
+    ///
+    /// # Errors
+    ///
+    /// Returns an `AllocError` if out of memory. The document is unchanged then.
+    pub fn rename_at(&mut self, path: &[Key], name: &str) -> Mem<Renamed>
+        ensures renames { Renames (rename_at (names path.now) name.now (tree_owned self.old))
+            (tree_owned self.old) (tree_owned self.new) result }
+        ensures printed { IsPrintedAs self.new self.old }
+        // All statements stay but those at the path and at the new one.
+        ensures edits { IfOk result (λ told. told ≡ Done
+            → EditsBy (renames (names path.now) name.now) self.old self.new) }
+    {
+        others_stay();
+        path_edits();
+        toml_edit_paths::rename(self.as_table_mut(), path, name)
+    }
+
+    /// Moves the last key of `path` to index `at` among the keys beside it, or to their end if there
+    /// are fewer, and returns `false` if it is missing. Takes no memory.
+    ///
+    /// It is a key of a table or an inline table, and no placeholder is found. The other keys keep
+    /// their order, and nothing else changes. So a new key gets a place by
+    /// [`set_at`](Self::set_at) and this call. See [`laws::moved`](crate::laws::moved).
+    pub fn move_at(&mut self, path: &[Key], at: usize) -> bool
+        ensures moves { Moves (move_at (names path.now) at (tree_owned self.old))
+            (tree_owned self.old) (tree_owned self.new) result }
+        ensures printed { IsPrintedAs self.new self.old }
+        // All statements stay but those at the path.
+        ensures edits { IsTrue result → EditsBy (moves (names path.now) at) self.old self.new }
+    {
+        others_stay();
+        path_edits();
+        toml_edit_paths::move_to(self.as_table_mut(), path, at)
     }
 
     /// Removes the item at `path`: the slot of a table with its key, the value of an array, or the
