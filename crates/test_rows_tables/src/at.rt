@@ -1,9 +1,9 @@
-//! Items of a document that are found, set and removed by their paths.
+//! Items of a document that are found, set, removed, renamed and moved by their paths.
 use crate::table;
 use serde_json::Value as Json;
 use std::mem;
-use test_rows_read::steps::{behind, word};
-use test_rows_read::tell::{Told, tell_taken};
+use test_rows_read::steps::{behind, index, word};
+use test_rows_read::tell::{Told, tell_renamed, tell_taken};
 use test_rows_read::{Answer, make};
 use toml_edit::{ChangeFault, DocumentMut, Item, Key, Value};
 
@@ -23,7 +23,7 @@ fn tell(found: Option<&Item>, words: &[Json], out: &mut Answer) {
     }
 }
 
-/// Sets, changes or removes what is at the path that the second word spells.
+/// Sets, changes, removes, renames or moves what is at the path that the second word spells.
 pub fn change(document: &mut DocumentMut, words: &[Json], out: &mut Answer) {
     match make::path(word(words, 1), out) {
         Some(path) => change_at(document, path.as_slice(), words, out),
@@ -35,6 +35,8 @@ fn change_at(document: &mut DocumentMut, path: &[Key], words: &[Json], out: &mut
     match word(words, 0) {
         "remove_at" => tell_changed(document.remove_at(path), out),
         "remove_line_at" => tell_changed(document.remove_line_at(path), out),
+        "rename_at" => tell_renamed(document.rename_at(path, word(words, 2)), out),
+        "move_at" => out.truth(document.move_at(path, index(behind(words, 1)))),
         "change_at" => tell_taken(document.change_at(path, |item| to_zero(item)), out),
         "set_at" => set(document, path, make::value(behind(words, 2), out), out),
         _ => set_with_headers(document, path, make::value(behind(words, 2), out), out),

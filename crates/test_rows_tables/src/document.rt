@@ -106,7 +106,13 @@ impl Tries<DocumentMut> for Tables {
             "clone" => copied::<Tables, _>(document.clone(out.alloc), rest, out),
             "as_table_mut" => table::change(document.as_table_mut(), rest, out),
             "index_or_insert" => indexing::go_into(document, words, out),
-            "set_at" | "set_at_with_headers" | "remove_at" | "remove_line_at" | "change_at" => {
+            "set_at"
+            | "set_at_with_headers"
+            | "remove_at"
+            | "remove_line_at"
+            | "change_at"
+            | "rename_at"
+            | "move_at" => {
                 at::change(document, words, out);
             }
             "set_exact" => document.set_exact(is_true(words)),

@@ -17,7 +17,7 @@ use Rattle.toml_edit_paths.specs.Calls.{Change, ChangesFound, TakesFound, item_i
 use Rattle.toml_edit_slots.specs.declared.slots.rearrange.Renamed.{Renamed}
 use Rattle.toml_edit_slots.specs.declared.slots.rearrange.Renamed.TheVariants.{Done, Absent, Taken}
 use Rattle.toml_edit_paths.specs.Changes.{Changes, Moves, Renames}
-use Rattle.toml_edit_paths.specs.Headed.{set_at_with_headers, set_headed_below}
+use Rattle.toml_edit_edit_laws.specs.Headed.{set_at_with_headers, set_headed_below}
 use Rattle.toml_edit_paths.specs.Lines.{remove_line_at, remove_line_below}
 use Rattle.toml_edit_paths.specs.declared.fault.ChangeFault.{ChangeFault}
 use Rattle.toml_edit_paths.specs.declared.fault.ChangeFault.TheVariants.{NoSuchPath, WrongKind, Memory}

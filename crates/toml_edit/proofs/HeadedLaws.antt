@@ -14,7 +14,7 @@ use Rattle.toml_edit_edit_laws.specs.CommandLaws.{NamesTable}
 use Rattle.toml_edit_edit_laws.proofs.commands.Finding.{some-and, some-second}
 use Rattle.toml_edit_edit_laws.proofs.commands.Going.{item-along}
 use Rattle.toml_edit_edit_laws.proofs.commands.Keeping.{present-is}
-use Rattle.toml_edit_paths.specs.Headed.{set_at_with_headers, set_headed_below}
+use Rattle.toml_edit_edit_laws.specs.Headed.{set_at_with_headers, set_headed_below}
 use Rattle.toml_edit.specs.Edited.{MayBePut, at_value, in_block, after_lines}
 
 -- two changes that do the same to the item that a key leads to

@@ -3,12 +3,12 @@ use Rattle.std.specs.Prelude.{◌≡◌, true, false, List, [], ◌∷◌, ◌++
 use Rattle.std.specs.List.{AllByRecursion}
 use Rattle.toml_edit_model.specs.Text.{Text, is_empty}
 use Rattle.toml_edit_model.specs.Mode.{plain}
-use Rattle.toml_edit_model.specs.Paths.{Path}
-use Rattle.toml_edit_model.specs.Tree.{HasTrueSpelling, IsWellMade, Key, Node, Tree, node_decor}
+use Rattle.toml_edit_model.specs.Paths.{Path, to_key}
+use Rattle.toml_edit_model.specs.Tree.{HasTrueSpelling, IsWellMade, Key, Node, SlotsAreWellMade, Tree, node_decor}
 use Rattle.toml_edit_model.specs.HeaderOrder.{Visit}
 use Rattle.toml_edit_model.specs.Keys.{names}
 use Rattle.toml_edit_model.specs.Print.{lines_of, print_in}
-use Rattle.toml_edit_model.specs.Fits.{Fits}
+use Rattle.toml_edit_model.specs.Fits.{Fits, is_steady_in}
 use Rattle.toml_edit_model.specs.Slots.{lookup_slot}
 use Rattle.toml_edit_model.specs.Spelling.{SpellsKey}
 use Rattle.toml_edit_model.specs.Lists.{slot_list}
@@ -16,6 +16,7 @@ use Rattle.toml_edit_laws.specs.Locality.{is_plain_value, has_block}
 use Rattle.toml_edit_edit_laws.specs.Commands.{item_at}
 use Rattle.toml_edit_edit_laws.specs.CommandLaws.{NamesTable, is_scalar}
 use Rattle.toml_edit_edit_laws.specs.Fitting.{IsSpaced}
+use Rattle.toml_edit_edit_laws.specs.HeaderAdds.{OneTableMore, last_table}
 use Rattle.toml_edit_edit_laws.specs.PathEdits.{PathCall, AreDone, moves, removes, renames, sets}
 use Rattle.toml_edit_edit_laws.specs.Staying.{StaysButAt}
 use Rattle.toml_edit.specs.DocumentView.{IsPlain, print_of, tree_owned}
@@ -81,3 +82,12 @@ pub data MayBePut (t : Tree) (path : List Key) : Type 0 where
       → HasTrueSpelling (SpellsKey k.name) k.spelling → NamesTable t (names front) w
       → lookup_slot k.name (slot_list w.slots) ≡ None → is_empty (lines_of plain w) ≡ false
       → MayBePut t path
+
+-- Where a key before the last is missing in a table of a steady tree, a value that is no dotted inline
+-- table is put into one table more, whose header and line are all that is new in the print.
+abbrev pub AddsTable : List Key → Node → Tree → Tree → Type 0
+AddsTable path v t u =
+    (front : List Key) (w : Visit) (k j : Key) (more : List Key) → path ≡ front ++ (k ∷ j ∷ more)
+    → SlotsAreWellMade t.slots → is_steady_in plain t ≡ true → is_plain_value v ≡ true
+    → NamesTable t (names front) w → lookup_slot k.name (slot_list w.slots) ≡ None
+    → OneTableMore plain t u (to_key w.path k.name) (last_table w.path w.keys k j more v)

@@ -5,3 +5,4 @@ pub mod placing
 pub mod path_calls
 pub mod fitting
 pub mod fitting_inside
+pub mod headers

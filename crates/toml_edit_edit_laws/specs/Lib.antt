@@ -1,6 +1,7 @@
 -- Cited by the laws, and by contracts of calls by paths.
 pub mod Commands
 pub mod KeyCalls
+pub mod Headed
 pub mod CommandLaws
 pub mod Renaming
 pub mod Comments
@@ -8,6 +9,7 @@ pub mod Placing
 pub mod DottedAdds
 pub mod Staying
 pub mod PathEdits
+pub mod HeaderAdds
 pub mod Fitting
 pub mod FittingInside
 pub mod CallsFit

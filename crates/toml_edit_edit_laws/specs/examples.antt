@@ -5,5 +5,6 @@ pub mod Places
 pub mod Calls
 pub mod Commands
 pub mod KeyCalls
+pub mod Headed
 pub mod Fitting
 pub mod CallsFit

@@ -9,6 +9,7 @@ ghost use Rattle.toml_edit_edit_laws.specs.Comments.{AfterLine, BeforeLine, Head
 ghost use Rattle.toml_edit_edit_laws.specs.DottedAdds.{AddedAfterLines};
 ghost use Rattle.toml_edit_edit_laws.specs.Fitting.{ScalarsFitAnywhere, StillFits, StillFitsAfterAll, StillFitsAfterLines};
 ghost use Rattle.toml_edit_edit_laws.specs.FittingInside.{HeldValuesFit, RemoveInsideFits, SetInsideFits};
+ghost use Rattle.toml_edit_edit_laws.specs.HeaderAdds.{SetAddsTable};
 ghost use Rattle.toml_edit_edit_laws.specs.PathEdits.{MoveEdits, OneCallMore, RemoveEdits, RenameEdits, RootIsNamed, SetAddsAfterLines, SetAddsUnder, SetReplaces, TablesAreNamed};
 ghost use Rattle.toml_edit_edit_laws.specs.Placing.{AbsentStays, InsertedAt, InsertedMeans, InsertedStands, InsertedStaysMade, MovedInside, MovedLine, MovedMeans, MovedOthers, MovedStands, MovedStaysMade, PlacedStays};
 ghost use Rattle.toml_edit_edit_laws.specs.Renaming.{Renamed, RenamedLine, RenamedMeans, RenamedOthers, RenamedStaysMade, RenameRefused};
@@ -70,11 +71,13 @@ pub fn moved()
 /// A `set_at` at a value, or at a new key of the root or of a table with a printed header, and each
 /// `remove_at` is an edit of a steady tree. At a new key of a table that has lines, such as a dotted
 /// one, `set_at` adds one statement after them. A `rename_at` and a `move_at` rename and move the slot
-/// of a table, or change a value. All statements at other paths stay.
+/// of a table, or change a value. All statements at other paths stay. Where keys are missing,
+/// `set_at_with_headers` adds a header and the line of the value, and no more.
 pub fn path_edits()
     ensures replaces { (mode : Mode) → SetReplaces mode }
     ensures adds { (mode : Mode) → SetAddsUnder mode }
     ensures adds_after_lines { (mode : Mode) → SetAddsAfterLines mode }
+    ensures adds_table { (mode : Mode) → SetAddsTable mode }
     ensures removes { (mode : Mode) → RemoveEdits mode }
     ensures renames { (mode : Mode) → RenameEdits mode }
     ensures moves { (mode : Mode) → MoveEdits mode }

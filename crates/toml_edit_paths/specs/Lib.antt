@@ -3,7 +3,6 @@ pub mod Calls
 pub mod Changes
 pub mod Elements
 pub mod Faults
-pub mod Headed
 pub mod Lines
 -- Cited by private contracts.
 pub mod Items

@@ -3,7 +3,7 @@ use Rattle.std.specs.Prelude.{Bool, true, false, if◌then◌else◌, List}
 use Rattle.toml_edit_model.specs.Tree.{Key, Node, is_value_node}
 use Rattle.toml_edit_edit_laws.specs.CommandLaws.{made_below}
 use Rattle.toml_edit_edit_laws.specs.Commands.{Answer, set_below}
-use Rattle.toml_edit_paths.specs.Headed.{headed_below, set_headed_below}
+use Rattle.toml_edit_edit_laws.specs.Headed.{headed_below, set_headed_below}
 
 abbrev pub set_by : Bool → Node → List Key → Node → Answer Node
 set_by true v path n = set_headed_below v path n

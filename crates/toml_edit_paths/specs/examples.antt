@@ -1,4 +1,3 @@
 -- Worked examples of changes at a path.
-pub mod Headed
 pub mod Calls
 pub mod Lines

@@ -8,7 +8,7 @@ ghost use Rattle.toml_edit_tree.specs.Containers.{table_node};
 ghost use Rattle.toml_edit_tree.specs.Indexed.{shown_slots};
 ghost use Rattle.toml_edit_tree.specs.View.{item_view, table_view, value_view};
 ghost use Rattle.toml_edit_paths.specs.Changes.{Changes};
-ghost use Rattle.toml_edit_paths.specs.Headed.{set_headed_below};
+ghost use Rattle.toml_edit_edit_laws.specs.Headed.{set_headed_below};
 ghost use Rattle.toml_edit_paths.specs.Setting.{headers_in, set_by};
 
 use crate::element::{items_mut, place_named};

@@ -29,28 +29,26 @@ pub fn migrate(
     ensures fits { OnOk result (FitsIn (mode_owned document.new) (tree_owned document.new)) }
     ensures kept { OnErr result (tree_owned document.new ≡ tree_owned document.old) }
 {
-    let mut root = Item::Table(document.as_table().clone(alloc)?);
+    let mut migrated = document.clone(alloc)?;
     for (path, name) in renames {
-        rename(&mut root, &Key::parse(alloc, path)?, name)?;
+        rename(alloc, &mut migrated, path, name)?;
     }
+    let mut root = Item::Table(migrated.as_table().clone(alloc)?);
     for (from, to) in moves {
         let (from, to) = (Key::parse(alloc, from)?, Key::parse(alloc, to)?);
         move_table(alloc, &mut root, &from, &to)?;
     }
-    let mut migrated = document.clone(alloc)?;
     let table = root.into_table().ok().context("the root is no table")?;
     drop(mem::replace(migrated.as_table_mut(), table));
     parts::replace(alloc, document, migrated)
 }
 
 /// Renames the key at a path, in a table of either kind.
-fn rename(root: &mut Item, path: &[Key], name: &str) -> Result<()> {
-    let (key, above) = path.split_last().context("a path is empty")?;
-    let slots = slots_at(root, above).context("a table is missing")?;
-    match slots.rename(key.get(), name)? {
+fn rename(alloc: Global, document: &mut DocumentMut, path: &str, name: &str) -> Result<()> {
+    match document.rename_at(&Key::parse(alloc, path)?, name)? {
         Renamed::Done => Ok(()),
         Renamed::Taken => bail!("{name} is there already"),
-        Renamed::Absent => bail!("{} is missing", key.get()),
+        Renamed::Absent => bail!("{path} is missing"),
     }
 }
 

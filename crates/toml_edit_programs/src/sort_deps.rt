@@ -31,16 +31,14 @@ fn sort_in<T: AnyTable>(table: &mut T) -> Mem<()> {
 
 /// Sorts one table by key. The headers in it are printed in the new order.
 fn sort(item: &mut Item) -> Mem<()> {
-    let Some(mut table) = item.as_table_like_mut() else {
-        return Ok(());
-    };
-    table.sort_values()?;
-    let Some(slots) = item.as_slots_mut() else {
-        return Ok(());
-    };
-    for at in 0..slots.len() {
-        if let Some(below) = item_at(slots, at).and_then(|item| item.as_table_mut()) {
-            below.forget_positions();
+    if let Some(mut table) = item.as_table_like_mut() {
+        table.sort_values()?;
+    }
+    if let Some(slots) = item.as_slots_mut() {
+        for at in 0..slots.len() {
+            if let Some(below) = item_at(slots, at).and_then(|item| item.as_table_mut()) {
+                below.forget_positions();
+            }
         }
     }
     Ok(())

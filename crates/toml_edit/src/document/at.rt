@@ -4,11 +4,11 @@ ghost use Rattle.toml_edit_edit_laws.specs.Commands.{item_at, remove_at, root_it
 ghost use Rattle.toml_edit_tree.specs.View.{item_view, value_view};
 ghost use Rattle.toml_edit_paths.specs.Calls.{ChangesFound, TakesFound, item_inside, replaced_at};
 ghost use Rattle.toml_edit_paths.specs.Changes.{Changes, Moves, Renames};
-ghost use Rattle.toml_edit_paths.specs.Headed.{set_at_with_headers};
+ghost use Rattle.toml_edit_edit_laws.specs.Headed.{set_at_with_headers};
 ghost use Rattle.toml_edit_paths.specs.Lines.{remove_line_at};
 ghost use Rattle.toml_edit_paths.specs.declared.fault.ChangeFault.TheVariants.{NoSuchPath};
 ghost use Rattle.toml_edit.specs.DocumentView.{IsPrintedAs, tree_owned};
-ghost use Rattle.toml_edit.specs.Edited.{EditsBy, IsPlainValue, MayBePut};
+ghost use Rattle.toml_edit.specs.Edited.{AddsTable, EditsBy, IsPlainValue, MayBePut};
 ghost use Rattle.toml_edit_edit_laws.specs.KeyCalls.{move_at, rename_at};
 ghost use Rattle.toml_edit_edit_laws.specs.PathEdits.{moves, removes, renames, sets};
 ghost use Rattle.toml_edit_slots.specs.declared.slots.rearrange.Renamed.TheVariants.{Done};
@@ -95,6 +95,9 @@ impl DocumentMut {
         ensures edits { OnOk result (IsPlainValue (value_view value)
             → MayBePut (tree_owned self.old) path.now
             → EditsBy (sets path.now (value_view value)) self.old self.new) }
+        // Where one is, a header and the line of the value are added, and all other statements stay.
+        ensures adds { OnOk result (AddsTable path.now (value_view value)
+            (tree_owned self.old) (tree_owned self.new)) }
     {
         calls_still_fit();
         others_stay();

@@ -3,7 +3,7 @@ use Rattle.std.proofs.Common.{◌≡◌, refl, sym, ◌∙◌, ap, subst, ℕ, B
 use Rattle.std.specs.Prelude.{slice_get}
 use Rattle.toml_edit_model.specs.Text.{Text}
 use Rattle.toml_edit_model.specs.Paths.{to_key, to_element}
-use Rattle.toml_edit_model.specs.Tree.{Key, Node, table, tables, Slots, ItemsAreWellMade, SlotsAreWellMade, Tree}
+use Rattle.toml_edit_model.specs.Tree.{Key, Extent, TableFields, Node, table, tables, Items, Slots, ItemsAreWellMade, SlotsAreWellMade, Tree}
 use Rattle.toml_edit_model.specs.HeaderOrder.{Visit, visit_of}
 use Rattle.toml_edit_model.specs.Keys.{new_key}
 use Rattle.toml_edit_model.specs.Slots.{Slot, keyed, on_item, with_item, changed_at, lookup_slot, changed}
@@ -66,7 +66,62 @@ item-along (into_element k i ∷ way) (j ∷ x ∷ path) s w goes (l, e, xs, bef
     ∙ ap (λ o. and_then (item_below path) (second o)) (element-there is_table_node x i (item_list xs) before (table f ss) after goes.1 items place refl)
     ∙ item-along way path (visit_of (to_element (to_key s.path l.name) (element_count before)) (s.keys ++ (l ∷ [])) true f ss) w goes.2 leads
 
--- A family of commands that go down alike as long as the path is longer.
+-- A family of commands that go down alike from tables and arrays of tables, as long as the path is longer.
+module _ {A : Type 0} (key_of : A → Key) (makes : Bool) (run : List A → Node → Answer Node) (rest : List A)
+    (in_table : (k : A) (path : List A) (f : TableFields) (ss : Slots) → run (k ∷ (path ++ rest)) (table f ss)
+    ≡ child_changed makes (key_of k) (run (path ++ rest)) (table f ss))
+    (in_tables : (k : A) (path : List A) (e : Extent) (xs : Items) → run (k ∷ (path ++ rest)) (tables e xs)
+    ≡ child_changed makes (key_of k) (run (path ++ rest)) (tables e xs))
+    (g : List (Slot Node) → List (Slot Node)) where
+  pub goes-down-tables : (way : List Turn) (path : List A) (s w : Visit) → SlotsAreWellMade s.slots
+      → Goes way (map (λ k. (key_of k).name) path) → Leads way s w
+      → run rest (table w.fields w.slots) ≡ done (table w.fields (slots_under g w.slots))
+      → run (path ++ rest) (table s.fields s.slots) ≡ done (table s.fields (slots_under (along way g) s.slots))
+  goes-down-tables [] [] s w made goes leads there =
+      subst (λ (x : Visit). run rest (table x.fields x.slots) ≡ done (table x.fields (slots_under g x.slots))) (sym leads) there
+  goes-down-tables [] (j ∷ path) s w made goes leads there = absurd goes
+  goes-down-tables (into_table k ∷ way) [] s w made goes leads there = absurd goes
+  goes-down-tables (into_table k ∷ way) (j ∷ path) s w made goes (l, f, ss, eq, leads) there =
+      let v : Visit = visit_of (to_key s.path l.name) (s.keys ++ (l ∷ [])) false f ss in
+      let ih : run (path ++ rest) (table f ss) ≡ done (table f (slots_under (along way g) ss)) =
+      goes-down-tables way path v w (found k s.slots (keyed l (table f ss)) made eq).made goes.1 leads there in
+      let at : lookup_slot (key_of j).name (slot_list s.slots) ≡ Some (keyed l (table f ss)) = ap (λ x. lookup_slot x (slot_list s.slots)) goes.0 ∙ eq in
+      in_table j path s.fields s.slots
+      ∙ ap (λ o. mapped (λ xs. table s.fields (slots_from xs)) (change_slot makes (key_of j) (run (path ++ rest)) (slot_list s.slots) o)) at
+      ∙ ap (λ a. mapped (λ xs. table s.fields (slots_from xs)) (mapped (λ m. changed (key_of j).name (with_item m) (slot_list s.slots)) a)) ih
+      ∙ ap (λ xs. done (table s.fields (slots_from xs)))
+      (changed-same (key_of j).name (with_item (table f (slots_under (along way g) ss))) (on_item (on_slots (along way g))) s.slots (keyed l (table f ss))
+      made at refl
+      ∙ ap (λ y. changed y (on_item (on_slots (along way g))) (slot_list s.slots)) goes.0)
+  goes-down-tables (into_element k i ∷ way) [] s w made goes leads there = absurd goes
+  goes-down-tables (into_element k i ∷ way) (j ∷ []) s w made goes leads there = absurd goes
+  goes-down-tables (into_element k i ∷ way) (j ∷ x ∷ path) s w made goes (l, e, xs, before, f, ss, after, eq, items, place, leads) there =
+      let v : Visit = visit_of (to_element (to_key s.path l.name) (element_count before)) (s.keys ++ (l ∷ [])) true f ss in
+      let us : Slots = slots_under (along way g) ss in
+      let all : ItemsAreWellMade (items_from (before ++ (table f ss ∷ after))) =
+      subst ItemsAreWellMade (sym (items_from-list xs) ∙ ap items_from items) (found k s.slots (keyed l (tables e xs)) made eq).made in
+      let inner : SlotsAreWellMade ss = item-made before (table f ss) after all in
+      let ih : run (path ++ rest) (table f ss) ≡ done (table f us) = goes-down-tables way path v w inner goes.2 leads there in
+      let at : lookup_slot (key_of j).name (slot_list s.slots) ≡ Some (keyed l (tables e xs)) = ap (λ y. lookup_slot y (slot_list s.slots)) goes.0 ∙ eq in
+      let element : element_of is_table_node (key_of x).name (item_list xs) ≡ Some (i, table f ss) =
+      element-there is_table_node (key_of x).name i (item_list xs) before (table f ss) after goes.1 items place refl in
+      let swapped : written_at i (table f us) (item_list xs) ≡ changed_at i (on_slots (along way g)) (item_list xs) =
+      ap (written_at i (table f us)) items ∙ change-item before (table f ss) after i (λ old. table f us) place
+      ∙ sym (ap (changed_at i (on_slots (along way g))) items ∙ change-item before (table f ss) after i (on_slots (along way g)) place) in
+      let inside : run (x ∷ (path ++ rest)) (tables e xs) ≡ done (tables e (items_under (changed_at i (on_slots (along way g))) xs)) =
+      in_tables x path e xs
+      ∙ ap (λ o. mapped (λ ns. tables e (items_from ns)) (change_element (run (path ++ rest)) (item_list xs) o)) element
+      ∙ ap (λ a. mapped (λ ns. tables e (items_from ns)) (mapped (λ m. written_at i m (item_list xs)) a)) ih
+      ∙ ap (λ ns. done (tables e (items_from ns))) swapped in
+      in_table j (x ∷ path) s.fields s.slots
+      ∙ ap (λ o. mapped (λ xs. table s.fields (slots_from xs)) (change_slot makes (key_of j) (run (x ∷ (path ++ rest))) (slot_list s.slots) o)) at
+      ∙ ap (λ a. mapped (λ xs. table s.fields (slots_from xs)) (mapped (λ m. changed (key_of j).name (with_item m) (slot_list s.slots)) a)) inside
+      ∙ ap (λ xs. done (table s.fields (slots_from xs)))
+      (changed-same (key_of j).name (with_item (tables e (items_under (changed_at i (on_slots (along way g))) xs)))
+      (on_item (on_items (changed_at i (on_slots (along way g))))) s.slots (keyed l (tables e xs)) made at refl
+      ∙ ap (λ y. changed y (on_item (on_items (changed_at i (on_slots (along way g))))) (slot_list s.slots)) goes.0)
+
+-- So do those that go down alike from any item.
 module _ {A : Type 0} (key_of : A → Key) (makes : Bool) (run : List A → Node → Answer Node) (rest : List A)
     (goes_down : (k : A) (path : List A) (n : Node) → run (k ∷ (path ++ rest)) n
     ≡ child_changed makes (key_of k) (run (path ++ rest)) n)
@@ -75,46 +130,5 @@ module _ {A : Type 0} (key_of : A → Key) (makes : Bool) (run : List A → Node
       → Goes way (map (λ k. (key_of k).name) path) → Leads way s w
       → run rest (table w.fields w.slots) ≡ done (table w.fields (slots_under g w.slots))
       → run (path ++ rest) (table s.fields s.slots) ≡ done (table s.fields (slots_under (along way g) s.slots))
-  goes-along [] [] s w made goes leads there =
-      subst (λ (x : Visit). run rest (table x.fields x.slots) ≡ done (table x.fields (slots_under g x.slots))) (sym leads) there
-  goes-along [] (j ∷ path) s w made goes leads there = absurd goes
-  goes-along (into_table k ∷ way) [] s w made goes leads there = absurd goes
-  goes-along (into_table k ∷ way) (j ∷ path) s w made goes (l, f, ss, eq, leads) there =
-      let v : Visit = visit_of (to_key s.path l.name) (s.keys ++ (l ∷ [])) false f ss in
-      let ih : run (path ++ rest) (table f ss) ≡ done (table f (slots_under (along way g) ss)) =
-      goes-along way path v w (found k s.slots (keyed l (table f ss)) made eq).made goes.1 leads there in
-      let at : lookup_slot (key_of j).name (slot_list s.slots) ≡ Some (keyed l (table f ss)) = ap (λ x. lookup_slot x (slot_list s.slots)) goes.0 ∙ eq in
-      goes_down j path (table s.fields s.slots)
-      ∙ ap (λ o. mapped (λ xs. table s.fields (slots_from xs)) (change_slot makes (key_of j) (run (path ++ rest)) (slot_list s.slots) o)) at
-      ∙ ap (λ a. mapped (λ xs. table s.fields (slots_from xs)) (mapped (λ m. changed (key_of j).name (with_item m) (slot_list s.slots)) a)) ih
-      ∙ ap (λ xs. done (table s.fields (slots_from xs)))
-      (changed-same (key_of j).name (with_item (table f (slots_under (along way g) ss))) (on_item (on_slots (along way g))) s.slots (keyed l (table f ss))
-      made at refl
-      ∙ ap (λ y. changed y (on_item (on_slots (along way g))) (slot_list s.slots)) goes.0)
-  goes-along (into_element k i ∷ way) [] s w made goes leads there = absurd goes
-  goes-along (into_element k i ∷ way) (j ∷ []) s w made goes leads there = absurd goes
-  goes-along (into_element k i ∷ way) (j ∷ x ∷ path) s w made goes (l, e, xs, before, f, ss, after, eq, items, place, leads) there =
-      let v : Visit = visit_of (to_element (to_key s.path l.name) (element_count before)) (s.keys ++ (l ∷ [])) true f ss in
-      let us : Slots = slots_under (along way g) ss in
-      let all : ItemsAreWellMade (items_from (before ++ (table f ss ∷ after))) =
-      subst ItemsAreWellMade (sym (items_from-list xs) ∙ ap items_from items) (found k s.slots (keyed l (tables e xs)) made eq).made in
-      let inner : SlotsAreWellMade ss = item-made before (table f ss) after all in
-      let ih : run (path ++ rest) (table f ss) ≡ done (table f us) = goes-along way path v w inner goes.2 leads there in
-      let at : lookup_slot (key_of j).name (slot_list s.slots) ≡ Some (keyed l (tables e xs)) = ap (λ y. lookup_slot y (slot_list s.slots)) goes.0 ∙ eq in
-      let element : element_of is_table_node (key_of x).name (item_list xs) ≡ Some (i, table f ss) =
-      element-there is_table_node (key_of x).name i (item_list xs) before (table f ss) after goes.1 items place refl in
-      let swapped : written_at i (table f us) (item_list xs) ≡ changed_at i (on_slots (along way g)) (item_list xs) =
-      ap (written_at i (table f us)) items ∙ change-item before (table f ss) after i (λ old. table f us) place
-      ∙ sym (ap (changed_at i (on_slots (along way g))) items ∙ change-item before (table f ss) after i (on_slots (along way g)) place) in
-      let inside : run (x ∷ (path ++ rest)) (tables e xs) ≡ done (tables e (items_under (changed_at i (on_slots (along way g))) xs)) =
-      goes_down x path (tables e xs)
-      ∙ ap (λ o. mapped (λ ns. tables e (items_from ns)) (change_element (run (path ++ rest)) (item_list xs) o)) element
-      ∙ ap (λ a. mapped (λ ns. tables e (items_from ns)) (mapped (λ m. written_at i m (item_list xs)) a)) ih
-      ∙ ap (λ ns. done (tables e (items_from ns))) swapped in
-      goes_down j (x ∷ path) (table s.fields s.slots)
-      ∙ ap (λ o. mapped (λ xs. table s.fields (slots_from xs)) (change_slot makes (key_of j) (run (x ∷ (path ++ rest))) (slot_list s.slots) o)) at
-      ∙ ap (λ a. mapped (λ xs. table s.fields (slots_from xs)) (mapped (λ m. changed (key_of j).name (with_item m) (slot_list s.slots)) a)) inside
-      ∙ ap (λ xs. done (table s.fields (slots_from xs)))
-      (changed-same (key_of j).name (with_item (tables e (items_under (changed_at i (on_slots (along way g))) xs)))
-      (on_item (on_items (changed_at i (on_slots (along way g))))) s.slots (keyed l (tables e xs)) made at refl
-      ∙ ap (λ y. changed y (on_item (on_items (changed_at i (on_slots (along way g))))) (slot_list s.slots)) goes.0)
+  goes-along =
+      goes-down-tables key_of makes run rest (λ k path f ss. goes_down k path (table f ss)) (λ k path e xs. goes_down k path (tables e xs)) g

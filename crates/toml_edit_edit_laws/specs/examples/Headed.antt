@@ -5,12 +5,15 @@ use Rattle.toml_edit_model.specs.Text.{Text, newline, same_text}
 use Rattle.toml_edit_model.specs.Syntax.{Segment, array, inline_table, no_elements, element, no_pairs, Statement, header, Document}
 use Rattle.toml_edit_model.specs.Tree.{owned, Key, Node, nothing, no_slots, slot, Tree}
 use Rattle.toml_edit_model.specs.Keys.{new_key}
-use Rattle.toml_edit_model.specs.Print.{print}
+use Rattle.toml_edit_model.specs.Mode.{plain}
+use Rattle.toml_edit_model.specs.Print.{print, printed_table}
+use Rattle.toml_edit_laws.specs.Locality.{texts}
 use Rattle.toml_edit_model.specs.TreeOf.{owned_form}
 use Rattle.toml_edit_model.specs.examples.ComputedTree.{tree_of}
 use Rattle.toml_edit_model.specs.examples.Parts.{line, head, document, pair_of, a, b, x, one_value, plain_key, plain_int, root_of, all_true}
 use Rattle.toml_edit_edit_laws.specs.Commands.{Refusal, no_such_path, wrong_kind, Answer, done, refused, remove_at}
-use Rattle.toml_edit_paths.specs.Headed.{set_at_with_headers}
+use Rattle.toml_edit_edit_laws.specs.Headed.{set_at_with_headers}
+use Rattle.toml_edit_edit_laws.specs.HeaderAdds.{last_table}
 
 -- ---- answers
 
@@ -213,3 +216,16 @@ refusals : all_true (
     ) ≡ true
 unfolding digits print
 refusals = refl
+
+-- ---- the table more
+
+-- its header and its line, after an empty line unless it is first
+one_table : all_true (
+    same_text (texts (printed_table plain false (last_table [] [] (new_key ka) (new_key kx) [] (plain_int 2))))
+    (codes "\n[a]\nx = 2\n")
+    ∷ same_text (texts (printed_table plain true (last_table [] [] (new_key ka) (new_key kb) (new_key kx ∷ []) (plain_int 2))))
+    (codes "[a.b]\nx = 2\n")
+    ∷ []
+    ) ≡ true
+unfolding digits print
+one_table = refl

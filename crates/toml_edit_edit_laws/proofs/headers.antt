@@ -1,0 +1,4 @@
+pub mod Seats
+pub mod Shown
+pub mod Adding
+pub mod Setting
