@@ -19,7 +19,7 @@ Changes meant old new (Err NoSuchPath) = (meant ≡ refused no_such_path) × (ne
 Changes meant old new (Err WrongKind) = (meant ≡ refused wrong_kind) × (new ≡ old)
 Changes meant old new (Err Memory) = new ≡ old
 
--- What a renaming leaves, and what is told of it.
+-- What a renaming leaves, and which of its three results it returns.
 abbrev pub Renames : {A E : Type 0} → Answer A → A → A → Result Renamed E → Type 0
 Renames meant old new (Ok Done) = meant ≡ done new
 Renames meant old new (Ok Absent) = (meant ≡ refused no_such_path) × (new ≡ old)
