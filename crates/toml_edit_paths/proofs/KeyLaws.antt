@@ -1,10 +1,11 @@
 -- What is done to the last key of a path, as what is done to the slots and the item above it.
 use Rattle.std.proofs.Common.{◌≡◌, refl, sym, ◌∙◌, ap, subst, ℕ, zero, suc, ◌+◌, ◌≤◌, arith, Bool, true, false, List, [], ◌∷◌, ◌++◌, length, Option, Some, None, inl, inr, Result, Ok, Err}
-use Rattle.std.specs.Prelude.{◌⊎◌, ◌||◌, not, if◌then◌else◌, IfOk, OnOk, OnErr}
+use Rattle.std.specs.Prelude.{◌⊎◌, ◌||◌, not, if◌then◌else◌, min, IfOk, OnOk, OnErr}
+use Rattle.std.proofs.Math.Nat.{min-eq_left, min-eq_right, min-le_left}
 use Rattle.std.specs.Option.{option_map_or}
 use Rattle.toml_edit_model.specs.Text.{Text, same_text}
-use Rattle.toml_edit_model.specs.Keys.{new_key}
-use Rattle.toml_edit_model.specs.Tree.{Node, nothing, leaf, list, inline, table, tables, is_value_node}
+use Rattle.toml_edit_model.specs.Keys.{names, new_key}
+use Rattle.toml_edit_model.specs.Tree.{Key, Node, nothing, leaf, list, inline, table, tables, is_value_node}
 use Rattle.toml_edit_model.specs.Shown.{is_table_node}
 use Rattle.toml_edit_model.specs.Slots.{Slot, keyed, with_item, on_key, lookup_slot, has_slot, changed, without}
 use Rattle.toml_edit_model.specs.Lists.{slot_list, slots_from, item_list, items_from, is_item, only, on_slots, slots_in}
@@ -20,11 +21,16 @@ use Rattle.toml_edit_laws.proofs.common.OptionSteps.{some-is}
 use Rattle.toml_edit_slots.specs.Renaming.{renaming}
 use Rattle.toml_edit_slots.specs.declared.slots.rearrange.Renamed.{Renamed}
 use Rattle.toml_edit_slots.specs.declared.slots.rearrange.Renamed.TheVariants.{Done, Absent, Taken}
+use Rattle.toml_edit_slots.specs.Seen.{seen}
+use Rattle.toml_edit_slots.specs.declared.slots.Slot as held_slot
+use Rattle.toml_edit_tree.specs.Indexed.{shown_slots}
+use Rattle.toml_edit_tree.specs.declared.item.Item.{Item}
 use Rattle.toml_edit_paths.specs.Calls.{item_inside, replaced_below}
 use Rattle.toml_edit_paths.specs.Changes.{Moves, Renames}
+use Rattle.toml_edit_paths.proofs.SeenLaws.{has-shown, length-shown, moved-shown, renamed-shown, renaming-shown}
 use Rattle.toml_edit_paths.proofs.StepLaws.{slots-kept}
 
-inside-below : (path : List Text) (n m : Node) → item_inside path n ≡ Some m → item_below path n ≡ Some m
+pub inside-below : (path : List Text) (n m : Node) → item_inside path n ≡ Some m → item_below path n ≡ Some m
 inside-below [] n m h = absurd cc
 inside-below (k ∷ path) n m h = h
 
@@ -260,3 +266,56 @@ last-place k i j ss n there (inr (less, last)) =
     let a : length (without k ss) ≤ j = omega (arith, few, last) in
     let b : length (without k ss) ≤ i = omega (arith, few, last, less) in
     moved-at k j ss s p.is ∙ beyond (without k ss) j s a ∙ sym (moved-at k i ss s p.is ∙ beyond (without k ss) i s b)
+
+-- ---- the slots of the code
+
+pub slots-rename : {E : Type 0} (k u x y : Text) (es fs : List (held_slot.Slot Item)) (n : Node) → x ≡ k → y ≡ k
+    → present (lookup_slot x (shown_slots es)) ≡ Some n → (r : Result Renamed E) → IfOk r (λ told. told ≡ renaming y u (seen es))
+    → OnOk r (seen fs ≡ renamed_slot y u (seen es)) → OnErr r (fs ≡ es)
+    → Renames (renamed_where u k (shown_slots es)) (shown_slots es) (shown_slots fs) r
+slots-rename k u x y es fs n ex ey there (Err e) told left same = ap shown_slots same
+slots-rename {E = E} k u x y es fs n ex ey there (Ok told) is left same =
+    slot-renames k u (shown_slots es) (shown_slots fs) n (ap (λ z. present (lookup_slot z (shown_slots es))) (sym ex) ∙ there) {E = E} (Ok told)
+    (is ∙ sym (renaming-shown y u es) ∙ ap (λ z. renaming z u (shown_slots es)) ey)
+    (renamed-shown y u es fs left ∙ ap (λ z. renamed_slot z u (shown_slots es)) ey) tt
+
+le-or : (i j : ℕ) → (i ≤ j) ⊎ (j ≤ i)
+le-or zero j = inl (omega arith)
+le-or (suc i) zero = inr (omega arith)
+le-or (suc i) (suc j) = elim (le-or i j) [
+  | inl h ↦ inl (omega (arith, h))
+  | inr h ↦ inr (omega (arith, h))
+]
+
+pub slots-move : (k x y : Text) (i last : ℕ) (es fs : List (held_slot.Slot Item)) (n : Node) → x ≡ k → y ≡ k
+    → present (lookup_slot x (shown_slots es)) ≡ Some n → (b : Bool) (j : ℕ) → b ≡ has_slot y (seen es)
+    → seen fs ≡ moved_slot y j (seen es) → j ≡ min i last → length es ≡ last + 1
+    → Moves (moved_where i k (shown_slots es)) (shown_slots es) (shown_slots fs) b
+slots-move k x y i last es fs n ex ey there b j found left is size =
+    let at : present (lookup_slot k (shown_slots es)) ≡ Some n = ap (λ z. present (lookup_slot z (shown_slots es))) (sym ex) ∙ there in
+    let place : (j ≡ i) ⊎ ((j ≤ i) × (length (shown_slots es) ≡ j + 1)) =
+    elim (le-or i last) [
+      | inl h ↦ inl (is ∙ min-eq_left h)
+      | inr h ↦
+          inr (
+            subst (λ z. z ≤ i) (sym is) (min-le_left i last),
+            length-shown es ∙ size ∙ ap (λ z. z + 1) (sym (is ∙ min-eq_right h)),
+          )
+    ] in
+    slot-moves k (shown_slots es) (shown_slots fs) n at i j b
+    (found ∙ sym (has-shown y es) ∙ ap (λ z. has_slot z (shown_slots es)) ey)
+    (moved-shown y j es fs left ∙ ap (λ z. moved_slot z j (shown_slots es)) ey)
+    (last-place k i j (shown_slots es) n at place)
+
+-- ---- above the last key
+
+names-join : (path more : List Key) → names (path ++ more) ≡ names path ++ names more
+names-join [] more = refl
+names-join (k ∷ path) more = ap (λ ks. k.name ∷ ks) (names-join path more)
+
+pub last-names : (path above : List Key) (key : Key) → path ≡ above ++ (key ∷ []) → names path ≡ names above ++ (key.name ∷ [])
+last-names path above key is = ap names is ∙ names-join above (key ∷ [])
+
+pub none-inside : (above : List Key) (n : Node) → (above ≡ [] → ⊥) → item_inside (names above) n ≡ None → item_below (names above) n ≡ None
+none-inside [] n some h = absurd (some refl)
+none-inside (k ∷ above) n some h = h
