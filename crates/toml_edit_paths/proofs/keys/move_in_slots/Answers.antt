@@ -1,5 +1,5 @@
 -- What is there under the key goes to the place, or to the last one.
-use Rattle.std.proofs.Common.{◌≡◌, ◌+◌, sym, ap, ◌∙◌, rules, arith, length}
+use Rattle.std.proofs.Common.{◌≡◌, ◌+◌, sym, rules, length}
 use Rattle.toml_edit_tree.specs.View.{item_view}
 use Rattle.toml_edit_paths.proofs.KeyLaws.{slots-move}
 use Rattle.toml_edit_paths.proofs.keys.move_in_slots.Goals as goal

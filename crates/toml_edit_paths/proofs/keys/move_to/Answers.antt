@@ -1,5 +1,5 @@
 -- The item above the key is changed, or there is none.
-use Rattle.std.proofs.Common.{◌≡◌, sym, ap, subst, rules, ◌∙◌, List, length}
+use Rattle.std.proofs.Common.{sym, ap, subst, rules, ◌∙◌, List, length}
 use Rattle.std.specs.Prelude.{◌==◌}
 use Rattle.std.proofs.lemmas.Bool.{false≢true}
 use Rattle.toml_edit_model.specs.Keys.{names}
