@@ -10,7 +10,6 @@ use Rattle.toml_edit_laws.specs.Locality.{root_visit}
 use Rattle.toml_edit_laws.proofs.common.OptionSteps.{some-is}
 use Rattle.toml_edit_edit_laws.specs.Commands.{Answer, mapped, child, child_changed, change_slot, change_element, element_of, item_below, root_item}
 use Rattle.toml_edit_edit_laws.specs.Commands.{set_at, set_below, with_slots}
-use Rattle.toml_edit_edit_laws.specs.CommandLaws.{NamesTable}
 use Rattle.toml_edit_edit_laws.proofs.commands.Finding.{some-and, some-second}
 use Rattle.toml_edit_edit_laws.proofs.commands.Going.{item-along}
 use Rattle.toml_edit_edit_laws.proofs.commands.Keeping.{present-is}

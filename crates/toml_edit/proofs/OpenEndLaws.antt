@@ -1,5 +1,5 @@
 -- The text with an open end is that with a closed one, but for the newline of the last statement, which may be cut off.
-use Rattle.std.proofs.Common.{◌≡◌, suc, ◌+◌, ◌-◌, Bool, true, false, [], ◌∷◌, ◌++◌, length, get_or, refl, sym, ap}
+use Rattle.std.proofs.Common.{◌≡◌, suc, ◌-◌, Bool, true, false, [], ◌∷◌, ◌++◌, length, get_or, refl, sym, ap}
 use Rattle.std.proofs.Common.{◌∙◌, arith}
 use Rattle.std.specs.Prelude.{◌==◌, slice_index}
 use Rattle.toml_edit_model.specs.Mode.{Mode, plain, exact, ends_in_return}

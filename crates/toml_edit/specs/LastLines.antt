@@ -6,7 +6,7 @@ use Rattle.toml_edit_model.specs.Tree.{Decor, Node, nothing, leaf, list, inline,
 use Rattle.toml_edit_model.specs.Tree.{node_decor, shown_suffix}
 use Rattle.toml_edit_model.specs.Order.{sorted_by}
 use Rattle.toml_edit_model.specs.Print.{is_line_node}
-use Rattle.toml_edit_laws.specs.PrintByVisits.{Headed, by_place, headed_tables, last_pair, last_pair_in}
+use Rattle.toml_edit_laws.specs.PrintByVisits.{Headed, by_place, headed_tables, last_pair}
 
 -- the last line of a table, or this one before it where the table has none
 abbrev mutual
