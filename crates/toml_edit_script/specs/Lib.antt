@@ -1,0 +1,8 @@
+pub mod Same
+pub mod Outcomes
+pub mod Effects
+pub mod Moves
+pub mod Slots
+pub mod Lists
+pub mod Along
+pub mod LinesStay

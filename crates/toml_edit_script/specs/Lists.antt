@@ -1,0 +1,42 @@
+-- What a list of edits does to a tree.
+use Rattle.std.specs.Prelude.{◌≡◌, ◌⊎◌, List, [], ◌∷◌, take, slice_get, Some, Result, Ok, Err, string_bytes}
+use Rattle.toml_edit_model.specs.Keys.{names}
+use Rattle.toml_edit_model.specs.Tree.{Tree}
+use Rattle.toml_edit_tree.specs.View.{value_view}
+use Rattle.toml_edit_script.specs.Effects as effects
+use Rattle.toml_edit_script.specs.Effects.{at_end, renamed}
+use Rattle.toml_edit_script.specs.Moves.{moved}
+use Rattle.toml_edit_script.specs.Outcomes.{and_then}
+use Rattle.toml_edit_script.specs.declared.edit.Edit.{Edit}
+use Rattle.toml_edit_script.specs.declared.edit.Edit.TheVariants as edits
+use Rattle.toml_edit_script.specs.declared.fault.EditFault.{EditFault}
+use Rattle.toml_edit_script.specs.declared.fault.EditFault.TheVariants.{Memory}
+use Rattle.toml_edit_script.specs.declared.fault.ScriptFault.{ScriptFault}
+
+-- what an edit does
+abbrev pub effect : Edit → Tree → Result Tree EditFault
+effect (edits.Set path v) t = effects.set path.items (value_view v) t
+effect (edits.Header path v) t = effects.headed path.items (value_view v) t
+effect (edits.Remove path) t = effects.removed (names path.items) t
+effect (edits.Append path v) t = effects.appended path.items (value_view v) t
+effect (edits.Insert path v) t =
+    at_end (λ above k. effects.inserted_before above k.name (value_view v) t) path.items
+effect (edits.Take path v) t = effects.taken path.items (value_view v) t
+effect (edits.Rename path u) t =
+    at_end (λ above k. renamed above k (string_bytes u) t) (names path.items)
+effect (edits.Move path to) t = moved (names path.items) (names to.items) t
+effect (edits.Sort path) t = effects.sorted (names path.items) t
+effect (edits.Comment path text) t = effects.commented (names path.items) (string_bytes text) t
+
+-- what edits do, one after another
+abbrev pub applied : List Edit → Tree → Result Tree EditFault
+applied [] t = Ok t
+applied (e ∷ es) t = and_then (applied es) (effect e t)
+
+-- The edits were made, all of them; or those before one that is refused for this reason, and no
+-- other.
+abbrev pub Applies : List Edit → Tree → Tree → Result (Unit {0}) ScriptFault → Type 0
+Applies es old new (Ok u) = applied es old ≡ Ok new
+Applies es old new (Err f) =
+    (e : Edit) × (slice_get es f.at ≡ Some e) × (applied (take f.at es) old ≡ Ok new)
+    × ((f.fault ≡ Memory) ⊎ (effect e new ≡ Err f.fault))

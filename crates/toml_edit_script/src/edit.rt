@@ -1,0 +1,64 @@
+//! The edits of a document.
+use toml_edit::{Key, Value};
+
+/// An edit of a document at a path of keys.
+#[derive(Drop)]
+pub enum Edit {
+    /// Puts a value at the path, below inline tables where tables are missing.
+    Set(Vec<Key>, Value),
+    /// Puts a value at the path, below headers where tables are missing.
+    Header(Vec<Key>, Value),
+    /// Removes the item at the path.
+    Remove(Vec<Key>),
+    /// Adds a value at the end of the array at the path, with a line where the others have one.
+    Append(Vec<Key>, Value),
+    /// Inserts a value before the element at the path, with a line where the others have one. The
+    /// number after the last element is its end.
+    Insert(Vec<Key>, Value),
+    /// Removes the first value of the array at the path that is equal, with its line and the
+    /// comment on it.
+    Take(Vec<Key>, Value),
+    /// Gives the key at the end of the path another name.
+    Rename(Vec<Key>, String),
+    /// Moves the key at the end of the first path, with its item, to the second path.
+    Move(Vec<Key>, Vec<Key>),
+    /// Sorts the keys of the table at the path by their names.
+    Sort(Vec<Key>),
+    /// Sets the comment after the value or the header at the path, or removes it if the text is
+    /// empty.
+    Comment(Vec<Key>, String),
+}
+
+impl Edit {
+    /// Returns the word for this kind of edit.
+    pub fn word(&self) -> &'static str {
+        match self {
+            Edit::Set(_, _) => "set",
+            Edit::Header(_, _) => "header",
+            Edit::Remove(_) => "remove",
+            Edit::Append(_, _) => "append",
+            Edit::Insert(_, _) => "insert",
+            Edit::Take(_, _) => "take",
+            Edit::Rename(_, _) => "rename",
+            Edit::Move(_, _) => "move",
+            Edit::Sort(_) => "sort",
+            Edit::Comment(_, _) => "comment",
+        }
+    }
+
+    /// Returns the path of the edit, which is the first one of a move.
+    pub fn path(&self) -> &[Key] {
+        match self {
+            Edit::Set(path, _) => path.as_slice(),
+            Edit::Header(path, _) => path.as_slice(),
+            Edit::Remove(path) => path.as_slice(),
+            Edit::Append(path, _) => path.as_slice(),
+            Edit::Insert(path, _) => path.as_slice(),
+            Edit::Take(path, _) => path.as_slice(),
+            Edit::Rename(path, _) => path.as_slice(),
+            Edit::Move(path, _) => path.as_slice(),
+            Edit::Sort(path) => path.as_slice(),
+            Edit::Comment(path, _) => path.as_slice(),
+        }
+    }
+}

@@ -1,0 +1,17 @@
+//! Edits of a document, one after another: what each one does, and why one is refused.
+#![tactic(auto)]
+
+mod along;
+mod arrays;
+mod edit;
+mod fault;
+mod keys;
+pub mod laws;
+mod moves;
+mod same;
+mod script;
+
+pub use edit::Edit;
+pub use fault::{EditFault, ScriptFault};
+pub use same::same_value;
+pub use script::{apply, apply_edit};

@@ -1,0 +1,97 @@
+//! Making edits.
+ghost use Rattle.toml_edit_tree.specs.View.{value_view};
+ghost use Rattle.toml_edit.specs.DocumentView.{IsPrintedAs, tree_owned};
+ghost use Rattle.toml_edit_model.specs.Keys.{names};
+ghost use Rattle.toml_edit_script.specs.Effects as effects;
+ghost use Rattle.toml_edit_script.specs.Lists.{Applies, effect};
+ghost use Rattle.toml_edit_script.specs.Outcomes.{Makes};
+
+use crate::arrays::{append, insert, take};
+use crate::edit::Edit;
+use crate::fault::{EditFault, ScriptFault};
+use crate::keys::{comment, rename, sort};
+use crate::moves::relocate;
+use std::alloc::Global;
+use toml_edit::{DocumentMut, Key, Value};
+
+/// Makes the edits, one after another, in the document.
+///
+/// # Errors
+///
+/// Returns which edit is refused first, and why. The edits before it are made then, and no other.
+pub fn apply(alloc: Global, document: &mut DocumentMut, edits: &[Edit]) -> Result<(), ScriptFault>
+    ensures applies { Applies edits.now (tree_owned document.old) (tree_owned document.new) result }
+    ensures printed { IsPrintedAs document.new document.old }
+{
+    for at in 0..edits.len() {
+        if let Err(fault) = apply_edit(alloc, document, &edits[at]) {
+            return Err(ScriptFault { at, fault });
+        }
+    }
+    Ok(())
+}
+
+/// Makes one edit in the document.
+///
+/// # Errors
+///
+/// Returns why it is refused. The document is unchanged then.
+pub fn apply_edit(alloc: Global, document: &mut DocumentMut, edit: &Edit) -> Result<(), EditFault>
+    ensures makes { Makes (effect edit.now (tree_owned document.old)) (tree_owned document.old)
+        (tree_owned document.new) result }
+    ensures printed { IsPrintedAs document.new document.old }
+{
+    match edit {
+        Edit::Set(path, value) => set(alloc, document, path.as_slice(), value),
+        Edit::Header(path, value) => set_below_header(alloc, document, path.as_slice(), value),
+        Edit::Remove(path) => remove(document, path.as_slice()),
+        Edit::Append(path, value) => append(alloc, document, path.as_slice(), value),
+        Edit::Insert(path, value) => insert(alloc, document, path.as_slice(), value),
+        Edit::Take(path, value) => take(alloc, document, path.as_slice(), value),
+        Edit::Rename(path, name) => rename(document, path.as_slice(), name.as_str()),
+        Edit::Move(path, to) => relocate(alloc, document, path.as_slice(), to.as_slice()),
+        Edit::Sort(path) => sort(alloc, document, path.as_slice()),
+        Edit::Comment(path, text) => comment(alloc, document, path.as_slice(), text.as_str()),
+    }
+}
+
+/// Puts a copy of the value at the path.
+fn set(
+    alloc: Global,
+    document: &mut DocumentMut,
+    path: &[Key],
+    value: &Value,
+) -> Result<(), EditFault>
+    ensures makes { Makes
+        (effects.set path.now (value_view value.now) (tree_owned document.old))
+        (tree_owned document.old) (tree_owned document.new) result }
+    ensures printed { IsPrintedAs document.new document.old }
+{
+    let value = value.clone(alloc)?;
+    Ok(document.set_at(path, value)?)
+}
+
+/// Puts a copy of the value at the path, below headers where tables are missing.
+fn set_below_header(
+    alloc: Global,
+    document: &mut DocumentMut,
+    path: &[Key],
+    value: &Value,
+) -> Result<(), EditFault>
+    ensures makes { Makes
+        (effects.headed path.now (value_view value.now) (tree_owned document.old))
+        (tree_owned document.old) (tree_owned document.new) result }
+    ensures printed { IsPrintedAs document.new document.old }
+{
+    let value = value.clone(alloc)?;
+    Ok(document.set_at_with_headers(path, value)?)
+}
+
+/// Removes the item at the path: an element of an array with its line.
+fn remove(document: &mut DocumentMut, path: &[Key]) -> Result<(), EditFault>
+    ensures makes { Makes (effects.removed (names path.now) (tree_owned document.old))
+        (tree_owned document.old) (tree_owned document.new) result }
+    ensures printed { IsPrintedAs document.new document.old }
+{
+    Ok(document.remove_line_at(path)?)
+}
