@@ -1,0 +1,6 @@
+-- An ASCII byte ends where a character does.
+use Rattle.std.proofs.lemmas.Str.{IsCharBoundary-after_ascii}
+use Rattle.toml_edit_json.proofs.runs.after_first.Goals as goal
+
+pub range_from-requires : goal.range_from-requires
+range_from-requires c _ = IsCharBoundary-after_ascii c.args.text.now 0 c.utf8.text c.requires.some c.requires.ascii

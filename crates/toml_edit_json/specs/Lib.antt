@@ -1,0 +1,4 @@
+pub mod Texts
+pub mod Escapes
+pub mod Values
+pub mod Parts
