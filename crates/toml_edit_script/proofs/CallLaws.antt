@@ -1,20 +1,19 @@
 -- What a call of a closure on the item at a path makes of an edit.
-use Rattle.std.proofs.Common.{◌≡◌, ◌∙◌, refl, sym, ap, subst, arith, length, List, [], ◌∷◌, Option, Some, None}
+use Rattle.std.proofs.Common.{◌≡◌, ◌∙◌, refl, sym, arith, length, List, [], ◌∷◌, Option, Some}
 use Rattle.std.specs.Fn.{FnOnceReturnsAtMut}
-use Rattle.std.specs.Prelude.{Result, Ok, Err}
+use Rattle.std.specs.Prelude.{Result}
 use Rattle.toml_edit_model.specs.Keys.{names}
 use Rattle.toml_edit_model.specs.Text.{Text}
 use Rattle.toml_edit_model.specs.Tree.{Key, Node, Tree}
-use Rattle.toml_edit_edit_laws.specs.Commands.{item_at, item_below, root_item}
-use Rattle.toml_edit_paths.specs.Calls.{CallsOn, Change, ChangesFound, item_inside, replaced_at}
+use Rattle.toml_edit_edit_laws.specs.Commands.{item_at, root_item}
+use Rattle.toml_edit_paths.specs.Calls.{Change, ChangesFound, item_inside, replaced_at}
 use Rattle.toml_edit_tree.specs.View.{item_view}
 use Rattle.toml_edit_tree.specs.declared.item.Item.{Item}
 use Rattle.toml_edit_script.specs.Along.{AreApartAlong}
 use Rattle.toml_edit_script.specs.Effects.{changed_at, changed_below, changed_by}
 use Rattle.toml_edit_script.specs.Outcomes.{Makes}
 use Rattle.toml_edit_script.specs.declared.fault.EditFault.{EditFault}
-use Rattle.toml_edit_script.specs.declared.fault.EditFault.TheVariants.{NoSuchPath}
-use Rattle.toml_edit_script.proofs.OutcomeLaws.{changed-made, nothing-made}
+use Rattle.toml_edit_script.proofs.OutcomeLaws.{changed-made}
 use Rattle.toml_edit_script.proofs.PathLaws.{inside-below, put-back-in}
 
 -- what the closure does to an item is what is meant

@@ -1,11 +1,10 @@
 -- The print of an array, value by value, after one is inserted or removed with its line.
-use Rattle.std.proofs.Common.{◌≡◌, ◌∙◌, refl, sym, ap, subst, ℕ, zero, suc, ◌<◌, ◌≤◌, Bool, true, false, List, [], ◌∷◌, ◌++◌, length, drop, take, Option, Some, None, append_assoc, append-nil, arith}
-use Rattle.std.specs.Prelude.{◌||◌, ◌&&◌, not, if◌then◌else◌, codes, slice_get, option_and_then}
+use Rattle.std.proofs.Common.{◌≡◌, ◌∙◌, refl, sym, ap, subst, ℕ, zero, suc, Bool, true, false, List, [], ◌∷◌, ◌++◌, length, Some, None, append_assoc, append-nil, arith}
+use Rattle.std.specs.Prelude.{◌||◌, not, codes}
 use Rattle.std.specs.List.{list_all}
-use Rattle.toml_edit_model.specs.ArrayCalls.{inserted_at, removed_at, value_at}
+use Rattle.toml_edit_model.specs.ArrayCalls.{inserted_at, removed_at}
 use Rattle.toml_edit_model.specs.Comments.{after_first_line, first_line}
 use Rattle.toml_edit_model.specs.Conversions.{with_decor}
-use Rattle.toml_edit_model.specs.Lists.{only}
 use Rattle.toml_edit_model.specs.Mode.{Mode, shown_text}
 use Rattle.toml_edit_model.specs.Slots.{changed_at}
 use Rattle.toml_edit_model.specs.Syntax.{comma_text}
@@ -170,7 +169,7 @@ module _ (mode : Mode) where
         let tail = text_of mode n ++ (shown_suffix mode [] (node_decor n) ++ rest) in
         let old : body mode comma t (n ∷ ns) is_first ≡ sh g ++ tail = chunk-owned mode is_first n g rest (sym (prefix-here n ns n-value) ∙ here) in
         let new : body mode comma t (new_value ∷ with_prefix (owned next) n ∷ ns) is_first
-            ≡ sh (first_line g ++ above) ++ (text_of mode v ++ (codes "," ++ (sh next ++ tail))) =
+        ≡ sh (first_line g ++ above) ++ (text_of mode v ++ (codes "," ++ (sh next ++ tail))) =
         chunk-placed mode is_first v (first_line g ++ above) (comma_text (comma || true) ++ body mode comma t (with_prefix (owned next) n ∷ ns) false) value
         ∙ ap (λ b. sh (first_line g ++ above) ++ (text_of mode v ++ (comma_text b ++ body mode comma t (with_prefix (owned next) n ∷ ns) false))) (or-true comma)
         ∙ ap (λ x. sh (first_line g ++ above) ++ (text_of mode v ++ (codes "," ++ x))) (chunk-prefixed mode false n next rest n-value) in

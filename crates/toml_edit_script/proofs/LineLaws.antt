@@ -1,21 +1,17 @@
 -- What an array prints after a value is inserted or removed with its line.
-use Rattle.std.proofs.Common.{◌≡◌, ◌∙◌, refl, sym, ap, subst, ℕ, zero, suc, ◌+◌, ◌-◌, ◌<◌, ◌≤◌, Bool, true, false, cond, List, [], ◌∷◌, ◌++◌, length, drop, take, Option, Some, None, append_assoc, append-nil, arith}
-use Rattle.std.specs.Prelude.{◌||◌, ◌&&◌, ◌==◌, not, nat_lt, if◌then◌else◌, codes, slice_get, option_and_then, is_some, is_none}
+use Rattle.std.proofs.Common.{◌≡◌, ◌∙◌, refl, sym, ap, Bool, true, false, List, [], ◌∷◌, ◌++◌, Some, None, append_assoc, append-nil}
+use Rattle.std.specs.Prelude.{◌||◌, not, codes}
 use Rattle.std.specs.List.{list_all}
-use Rattle.std.proofs.lemmas.Bool.{ltb-true, ltb-false}
-use Rattle.toml_edit_model.specs.ArrayCalls.{inserted_at, removed_at, value_at}
-use Rattle.toml_edit_model.specs.Comments.{after_first_line, first_line, side_text}
+use Rattle.toml_edit_model.specs.Comments.{after_first_line, first_line}
 use Rattle.toml_edit_model.specs.Conversions.{with_decor}
-use Rattle.toml_edit_model.specs.Lists.{items_from, only}
-use Rattle.toml_edit_model.specs.Mode.{Mode, plain, exact, shown_text}
+use Rattle.toml_edit_model.specs.Lists.{items_from}
+use Rattle.toml_edit_model.specs.Mode.{Mode, shown_text}
 use Rattle.toml_edit_model.specs.Print.{add_after, around_of, close_array, element_default, elements_of, value_of}
-use Rattle.toml_edit_model.specs.Slots.{changed_at}
 use Rattle.toml_edit_model.specs.Syntax.{Around, Elements, no_elements, element, Value, comma_text, elements_text, value_text}
 use Rattle.toml_edit_model.specs.Text.{Text, is_empty}
-use Rattle.toml_edit_model.specs.Tree.{ArrayFields, Decor, Node, Raw, owned, span, leaf, list, inline, table, tables, nothing, is_value_node, node_decor, shown_raw, shown_side, shown_prefix, shown_suffix}
-use Rattle.toml_edit_laws.proofs.common.Tests.{and_left, and_right, if-true, if-false}
-use Rattle.toml_edit_laws.proofs.common.OptionSteps.{some-is}
-use Rattle.toml_edit_tree.specs.ArrayLines.{is_broken, placed, prefix_at, with_prefix}
+use Rattle.toml_edit_model.specs.Tree.{ArrayFields, Decor, Node, owned, leaf, list, inline, table, tables, nothing, is_value_node, node_decor, shown_raw, shown_side, shown_prefix, shown_suffix}
+use Rattle.toml_edit_laws.proofs.common.Tests.{and_left, and_right}
+use Rattle.toml_edit_tree.specs.ArrayLines.{is_broken, placed, with_prefix}
 use Rattle.toml_edit_script.specs.LinesStay.{BeginsLine, HasLinesMore, text_of}
 use Rattle.toml_edit_script.proofs.LineTexts.{begins-more, begins-shown, cut-line, rest-begins, shown-append}
 

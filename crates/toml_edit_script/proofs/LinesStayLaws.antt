@@ -1,6 +1,6 @@
 -- The lines of the other values of an array stay where one is inserted or removed with its line.
-use Rattle.std.proofs.Common.{◌≡◌, ◌∙◌, refl, sym, ap, subst, ℕ, zero, suc, ◌+◌, ◌-◌, ◌<◌, ◌≤◌, Bool, true, false, List, [], ◌∷◌, ◌++◌, length, Option, Some, None, append_assoc, arith, inl, inr}
-use Rattle.std.specs.Prelude.{◌||◌, ◌&&◌, ◌==◌, not, nat_lt, if◌then◌else◌, codes, flat_map, is_none}
+use Rattle.std.proofs.Common.{◌≡◌, ◌∙◌, refl, sym, ap, subst, ℕ, zero, suc, ◌-◌, ◌<◌, ◌≤◌, Bool, true, false, List, [], ◌∷◌, ◌++◌, length, Option, Some, None, arith, inl, inr}
+use Rattle.std.specs.Prelude.{◌||◌, ◌==◌, not, nat_lt, if◌then◌else◌, codes, flat_map, is_none}
 use Rattle.std.proofs.lemmas.Bool.{cases_Bool, lt-ltb, ltb-false, ltb-true}
 use Rattle.std.proofs.lemmas.List.Edits.{length-insert, length-remove}
 use Rattle.toml_edit_model.specs.ArrayCalls.{inserted_at, removed_at, value_at}
@@ -11,12 +11,12 @@ use Rattle.toml_edit_model.specs.Print.{element_default}
 use Rattle.toml_edit_model.specs.Slots.{changed_at}
 use Rattle.toml_edit_model.specs.Text.{Text, carriage_return, is_empty, newline}
 use Rattle.toml_edit_model.specs.Tree.{ArrayFields, Node, Raw, owned, span, is_value_node, list, node_decor, shown_raw, shown_side}
-use Rattle.toml_edit_laws.proofs.common.Tests.{and_both, if-true, if-false}
+use Rattle.toml_edit_laws.proofs.common.Tests.{if-true, if-false}
 use Rattle.toml_edit_tree.specs.ArrayLines.{begun_newline, broken_gap, comma_kept, fields_inserted, fields_removed, fields_with_gap, first_newline, followed, gap, gap_left, gaps_around, gaps_on_line}
-use Rattle.toml_edit_tree.specs.ArrayLines.{indent_at, is_broken, is_closed, is_last, last_gap, last_suffix, left_of, line_inserted, line_removed, lines_above, moved, newline_at, newline_in, placed, prefixes, prefix_at, takes_lines, text_above, text_after, with_gap, with_line, with_prefix, with_suffix}
+use Rattle.toml_edit_tree.specs.ArrayLines.{indent_at, is_broken, is_closed, last_gap, last_suffix, left_of, line_inserted, line_removed, lines_above, moved, newline_at, newline_in, placed, prefixes, prefix_at, takes_lines, text_above, text_after, with_gap, with_line, with_prefix, with_suffix}
 use Rattle.toml_edit_script.specs.LinesStay.{BeginsLine, HasLinesMore, InsertedLines, RemovedLines, text_of}
 use Rattle.toml_edit_script.proofs.LineTexts.{begins-more}
-use Rattle.toml_edit_script.proofs.LineLaws.{array-text, body, longer-back, longer-front, no-values}
+use Rattle.toml_edit_script.proofs.LineLaws.{array-text, body, longer-back, longer-front}
 use Rattle.toml_edit_script.proofs.LineEdits.{AreValues, cut, less-at-end, less-within, more-at-end, more-within, values-changed, values-inserted, values-removed}
 
 -- ---- numbers
@@ -222,7 +222,7 @@ module _ (mode : Mode) where
       ∙ ap (λ c. record f { trailing = if c then owned (gap_left i f xs) else owned [] }) closed ∙ ap (λ t. record f { trailing = owned t }) left) in
       let less = less-at-end mode xs i true a.text b.text are a.is last a.broken b.broken in
       let new : body mode (comma_kept less-one g).comma (shown_raw mode (comma_kept less-one g).trailing) less-one true
-          ≡ body mode true (shown_text mode (cut a.text b.text)) less-one true =
+      ≡ body mode true (shown_text mode (cut a.text b.text)) less-one true =
       ap (λ t. body mode (comma_kept less-one g).comma (shown_raw mode t) less-one true) (kept-trailing less-one g)
       ∙ kept-body less-one g (shown_raw mode r) comma in
       let old : body mode f.comma (shown_raw mode f.trailing) xs true ≡ body mode true (shown_text mode b.text) xs true =

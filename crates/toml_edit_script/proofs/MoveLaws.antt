@@ -1,26 +1,21 @@
 -- What moving a key leaves where it was.
-use Rattle.std.proofs.Common.{◌≡◌, ◌∙◌, refl, sym, ap, subst, ℕ, zero, suc, Bool, true, false, List, [], ◌∷◌, ◌++◌, length, map, take, Option, Some, None}
-use Rattle.std.specs.Prelude.{◌&&◌, not, if◌then◌else◌, Result, Ok, Err, is_some, option_and_then}
+use Rattle.std.proofs.Common.{◌≡◌, ◌∙◌, refl, sym, ap, subst, ℕ, zero, suc, Bool, true, false, List, [], ◌∷◌, ◌++◌, length, take, Option, Some, None}
+use Rattle.std.specs.Prelude.{◌&&◌, not, if◌then◌else◌, Result, Ok, Err, option_and_then}
 use Rattle.std.specs.Cmp.Lexicographic.{pointwise}
 use Rattle.std.specs.List.{starts_with}
 use Rattle.std.specs.Option.{ok_or}
 use Rattle.toml_edit_edit_laws.proofs.commands.Finding.{remove_finds}
 use Rattle.toml_edit_script.proofs.OutcomeLaws.{at-end}
 use Rattle.toml_edit_model.specs.Keys.{names, new_key}
-use Rattle.toml_edit_model.specs.Iterating.{filled}
 use Rattle.toml_edit_model.specs.Lists.{slot_list, slots_from, slots_in, on_slots, is_item}
-use Rattle.toml_edit_model.specs.Positions.{without_positions}
-use Rattle.toml_edit_model.specs.Rearranging.{renamed_key}
-use Rattle.toml_edit_model.specs.Slots.{Slot, has_slot, keyed, lookup_slot}
-use Rattle.toml_edit_model.specs.TableCalls.{get_slot}
+use Rattle.toml_edit_model.specs.Slots.{Slot, has_slot, lookup_slot}
 use Rattle.toml_edit_model.specs.Text.{Text, one, same_text}
 use Rattle.toml_edit_model.specs.Tree.{Key, Node, nothing, leaf, list, inline, table, tables, Tree, is_value_node}
-use Rattle.toml_edit_edit_laws.specs.Commands.{Answer, Refusal, done, refused, no_such_path, wrong_kind, taken, mapped, child, child_changed, and_then as then_item, item_at, item_below, present, remove_at, root_item, root_slots, with_slots}
+use Rattle.toml_edit_edit_laws.specs.Commands.{Answer, Refusal, done, refused, no_such_path, wrong_kind, taken, child, and_then as then_item, item_at, item_below, present, remove_at, root_item, root_slots, with_slots}
 use Rattle.toml_edit_laws.proofs.common.OptionSteps.{some-is}
-use Rattle.toml_edit_laws.proofs.common.Tests.{if-true, if-false, same_text-is}
+use Rattle.toml_edit_laws.proofs.common.Tests.{if-true, if-false}
 use Rattle.toml_edit_laws.proofs.locality.Slots.{slot_list-from}
 use Rattle.toml_edit_edit_laws.proofs.commands.Apart.{root-down}
-use Rattle.toml_edit_edit_laws.proofs.commands.Removing.{item-present}
 use Rattle.toml_edit_edit_laws.proofs.commands.Setting.{done-is, was-mapped}
 use Rattle.toml_edit_script.specs.declared.fault.EditFault.{EditFault}
 use Rattle.toml_edit_script.specs.declared.fault.EditFault.TheVariants.{NoSuchPath, WrongKind, Taken}
@@ -29,7 +24,6 @@ use Rattle.toml_edit_script.specs.Effects.{at_end, changed_at, on_table, renamed
 use Rattle.toml_edit_script.specs.Moves.{carried, carried_over, held_slot, moved, put_in, slot_at, slot_of, slots_with}
 use Rattle.toml_edit_script.specs.Outcomes.{and_then, of_answer}
 use Rattle.toml_edit_script.proofs.PathLaws.{HasAllOf, OneKind, begins, found-then, still-there}
-
 
 -- ---- steps
 

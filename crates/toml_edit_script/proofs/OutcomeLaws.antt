@@ -1,5 +1,5 @@
 -- What calls make of an edit.
-use Rattle.std.proofs.Common.{◌≡◌, ◌∙◌, refl, sym, ap, subst, List, [], ◌∷◌, ◌++◌, map, true, Option, Some, None, inl, inr}
+use Rattle.std.proofs.Common.{◌≡◌, ◌∙◌, refl, sym, ap, subst, List, [], ◌∷◌, ◌++◌, true, Option, Some, None, inl, inr}
 use Rattle.std.specs.Prelude.{◌⊎◌, Result, Ok, Err, option_map}
 use Rattle.std.specs.Option.{ok_or}
 use Rattle.toml_edit_model.specs.Keys.{names}
@@ -12,7 +12,7 @@ use Rattle.toml_edit_model.specs.Conversions.{with_decor}
 use Rattle.toml_edit_model.specs.Tree.{ArrayFields, Decor, Key, Node, Tree, nothing, leaf, inline, list, table, tables, is_value_node, node_decor}
 use Rattle.toml_edit_repr.specs.Comments.{may_stand}
 use Rattle.toml_edit_laws.proofs.common.Tests.{if-true}
-use Rattle.toml_edit_edit_laws.specs.Commands.{Answer, done, refused}
+use Rattle.toml_edit_edit_laws.specs.Commands.{Answer, done}
 use Rattle.toml_edit_edit_laws.proofs.commands.Setting.{done-is}
 use Rattle.toml_edit_paths.specs.Calls.{replaced_at}
 use Rattle.toml_edit_paths.specs.Changes.{Changes}

@@ -1,14 +1,14 @@
 -- What is left at paths where another item is put at one.
-use Rattle.std.proofs.Common.{◌≡◌, ◌∙◌, refl, sym, ap, subst, ℕ, zero, suc, Bool, true, false, List, [], ◌∷◌, ◌++◌, map, Option, Some, None}
-use Rattle.std.specs.Prelude.{slice_get, if◌then◌else◌, option_and_then, is_some}
+use Rattle.std.proofs.Common.{◌≡◌, ◌∙◌, refl, sym, ap, subst, ℕ, zero, suc, Bool, true, false, List, [], ◌∷◌, Option, Some, None}
+use Rattle.std.specs.Prelude.{slice_get, if◌then◌else◌}
 use Rattle.std.specs.List.{AllByRecursion, IsDistinct}
 use Rattle.toml_edit_model.specs.ArrayCalls.{written_at}
 use Rattle.toml_edit_model.specs.Keys.{new_key}
 use Rattle.toml_edit_model.specs.Lists.{slot_list, slots_from, slots_in, item_list, items_from, is_item, only}
 use Rattle.toml_edit_model.specs.Shown.{is_table_node}
-use Rattle.toml_edit_model.specs.Slots.{Slot, AreApart, keyed, with_item, changed_at, lookup_slot, changed, names}
+use Rattle.toml_edit_model.specs.Slots.{Slot, AreApart, with_item, lookup_slot, changed, names}
 use Rattle.toml_edit_model.specs.Text.{Text, same_text}
-use Rattle.toml_edit_model.specs.Tree.{Key, Node, nothing, leaf, list, inline, table, tables, Items, Slots, Tree, is_value_node}
+use Rattle.toml_edit_model.specs.Tree.{Key, Node, nothing, leaf, list, inline, table, tables, Tree, is_value_node}
 use Rattle.toml_edit_edit_laws.specs.Commands.{Answer, done, mapped, element_of, present, second, child, and_then, item_below, change_slot}
 use Rattle.toml_edit_edit_laws.specs.Commands.{change_element, child_changed, root_item, with_slots, item_at}
 use Rattle.toml_edit_paths.specs.Calls.{item_inside, replaced_at, replaced_below}
@@ -19,12 +19,11 @@ use Rattle.toml_edit_tree.specs.declared.item.Item.{Item}
 use Rattle.toml_edit_script.specs.Along.{AreApartAlong}
 use Rattle.toml_edit_script.proofs.ViewedSlots.{shown-apart}
 use Rattle.toml_edit_laws.proofs.common.OptionSteps.{some-is}
-use Rattle.toml_edit_laws.proofs.common.Tests.{if-true, if-false, same_text-refl, same_text-is}
+use Rattle.toml_edit_laws.proofs.common.Tests.{if-false, same_text-is}
 use Rattle.toml_edit_laws.proofs.locality.Slots.{slot_list-from, item_list-from, slots_from-list, items_from-list}
 use Rattle.toml_edit_edit_laws.proofs.commands.Apart.{apart-same, named, names as element-names, place-same, slot-same}
 use Rattle.toml_edit_edit_laws.proofs.commands.Removing.{item-present}
 use Rattle.toml_edit_edit_laws.proofs.commands.Setting.{done-is, was-mapped}
-
 
 -- ---- what is found
 

@@ -1,10 +1,10 @@
 -- The tree of a document whose root was changed.
-use Rattle.std.proofs.Common.{◌≡◌, ◌∙◌, refl, sym, ap, subst, [], rules}
+use Rattle.std.proofs.Common.{◌≡◌, ◌∙◌, refl, sym, ap, subst, []}
 use Rattle.std.specs.Prelude.{Result}
-use Rattle.toml_edit_model.specs.Tree.{Raw, Node, nothing, leaf, list, inline, table, tables, Tree}
+use Rattle.toml_edit_model.specs.Tree.{Raw, Node, nothing, leaf, list, inline, table, tables}
 use Rattle.toml_edit_edit_laws.specs.Commands.{done, item_at, root_item}
-use Rattle.toml_edit_tree.specs.Containers.{TableView, table_node}
-use Rattle.toml_edit_tree.specs.View.{fields_view, table_slots, table_view, tree_view}
+use Rattle.toml_edit_tree.specs.Containers.{table_node}
+use Rattle.toml_edit_tree.specs.View.{fields_view, table_slots, table_view}
 use Rattle.toml_edit_tree.specs.declared.item.Item.TheVariants as items
 use Rattle.toml_edit_tree.specs.declared.table.Table.{Table}
 use Rattle.toml_edit_tree.proofs.ViewLaws.{view-Table}

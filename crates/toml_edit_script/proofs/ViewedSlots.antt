@@ -1,7 +1,7 @@
 -- Slots whose items are seen as others: their keys stay.
-use Rattle.std.proofs.Common.{◌≡◌, ◌∙◌, refl, sym, ap, subst, Bool, true, false, ℕ, suc, cond, List, [], ◌∷◌, ◌++◌, map, Option, Some, None}
+use Rattle.std.proofs.Common.{◌≡◌, ◌∙◌, refl, sym, ap, subst, Bool, true, false, ℕ, suc, List, [], ◌∷◌, ◌++◌, map, Option, Some, None}
 use Rattle.std.specs.Prelude.{◌||◌, not, if◌then◌else◌, option_map, is_some}
-use Rattle.std.specs.List.{IsDistinct, list_any}
+use Rattle.std.specs.List.{IsDistinct}
 use Rattle.toml_edit_model.specs.Slots.{Slot, AreApart, changed, has_slot, is_at, lookup_slot, names, on_item, on_key}
 use Rattle.toml_edit_model.specs.Rearranging.{is_free, renamed_key, renamed_slot}
 use Rattle.toml_edit_model.specs.Text.{Text, one, same_text}

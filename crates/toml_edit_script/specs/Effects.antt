@@ -1,5 +1,5 @@
 -- What an edit does to a tree, or why it is refused.
-use Rattle.std.specs.Prelude.{◌≡◌, ◌||◌, ℕ, nat_le, if◌then◌else◌, List, [], ◌∷◌, length, Option, Some, None, option_map, option_and_then, position, Result, Ok, Err}
+use Rattle.std.specs.Prelude.{◌||◌, ℕ, nat_le, if◌then◌else◌, List, [], ◌∷◌, length, Option, Some, None, option_map, option_and_then, position, Result, Ok, Err}
 use Rattle.std.specs.Option.{ok_or}
 use Rattle.toml_edit_model.specs.Comments.{with_comment_after}
 use Rattle.toml_edit_model.specs.Conversions.{with_decor}
@@ -9,7 +9,7 @@ use Rattle.toml_edit_model.specs.Rearranging.{renamed_slot}
 use Rattle.toml_edit_model.specs.Slots.{Slot}
 use Rattle.toml_edit_model.specs.Sorting.{sorted_slots}
 use Rattle.toml_edit_model.specs.Text.{Text, is_empty}
-use Rattle.toml_edit_model.specs.Tree.{Key, Node, nothing, leaf, list, inline, table, tables, Tree, node_decor}
+use Rattle.toml_edit_model.specs.Tree.{Key, Node, nothing, list, inline, table, tables, Tree, node_decor}
 use Rattle.toml_edit_edit_laws.specs.Commands.{item_at, number_of, root_item, set_at}
 use Rattle.toml_edit_paths.specs.Calls.{item_inside, replaced_at}
 use Rattle.toml_edit_edit_laws.specs.Headed.{set_at_with_headers}

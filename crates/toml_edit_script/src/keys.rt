@@ -86,11 +86,7 @@ fn rename_slot(slots: &mut Slots<Item>, from: &str, to: &str) -> Result<(), Edit
 }
 
 /// Sorts the keys of the table at the path by their names.
-pub(crate) fn sort(
-    alloc: Global,
-    document: &mut DocumentMut,
-    path: &[Key],
-) -> Result<(), EditFault>
+pub(crate) fn sort(alloc: Global, document: &mut DocumentMut, path: &[Key]) -> Result<(), EditFault>
     ensures makes { Makes (effects.sorted (names path.now) (tree_owned document.old))
         (tree_owned document.old) (tree_owned document.new) result }
     ensures printed { IsPrintedAs document.new document.old }

@@ -1,10 +1,10 @@
 -- The table that is opened, and those further along.
-use Rattle.std.proofs.Common.{◌≡◌, ◌∙◌, List, ap, sym, subst, take, Some, None}
+use Rattle.std.proofs.Common.{◌≡◌, ◌∙◌, List, ap, sym, subst, take, Some}
 use Rattle.toml_edit_model.specs.Keys.{names}
 use Rattle.toml_edit_model.specs.Lists.{slots_in}
 use Rattle.toml_edit_model.specs.Slots.{Slot, AreApart}
 use Rattle.toml_edit_model.specs.Tree.{Node, Key}
-use Rattle.toml_edit_edit_laws.specs.Commands.{child, item_below}
+use Rattle.toml_edit_edit_laws.specs.Commands.{item_below}
 use Rattle.toml_edit_tree.specs.View.{item_view}
 use Rattle.toml_edit_script.specs.Along.{AreApartAlong}
 use Rattle.toml_edit_script.proofs.PathLaws.{along-below, along-none, no-child, one-child, opened, unopened}

@@ -1,5 +1,5 @@
 -- The first value that is the same.
-use Rattle.std.proofs.Common.{◌≡◌, ◌∙◌, arith, sym}
+use Rattle.std.proofs.Common.{◌∙◌, arith, sym}
 use Rattle.toml_edit_tree.specs.Elements.{items_of}
 use Rattle.toml_edit_tree.specs.View.{value_view}
 use Rattle.toml_edit_script.proofs.SameLaws.{differs-on, first-at, none-on, none-same}

@@ -1,5 +1,5 @@
 -- The array is put together of what it has beside its values, and those; the value is a copy.
-use Rattle.std.proofs.Common.{◌≡◌, ◌∙◌, ap}
+use Rattle.std.proofs.Common.{◌∙◌, ap}
 use Rattle.toml_edit_tree.specs.View.{array_view}
 use Rattle.toml_edit_script.specs.Effects.{with_line}
 use Rattle.toml_edit_script.proofs.OutcomeLaws.{array-holds}

@@ -1,5 +1,5 @@
 -- The last key is renamed.
-use Rattle.std.proofs.Common.{◌≡◌, ◌∙◌, ap, sym, subst}
+use Rattle.std.proofs.Common.{◌∙◌, ap, sym, subst}
 use Rattle.toml_edit_model.specs.Keys.{names}
 use Rattle.toml_edit_model.specs.Text.{Text}
 use Rattle.toml_edit.specs.DocumentView.{tree_owned}

@@ -1,5 +1,5 @@
 -- A table with other slots.
-use Rattle.std.proofs.Common.{◌≡◌, ap}
+use Rattle.std.proofs.Common.{ap}
 use Rattle.toml_edit_tree.specs.Containers.{TableView}
 use Rattle.toml_edit_tree.specs.View.{table_view}
 use Rattle.toml_edit_script.specs.Effects.{slots_renamed}

@@ -1,5 +1,5 @@
 -- A slot gets the name, or all stay.
-use Rattle.std.proofs.Common.{◌≡◌, ◌∙◌, ap, sym, inr}
+use Rattle.std.proofs.Common.{◌∙◌, ap, sym, inr}
 use Rattle.toml_edit_slots.specs.Seen.{seen}
 use Rattle.toml_edit_tree.specs.Indexed.{shown_slots}
 use Rattle.toml_edit_script.specs.Effects.{told}
@@ -14,18 +14,18 @@ returns-in-Done c =
 
 pub returns-in-Absent : goal.returns-in-Absent
 returns-in-Absent c = (
-    inr (rename-told c.args.from.now c.args.to.now c.args.slots.now c.rename.new.self c.in_ok-rename.field-0 c.in_ok-rename.ensures.told
-        c.in_ok-rename.ensures.slots
-        ∙ ap (told (shown_slots c.rename.new.self)) c.in-Absent.is),
-    kept c.args.slots.now c.rename.new.self (c.in_ok-rename.ensures.slots
-        ∙ absent-stays c.args.from.now c.args.to.now (seen c.args.slots.now) (sym c.in_ok-rename.ensures.told ∙ c.in-Absent.is)),
-  )
+  inr (rename-told c.args.from.now c.args.to.now c.args.slots.now c.rename.new.self c.in_ok-rename.field-0 c.in_ok-rename.ensures.told
+      c.in_ok-rename.ensures.slots
+      ∙ ap (told (shown_slots c.rename.new.self)) c.in-Absent.is),
+  kept c.args.slots.now c.rename.new.self (c.in_ok-rename.ensures.slots
+      ∙ absent-stays c.args.from.now c.args.to.now (seen c.args.slots.now) (sym c.in_ok-rename.ensures.told ∙ c.in-Absent.is)),
+)
 
 pub returns-in-Taken : goal.returns-in-Taken
 returns-in-Taken c = (
-    inr (rename-told c.args.from.now c.args.to.now c.args.slots.now c.rename.new.self c.in_ok-rename.field-0 c.in_ok-rename.ensures.told
-        c.in_ok-rename.ensures.slots
-        ∙ ap (told (shown_slots c.rename.new.self)) c.in-Taken.is),
-    kept c.args.slots.now c.rename.new.self (c.in_ok-rename.ensures.slots
-        ∙ taken-stays c.args.from.now c.args.to.now (seen c.args.slots.now) (sym c.in_ok-rename.ensures.told ∙ c.in-Taken.is)),
-  )
+  inr (rename-told c.args.from.now c.args.to.now c.args.slots.now c.rename.new.self c.in_ok-rename.field-0 c.in_ok-rename.ensures.told
+      c.in_ok-rename.ensures.slots
+      ∙ ap (told (shown_slots c.rename.new.self)) c.in-Taken.is),
+  kept c.args.slots.now c.rename.new.self (c.in_ok-rename.ensures.slots
+      ∙ taken-stays c.args.from.now c.args.to.now (seen c.args.slots.now) (sym c.in_ok-rename.ensures.told ∙ c.in-Taken.is)),
+)

@@ -1,5 +1,5 @@
 -- The item at the path is sorted.
-use Rattle.std.proofs.Common.{◌≡◌, ap, rules, subst}
+use Rattle.std.proofs.Common.{rules, subst}
 use Rattle.toml_edit_model.specs.Keys.{names}
 use Rattle.toml_edit.specs.DocumentView.{tree_owned}
 use Rattle.toml_edit_edit_laws.specs.Commands.{root_item}

@@ -1,5 +1,5 @@
 -- The copy takes the place of the inline table.
-use Rattle.std.proofs.Common.{◌≡◌, ◌∙◌, ap, sym}
+use Rattle.std.proofs.Common.{◌∙◌, ap, sym}
 use Rattle.std.specs.Prelude.{Ok}
 use Rattle.toml_edit_tree.specs.Containers.{inline_node}
 use Rattle.toml_edit_tree.specs.View.{inline_view}

@@ -1,6 +1,6 @@
 -- Each item without positions.
 use denote.Param.Weighed.{most}
-use Rattle.std.proofs.Common.{◌≡◌, ◌<◌, ◌≤◌, ◌+◌, List, [], ◌∷◌, length, map, get_or, arith, refl, sym}
+use Rattle.std.proofs.Common.{◌≡◌, ◌<◌, ◌≤◌, List, [], ◌∷◌, length, map, get_or, arith, refl, sym}
 use Rattle.std.proofs.Common.{ap, ◌∙◌}
 use Rattle.toml_edit_model.specs.Lists.{items_from}
 use Rattle.toml_edit_model.specs.Positions.{items_without_positions, without_positions}

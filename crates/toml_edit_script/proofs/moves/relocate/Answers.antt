@@ -1,5 +1,5 @@
 -- Each way to the end of a move.
-use Rattle.std.proofs.Common.{◌≡◌, ◌∙◌, ◌++◌, ap, refl, sym, subst, inr, rules, true, false}
+use Rattle.std.proofs.Common.{◌≡◌, ◌∙◌, ◌++◌, ap, refl, sym, subst, inr, rules}
 use Rattle.toml_edit_model.specs.Keys.{names}
 use Rattle.toml_edit_model.specs.Text.{Text, one}
 use Rattle.toml_edit.specs.DocumentView.{tree_owned}

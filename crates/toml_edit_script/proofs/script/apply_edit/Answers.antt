@@ -1,5 +1,5 @@
 -- A move, by the keys of its two paths.
-use Rattle.std.proofs.Common.{◌≡◌, ◌∙◌, List, ap, sym, subst}
+use Rattle.std.proofs.Common.{◌∙◌, List, ap, sym, subst}
 use Rattle.toml_edit_model.specs.Keys.{names}
 use Rattle.toml_edit_model.specs.Tree.{Key}
 use Rattle.toml_edit.specs.DocumentView.{tree_owned}

@@ -1,0 +1,224 @@
+//! The words of edits, on a command line and in the lines of a script.
+use crate::help::Topic;
+use crate::paths::{path_of, value_of};
+use crate::stop::{Reason, Stop};
+use crate::words::{Reading, wrong_words};
+use std::alloc::Global;
+use toml_edit::{Key, Value};
+use toml_edit_script::Edit;
+
+/// Returns the number of operands of an edit of this name, or `None` if there is none.
+fn operands_of(name: &str) -> Option<usize> {
+    match name {
+        "remove" | "sort" => Some(1),
+        "set"
+        | "string"
+        | "header"
+        | "append"
+        | "insert"
+        | "take"
+        | "rename"
+        | "move"
+        | "comment" => Some(2),
+        _ => None,
+    }
+}
+
+/// Reads the edit that the words begin with, and returns the words after it. The file is the one that
+/// messages name.
+pub fn next_edit<'w>(
+    alloc: Global,
+    edits: &mut Vec<Edit>,
+    file: &str,
+    words: &'w [String],
+    reading: Reading,
+) -> Result<&'w [String], Stop> {
+    let [name, operands @ ..] = words else {
+        return Err(wrong_words(alloc, Topic::Edit));
+    };
+    let name = name.as_str();
+    let number = edits.len() + 1;
+    let (path, operand, rest) = match (operands_of(name), operands) {
+        (Some(1), [path, rest @ ..]) => (path.as_str(), "", rest),
+        (Some(2), [path, operand, rest @ ..]) => (path.as_str(), operand.as_str(), rest),
+        (Some(_), _) => return Err(missing_operand(alloc, file, number, name)),
+        (None, _) => return Err(wrong_words(alloc, Topic::Edit)),
+    };
+    edits.push(edit_of(alloc, file, number, (name, path, operand), reading)?)?;
+    Ok(rest)
+}
+
+/// Reads the edits of a script: one a line, as `set PATH VALUE`. Empty lines, and lines that begin
+/// with `#`, are passed over.
+pub fn edits_of_script(
+    alloc: Global,
+    script: &str,
+    text: &str,
+    edits: &mut Vec<Edit>,
+    reading: Reading,
+) -> Result<(), Stop> {
+    for line in text.lines() {
+        let line = line.trim_start();
+        if !line.is_empty() && !line.starts_with('#') {
+            let number = edits.len() + 1;
+            edits.push(edit_of_line(alloc, script, number, line, reading)?)?;
+        }
+    }
+    Ok(())
+}
+
+/// Reads the edit of a line.
+fn edit_of_line(
+    alloc: Global,
+    script: &str,
+    number: usize,
+    line: &str,
+    reading: Reading,
+) -> Result<Edit, Stop> {
+    let (name, rest) = split_word(line, false);
+    let (path, operand) = split_word(rest, true);
+    match operands_of(name) {
+        Some(1) if !path.is_empty() && operand.is_empty() => {}
+        Some(2) if !path.is_empty() && (!operand.is_empty() || takes_empty(name)) => {}
+        Some(_) => return Err(missing_operand(alloc, script, number, name)),
+        None => {
+            return Err(Stop::Told(
+                Reason::Mistaken,
+                format!(in alloc; "tomlfile: {script}: edit {number}: no edit {name}\n")?,
+            ));
+        }
+    }
+    edit_of(alloc, script, number, (name, path, operand), reading)
+}
+
+/// Returns `true` if the text that an edit of this name takes may be empty.
+fn takes_empty(name: &str) -> bool {
+    name == "string" || name == "comment"
+}
+
+/// Splits off the first word of a line, and the white space after it. A word may have quotes with
+/// white space between them if `quoted` is set.
+fn split_word(line: &str, quoted: bool) -> (&str, &str) {
+    let mut quote = None;
+    let mut escaped = false;
+    for (at, c) in line.char_indices() {
+        match quote {
+            None => match c {
+                ' ' | '\t' => {
+                    if let Some((word, rest)) = line.split_at_checked(at) {
+                        return (word, rest.trim_start());
+                    }
+                }
+                '"' | '\'' if quoted => quote = Some(c),
+                _ => {}
+            },
+            Some(open) => {
+                if escaped {
+                    escaped = false;
+                } else if c == '\\' && open == '"' {
+                    escaped = true;
+                } else if c == open {
+                    quote = None;
+                }
+            }
+        }
+    }
+    (line, "")
+}
+
+/// Returns that an edit of this name lacks an operand.
+fn missing_operand(alloc: Global, file: &str, number: usize, name: &str) -> Stop {
+    let wanted = match name {
+        "remove" | "sort" => "PATH",
+        "string" | "comment" => "PATH TEXT",
+        "rename" => "PATH KEY",
+        "move" => "PATH PATH",
+        _ => "PATH VALUE",
+    };
+    match format!(in alloc; "tomlfile: {file}: edit {number}: usage: {name} {wanted}\n") {
+        Ok(text) => Stop::Told(Reason::Mistaken, text),
+        Err(_) => Stop::Memory,
+    }
+}
+
+/// Reads an edit of its name, its path and its other operand.
+fn edit_of(
+    alloc: Global,
+    file: &str,
+    number: usize,
+    words: (&str, &str, &str),
+    reading: Reading,
+) -> Result<Edit, Stop> {
+    let (name, path, operand) = words;
+    let place = format!(in alloc; "{file}: edit {number} ({name} {path})")?;
+    let place = place.as_str();
+    let path = path_of(alloc, place, path)?;
+    match name {
+        "string" => Ok(Edit::Set(path, Value::string(alloc, operand)?)),
+        "comment" => Ok(Edit::Comment(path, comment_text(alloc, operand)?)),
+        "rename" => Ok(Edit::Rename(path, new_name(alloc, place, operand)?)),
+        "move" => Ok(Edit::Move(path, path_of(alloc, place, operand)?)),
+        "remove" => Ok(Edit::Remove(path)),
+        "sort" => Ok(Edit::Sort(path)),
+        _ => value_edit_of(alloc, place, name, path, operand, reading),
+    }
+}
+
+/// Reads an edit that takes a value.
+fn value_edit_of(
+    alloc: Global,
+    place: &str,
+    name: &str,
+    path: Vec<Key>,
+    operand: &str,
+    reading: Reading,
+) -> Result<Edit, Stop> {
+    let value = value_of(
+        alloc,
+        place,
+        operand,
+        hint_of(name, operand),
+        reading.options(),
+    )?;
+    Ok(match name {
+        "header" => Edit::Header(path, value),
+        "append" => Edit::Append(path, value),
+        "insert" => Edit::Insert(path, value),
+        "take" => Edit::Take(path, value),
+        _ => Edit::Set(path, value),
+    })
+}
+
+/// Returns the hint at how a string is written as the value of an edit of this name, if a bare word
+/// is in its place.
+fn hint_of(name: &str, text: &str) -> &'static str {
+    match text.as_bytes() {
+        [first, ..] if first.is_ascii_alphanumeric() => {}
+        _ => return "",
+    }
+    if name == "set" {
+        " (to set a string, write string in place of set)"
+    } else {
+        " (a string has quotes of its own, as '\"TEXT\"')"
+    }
+}
+
+/// Returns the text of a comment, which is behind a space.
+fn comment_text(alloc: Global, text: &str) -> Result<String, Stop> {
+    if text.is_empty() {
+        return Ok(String::new(alloc));
+    }
+    Ok(format!(in alloc; " {text}")?)
+}
+
+/// Parses the new name of a key.
+fn new_name(alloc: Global, place: &str, text: &str) -> Result<String, Stop> {
+    let keys = path_of(alloc, place, text)?;
+    match keys.as_slice() {
+        [key] => Ok(String::from_str(alloc, key.get())?),
+        _ => Err(Stop::Told(
+            Reason::Mistaken,
+            format!(in alloc; "tomlfile: {place}: no key {text}\n")?,
+        )),
+    }
+}

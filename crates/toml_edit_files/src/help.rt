@@ -1,0 +1,152 @@
+//! The texts of `--help` and `--version`.
+use std::alloc::Global;
+use toml_edit::Mem;
+
+/// What `--version` writes.
+pub const VERSION: &str = "tomlfile 0.1.0 (TOML 1.1 and 1.0)\n";
+
+/// What `--help` is asked about.
+#[derive(Clone, Copy, Debug, PartialEq, Eq, Drop)]
+pub enum Topic {
+    Program,
+    Get,
+    Has,
+    Edit,
+    Keys,
+    Json,
+    Check,
+}
+
+/// Returns the command of this name.
+pub fn topic_of(name: &str) -> Option<Topic> {
+    match name {
+        "get" => Some(Topic::Get),
+        "has" => Some(Topic::Has),
+        "edit" => Some(Topic::Edit),
+        "keys" => Some(Topic::Keys),
+        "json" => Some(Topic::Json),
+        "check" => Some(Topic::Check),
+        _ => None,
+    }
+}
+
+/// Returns the usage of a command, as one line.
+pub fn usage(topic: Topic) -> &'static str {
+    match topic {
+        Topic::Program => "tomlfile [strict] [normal] get | has | edit | keys | json | check ..",
+        Topic::Get => "tomlfile get FILE PATH.. [--raw | --lines] [--default TEXT]",
+        Topic::Has => "tomlfile has FILE PATH [KIND]",
+        Topic::Edit => {
+            "tomlfile edit FILE EDIT [, EDIT].. [--script FILE] [--dry-run] [--output FILE] [--locked]"
+        }
+        Topic::Keys => "tomlfile keys FILE [PATH] [--all]",
+        Topic::Json => "tomlfile json FILE [PATH]",
+        Topic::Check => "tomlfile check FILE..",
+    }
+}
+
+/// Returns the help on a command.
+pub fn help(alloc: Global, topic: Topic) -> Mem<String> {
+    let (usage, about) = (usage(topic), about(topic));
+    format!(in alloc; "usage: {usage}\n\n{about}")
+}
+
+fn about(topic: Topic) -> &'static str {
+    match topic {
+        Topic::Program => PROGRAM,
+        Topic::Get => GET,
+        Topic::Has => HAS,
+        Topic::Edit => EDIT,
+        Topic::Keys => KEYS,
+        Topic::Json => JSON,
+        Topic::Check => CHECK,
+    }
+}
+
+const PROGRAM: &str = "\
+Reads and edits TOML files, and keeps comments, spacing and spelling.
+
+  get    writes the items at paths
+  has    tells by its status whether something is at a path
+  edit   edits a file in place
+  keys   lists keys
+  json   writes a file as JSON
+  check  reports the errors of files
+
+FILE may be -, for standard input and output. A PATH is keys with dots between
+them, as in TOML; in an array the number of an element is a key. With strict,
+files are read and written as TOML 1.0; with normal, a file is written with
+line feeds alone and a newline at its end.
+
+Status: 0 done or yes, 1 no, 2 mistaken words, 3 out of memory, 4 a file or a
+stream failed, 5 a file is no TOML. tomlfile COMMAND --help has examples.
+";
+
+const GET: &str = "\
+Writes the item at each PATH: a value as it is spelled; a table as a document of
+its own, with the tables below it.
+
+  --raw           a string as its characters
+  --lines         each element of an array raw, one a line
+  --default TEXT  TEXT where nothing is at PATH; else the status is 1
+
+  tomlfile get Cargo.toml package.version --raw
+  tomlfile get pyproject.toml project.dependencies --lines
+  tomlfile get Cargo.toml bin.0.name --default none
+";
+
+const HAS: &str = "\
+Ends with status 0 if something is at PATH, and is of the KIND if one is given:
+string, integer, float, boolean, datetime, array, table or tables. Else the
+status is 1.
+
+  if tomlfile has Cargo.toml workspace table; then ..
+";
+
+const EDIT: &str = "\
+Makes the edits one after another, all or none, and writes the file in place.
+
+  set PATH VALUE      put a value; a new key goes to the end of its table
+  string PATH TEXT    put a string, of which TEXT has the characters
+  header PATH VALUE   as set, with headers for the tables that are missing
+  remove PATH         remove a key, or an element with its line
+  append PATH VALUE   add a value to an array, with a line where others have one
+  insert PATH VALUE   the same, before the element at PATH
+  take PATH VALUE     remove the first equal value of an array, with its line
+  rename PATH KEY     give a key another name
+  move PATH PATH      move a key with its item
+  sort PATH           sort the keys of a table
+  comment PATH TEXT   set the comment behind a value or a header
+
+  --script FILE  edits from a file first, one a line
+  --dry-run      write to standard output, and no file
+  --output FILE  write to another file
+  --locked       refuse a file of which other lines would change
+
+  tomlfile edit Cargo.toml string package.version 1.2.3
+  tomlfile edit Cargo.toml remove dependencies.rand , set dependencies.log '\"0.4\"'
+  tomlfile edit pyproject.toml append project.dependencies '\"httpx>=0.27\"'
+";
+
+const KEYS: &str = "\
+Writes the keys of the table at PATH, or of the file, one a line and as they are
+spelled.
+
+  --all  the paths of all that is below it: scalars, arrays and empty tables
+
+  tomlfile keys Cargo.toml dependencies
+";
+
+const JSON: &str = "\
+Writes the item at PATH, or the file, as JSON on one line. Keys keep their
+order, and floats their digits; dates, times, inf and nan are strings.
+
+  tomlfile json Cargo.toml package
+";
+
+const CHECK: &str = "\
+Writes FILE:LINE:COLUMN: MESSAGE for each file that is no TOML. The status is 1
+if there is one.
+
+  tomlfile check *.toml
+";

@@ -1,0 +1,19 @@
+//! The program `tomlfile`, over any folder and any streams: its words, its steps and its exit
+//! status.
+#![tactic(auto)]
+
+mod check;
+mod edit;
+mod edits;
+mod get;
+mod help;
+mod json;
+mod keys;
+mod messages;
+mod paths;
+mod program;
+mod read;
+mod stop;
+mod words;
+
+pub use program::{end_without_memory, run};

@@ -1,0 +1,106 @@
+//! Paths and values in words, and paths in messages.
+use crate::stop::{Reason, Stop};
+use std::alloc::Global;
+use toml_edit::{
+    DocumentMut, FromStrWith, Item, Key, Mem, ParseFault, ParseOptions, ParsePath, TomlError, Value,
+};
+
+/// Parses PATH. A message about it begins with `place`: the file, or an edit of it.
+pub fn path_of(alloc: Global, place: &str, text: &str) -> Result<Vec<Key>, Stop> {
+    match Key::parse(alloc, text) {
+        Ok(path) => Ok(path),
+        Err(ParseFault::Toml(error)) => {
+            let why = parse_message(alloc, &error)?;
+            let why = why.as_str();
+            Err(Stop::Told(
+                Reason::Mistaken,
+                format!(in alloc; "tomlfile: {place}: bad path {text}{why}\n")?,
+            ))
+        }
+        Err(ParseFault::Memory) => Err(Stop::Memory),
+    }
+}
+
+/// Parses VALUE. A message about it begins with `place`, and ends with the hint.
+pub fn value_of(
+    alloc: Global,
+    place: &str,
+    text: &str,
+    hint: &str,
+    options: ParseOptions,
+) -> Result<Value, Stop> {
+    match <Value as FromStrWith>::from_str_with(alloc, text, options) {
+        Ok(value) => Ok(value),
+        Err(ParseFault::Toml(error)) => {
+            let why = parse_message(alloc, &error)?;
+            let why = why.as_str();
+            Err(Stop::Told(
+                Reason::Mistaken,
+                format!(in alloc; "tomlfile: {place}: bad value {text}{why}{hint}\n")?,
+            ))
+        }
+        Err(ParseFault::Memory) => Err(Stop::Memory),
+    }
+}
+
+/// Returns the message of an error of parsing on one line: ` at column 3: unclosed array`.
+fn parse_message(alloc: Global, error: &TomlError) -> Mem<String> {
+    let message = error.message();
+    match error.column() {
+        Some(column) => format!(in alloc; " at column {column}: {message}"),
+        None => format!(in alloc; ": {message}"),
+    }
+}
+
+/// Returns the text of a path: its keys as they are spelled, with dots between them.
+pub fn path_text(alloc: Global, path: &[Key]) -> Mem<String> {
+    let mut text = String::new(alloc);
+    for key in path {
+        if !text.is_empty() {
+            text.push('.')?;
+        }
+        text.push_str(key.display_repr(alloc)?.as_str())?;
+    }
+    Ok(text)
+}
+
+/// Returns ` (nearest key: ..)` for a path that leads nowhere, or nothing if no key is near.
+pub fn hint(alloc: Global, document: &DocumentMut, path: &[Key]) -> Mem<String> {
+    for at in 0..path.len() {
+        let (above, rest) = path.split_at(path.len() - at - 1);
+        if let (Some(item), [missing, ..]) = (document.get_at(above), rest) {
+            return nearest(alloc, item, above, missing);
+        }
+    }
+    Ok(String::new(alloc))
+}
+
+/// Returns the hint at the key of an item whose name is nearest.
+fn nearest(alloc: Global, item: &Item, above: &[Key], missing: &Key) -> Mem<String> {
+    let Some(slots) = item.as_slots() else {
+        return Ok(String::new(alloc));
+    };
+    // At most half of the letters may be others.
+    let mut least = missing.get().len() / 2 + 1;
+    let mut found = None;
+    for slot in slots.as_slice() {
+        let distance = strsim::osa_distance(alloc, slot.key.get(), missing.get())?;
+        if distance < least {
+            least = distance;
+            found = Some(&slot.key);
+        }
+    }
+    match found {
+        Some(key) => {
+            let mut text = String::from_str(alloc, " (nearest key: ")?;
+            for key in above {
+                text.push_str(key.display_repr(alloc)?.as_str())?;
+                text.push('.')?;
+            }
+            text.push_str(key.display_repr(alloc)?.as_str())?;
+            text.push(')')?;
+            Ok(text)
+        }
+        None => Ok(String::new(alloc)),
+    }
+}
