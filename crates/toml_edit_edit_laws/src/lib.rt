@@ -15,74 +15,105 @@ ghost use Rattle.toml_edit_edit_laws.specs.Placing.{AbsentStays, InsertedAt, Ins
 ghost use Rattle.toml_edit_edit_laws.specs.Renaming.{Renamed, RenamedLine, RenamedMeans, RenamedOthers, RenamedStaysMade, RenameRefused};
 ghost use Rattle.toml_edit_edit_laws.specs.Staying.{AfterLinesStays, CommentStays, EditStays, InsertionStays, MoveStays, NothingChanges, OneAfterAnother, RenamingStays};
 
-/// A slot of a steady tree gets another name, which no other slot of its table has: what is printed
-/// elsewhere stays, and of a value one statement changes, by the spelling of that key. All that was
-/// at its path or below it is at the new path. Where another slot has the name, or none has the old
-/// one, the tree stays as it was.
+/// A key of a steady tree gets another name. The tree is steady again.
 pub fn renamed()
+    // A key with a value gets a name that is free in its table.
     ensures value { (mode : Mode) → Renamed mode }
+    // One statement changes: its line has the new name in default spelling, and keeps all else.
     ensures line { (mode : Mode) → RenamedLine mode }
+    // Whatever the item is, the statements outside of the old path are those outside of the new
+    // path, in their order.
     ensures others { (mode : Mode) → RenamedOthers mode }
+    // The meaning is the old one with the new name.
     ensures meaning { RenamedMeans }
+    // The tree stays well made.
     ensures made { RenamedStaysMade }
+    // Where no slot has the old name, or another one has the new name, nothing changes.
     ensures refused { RenameRefused }
 {}
 
-/// The comments of a tree are changed, and so the decors that they are in: the meaning stays. Of
-/// those beside a key and its value, and of those beside a printed header whose new prefix is a
-/// text, one statement changes, by what is before it and after it, and the tree is steady.
+/// The comments of a steady tree are changed, and so the decors that they are in. The tree is steady
+/// again.
 pub fn commented()
+    // The meaning stays, whatever the item is.
     ensures meaning { RecommentedMeans }
+    // The tree stays well made.
     ensures made { RecommentedStaysMade }
+    // The decors of a key and its value change. One statement changes,
     ensures line { (mode : Mode) → LineRecommented mode }
+    // by what is before the line
     ensures before { (mode : Mode) → BeforeLine mode }
+    // and by what is after the value.
     ensures after { (mode : Mode) → AfterLine mode }
+    // The same of a header.
     ensures header_meaning { HeaderRecommentedMeans }
+    // The tree stays well made.
     ensures header_made { HeaderRecommentedStaysMade }
+    // A printed header gets another decor, whose prefix is a text. One statement changes,
     ensures header { (mode : Mode) → HeaderRecommented mode }
+    // by what is before and after the header.
     ensures header_frame { (mode : Mode) → KeepsHeader mode }
+    // Of a table whose header is not printed the printed statements stay.
     ensures hidden { (mode : Mode) → HiddenRecommented mode }
+    // So they do of the root.
     ensures root { (mode : Mode) → RootRecommented mode }
 {}
 
-/// A value is inserted at a place of a table, under a new key: one statement more is printed, at
-/// that place in the table's block, its facts are added to the meaning, and the tree is steady.
+/// A value is inserted at a place of a table of a steady tree. The tree is steady again.
 pub fn inserted()
+    // A value is inserted at an index under a new key, where `added` applies. One statement more is
+    // printed, between those of the slots before that index and those of the others.
     ensures change { (mode : Mode) → InsertedAt mode }
+    // The meaning is the old one, and the facts of the value at its path.
     ensures means { (mode : Mode) → InsertedMeans mode }
+    // The tree stays well made.
     ensures made { InsertedStaysMade }
+    // The slot is at its index.
     ensures stands { InsertedStands }
 {}
 
-/// A slot of a table is moved to a place among the others: its statements and all others keep their
-/// order, the meaning stays, and the tree is steady. A value's statement stands at that place in the
-/// table's block.
+/// A slot of a table of a steady tree is moved to a place among the others. The tree is steady again.
 pub fn moved()
+    // Whatever the item is, the statements outside of its path are the same, in the same order.
     ensures others { (mode : Mode) → MovedOthers mode }
+    // So are those at or below its path.
     ensures inside { (mode : Mode) → MovedInside mode }
+    // A slot with a value moves to an index, in the root or in a table whose header is printed. Its
+    // statement is the same, and is printed there.
     ensures line { (mode : Mode) → MovedLine mode }
+    // The meaning stays.
     ensures means { MovedMeans }
+    // The tree stays well made.
     ensures made { MovedStaysMade }
+    // The slot is at its index.
     ensures stands { MovedStands }
+    // Nothing changes if there is no such slot,
     ensures absent { AbsentStays }
+    // or if it is there already.
     ensures placed { PlacedStays }
 {}
 
-/// A `set_at` at a value, or at a new key of the root or of a table with a printed header, and each
-/// `remove_at` is an edit of a steady tree. At a new key of a table that has lines, such as a dotted
-/// one, `set_at` adds one statement after them. A `rename_at` and a `move_at` rename and move the slot
-/// of a table, or change a value. All statements at other paths stay. Where keys are missing,
-/// `set_at_with_headers` adds a header and the line of the value, and no more.
+/// Says which edit of a steady tree a call by a path is. All statements at other paths stay.
 pub fn path_edits()
+    // A `set_at` at a value, or inside one, replaces it.
     ensures replaces { (mode : Mode) → SetReplaces mode }
+    // At a new key of the root, or of a table with a printed header, it adds a value.
     ensures adds { (mode : Mode) → SetAddsUnder mode }
+    // At a new key of a table that has lines, it adds one statement after them.
     ensures adds_after_lines { (mode : Mode) → SetAddsAfterLines mode }
+    // Where keys are missing, `set_at_with_headers` adds a header and the line of the value.
     ensures adds_table { (mode : Mode) → SetAddsTable mode }
+    // A `remove_at` removes what is there.
     ensures removes { (mode : Mode) → RemoveEdits mode }
+    // A `rename_at` renames a slot of a table, or changes a value.
     ensures renames { (mode : Mode) → RenameEdits mode }
+    // A `move_at` moves a slot of a table, or changes a value.
     ensures moves { (mode : Mode) → MoveEdits mode }
+    // A call after others is one more of them.
     ensures more { OneCallMore }
+    // The empty path names the root,
     ensures root { RootIsNamed }
+    // and each table on the walk has a path that names it.
     ensures named { TablesAreNamed }
 {}
 

@@ -52,20 +52,27 @@ pub fn fault_messages()
     ensures { FaultMessages }
 {}
 
-/// What is computed as being in order is in order: the tables of a tree, the lines of each block, and
-/// the pairs of an inline table.
+/// Says that what is computed as being in order is in order.
 pub fn in_order()
+    // The tables in the order of headers are those of the walk, sorted by a stable sort.
     ensures headers { HeadersInOrder }
+    // The lines of each block of an accepted document are put in the one order in which each goes
+    // before all later ones, by rank where their paths part.
     ensures lines { LinesInOrder }
+    // Likewise the pairs of an inline table, if they agree.
     ensures pairs { PairsInOrder }
 {}
 
-/// The hours and minutes that are taken from the end of a text are those of the offset spelled there.
-/// It is in range exactly if they are those of a day.
+/// Says which texts spell which offset, and which are in range.
 pub fn offsets()
+    // The hours and minutes of an offset are those that are taken from the end of its text.
     ensures clock { ClocksAtEnds }
+    // An offset is in range exactly if it is `Z` or `z`, or a sign with hours below 24 and minutes
+    // below 60.
     ensures range { RealOffsets }
+    // A date-time is in range exactly if its date, time and offset are.
     ensures date_times { RealDatetimes }
+    // A text spells at most one offset.
     ensures one { OneOffset }
 {}
 
@@ -74,10 +81,12 @@ pub fn kept_keys()
     ensures { KeptKeys }
 {}
 
-/// What a tree that fits prints is cut into its printed statements, each within limits and ranges.
-/// A text has at most one cut.
+/// Says that a print is in the grammar, and that a text is read in one way.
 pub fn cut()
+    // The statements that a tree prints, if it is well made and fits, are a cut of its print, each
+    // within limits and ranges.
     ensures print { (mode : Mode) → PrintIsCut mode }
+    // A text has at most one cut.
     ensures one { OneCut }
 {}
 
@@ -92,42 +101,59 @@ pub fn reparse()
     ensures { (mode : Mode) → PrintsMeanWhatIsShown mode }
 {}
 
-/// The ways from the root of a tree lead to the tables that the walk enters, and to no others.
+/// Says that ways lead to the tables of the walk, and to no others.
 pub fn ways()
+    // Each table on the walk of a well-made tree has a way to it.
     ensures reached { Reached }
+    // Each way leads to a table on the walk.
     ensures entered { Entered }
 {}
 
-/// The tree of a text, with owned texts, is steady. A tree that is steady in one mode is so in the
-/// other.
+/// Says of which trees an edit stays local.
 pub fn steady()
+    // Each tree of a document with owned texts is steady.
     ensures texts { (mode : Mode) → TextsAreSteady mode }
+    // A tree that is steady in one mode is so in the other.
     ensures modes { SteadyInEachMode }
 {}
 
-/// A value of a steady tree is replaced, in a table that the walk enters: one printed statement
-/// changes, and the tree is steady.
+/// A value of a steady tree is replaced, in a table of the walk. The tree is steady again.
 pub fn replaced()
+    // A value under a key is replaced by one that is no dotted inline table, and its key perhaps
+    // made anew with the same name. One statement changes, the line of that value: the only one at
+    // or below its path.
     ensures change { (mode : Mode) → Replaced mode }
+    // If the new value has the decor of the old one and the keys stay, only the value of that line
+    // changes.
     ensures frame { (mode : Mode) → KeepsFrame mode }
+    // Which calls of a table on a present key are such an edit.
     ensures calls { CallsOnPresent }
+    // So is a write to what `index_or_insert` lends.
     ensures index { IndexWrites }
+    // The tree stays well made.
     ensures made { ReplacedStaysMade }
 {}
 
-/// A value is added under a new key, in the root or in a table that has a header: one statement
-/// more is printed, after the others of that block, and the tree is steady.
+/// A value is added to a steady tree, under a new key. The tree is steady again.
 pub fn added()
+    // A value that is no dotted inline table is added under a new key, in the root or in a table
+    // whose header is printed. One statement more is printed, after the others of that table.
     ensures change { (mode : Mode) → Added mode }
+    // Which calls of a table on a missing key are such an edit.
     ensures calls { CallsOnAbsent }
+    // The tree stays well made.
     ensures made { AddedStaysMade }
 {}
 
-/// A slot is removed, of a table that the walk enters, or an element of an array of tables: its
-/// statements are printed no more, nor those of all below it, and the tree is steady.
+/// Something is removed from a steady tree, in a table of the walk. The tree is steady again.
 pub fn removed()
+    // A slot is removed, whatever its item. The statements at or below its path go, each with the
+    // trivia before it; all others stay, in their order.
     ensures slot { (mode : Mode) → Removed mode }
+    // An element of an array of tables is removed, with the same result. Later elements get other
+    // numbers.
     ensures element { (mode : Mode) → RemovedElement mode }
+    // The tree stays well made.
     ensures slot_made { RemovedStaysMade }
     ensures element_made { RemovedElementStaysMade }
 {}
@@ -139,11 +165,14 @@ pub fn edits()
     ensures { (mode : Mode) → EditsStayLocal mode }
 {}
 
-/// The normal text of an accepted text is accepted, means the same and is settled; that of a
-/// settled text is the text. The tree of an accepted document, with owned texts, prints it, and the
-/// cut of that print is the normal form.
+/// Says what an unchanged document prints, and that printing again changes nothing. The cut of that
+/// print is the normal form.
 pub fn normal()
+    // The normal text of an accepted text is accepted, means the same and is settled. That of a
+    // settled text is the text itself.
     ensures texts { (mode : Mode) → NormalTexts mode }
+    // The owned tree of an accepted document prints its normal text. In exact mode the end is open
+    // if that of the document is.
     ensures print { (mode : Mode) → PrintOfRead mode }
 {}
 
@@ -155,17 +184,20 @@ pub fn open_ends()
     ensures prints { OpenPrints }
 {}
 
-/// What a version of the grammar accepts, TOML 1.1 accepts by the same cut; what it refuses has a
-/// fault in its first faulty statement. The normal text of what a version accepts, and the print of
-/// its tree, are accepted by that version.
+/// Says how TOML 1.0 and 1.1 are related, and that what is written stays TOML 1.0.
 pub fn versions_accept()
+    // What a version accepts, TOML 1.1 accepts by the same cut.
     ensures later { LaterAccepts }
+    // In each version the first faulty statement has a fault.
     ensures faults { FaultsInVersions }
+    // The normal text of what a version accepts is accepted by it.
     ensures normal { (mode : Mode) → NormalTextsStay mode }
+    // So is the print of its tree.
     ensures print { (mode : Mode) → PrintsStay mode }
 {}
 
-/// A statement has a part that needs TOML 1.1 exactly where it needs it.
+/// A statement has a place that needs TOML 1.1 exactly if the test says that it needs 1.1: the place
+/// that `needs TOML 1.1` marks.
 pub fn late_places()
     ensures { LateHavePlaces }
 {}
