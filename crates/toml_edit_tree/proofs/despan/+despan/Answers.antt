@@ -1,5 +1,6 @@
 -- Each place in owned form.
 use mathlib.Core.Logic.{∥∥₁_map}
+use denote.Hole.Carrier.{out}
 use denote.Param.Weighed.{most}
 use Rattle.std.proofs.Common.{◌≡◌, ◌<◌, ◌≤◌, ◌+◌, ℤ, Bool, String, string_bytes, Option, Some, length, map, get_or, set, slice_get}
 use Rattle.std.proofs.Common.{option_map, arith, sym, ap, subst, ◌∙◌}
@@ -12,18 +13,20 @@ use Rattle.toml_edit_datetime.specs.DatetimeView.{datetime_view}
 use Rattle.toml_edit_datetime.specs.declared.datetime.Datetime as code
 use Rattle.toml_edit_repr.specs.Views.{FormattedView}
 use Rattle.toml_edit_slots.specs.Slots.{items_of, on_item, with_item}
-use Rattle.toml_edit_tree.specs.Containers.{tree_slots}
+use Rattle.toml_edit_tree.specs.Containers.{array_node, inline_node, tree_slots}
 use Rattle.toml_edit_model.specs.Lists.{items_from}
 use Rattle.toml_edit_tree.specs.declared.item.Item.{size-Item}
+use Rattle.toml_edit_tree.specs.declared.item.Item.TheViews.{out-Value}
 use Rattle.toml_edit_tree.specs.declared.value.Value.{Value}
-use Rattle.toml_edit_tree.specs.View.{item_view, value_view}
-use Rattle.toml_edit_tree.proofs.DespanLaws.{both-changed, deepest, deepest_item, item_depth, item-fits, item-spelled, item-there}
+use Rattle.toml_edit_tree.specs.declared.value.Value.TheVariants as values
+use Rattle.toml_edit_tree.specs.View.{array_view, inline_view, item_view, value_view}
+use Rattle.toml_edit_tree.proofs.DespanLaws.{both-changed, deepest, deepest_item, if_done, item_depth, item-fits, item-spelled, item-there}
 use Rattle.toml_edit_tree.proofs.DespanLaws.{key-spelled, no_slot, owned-items, owned-slots, owned_slot, slot-fits, slot-spelled}
 use Rattle.toml_edit_tree.proofs.DespanLaws.{slot-there, slot_depth}
 use Rattle.toml_edit_tree.proofs.InPlace.{Done, finish, long_as, none_done, same, step}
-use Rattle.toml_edit_tree.proofs.ViewLaws.{view-Boolean, view-Datetime, view-Float, view-Integer, view-String}
+use Rattle.toml_edit_tree.proofs.ViewLaws.{view-Array, view-Boolean, view-Datetime, view-Float, view-InlineTable, view-Integer, view-String}
 use Rattle.toml_edit_tree.proofs.despan.+despan.Goals as goal
-use Rattle.toml_edit_model.specs.OwnedForm.{KeyFits, NodeFits, owned_key, owned_node, owned_raw}
+use Rattle.toml_edit_model.specs.OwnedForm.{KeyFits, NodeFits, owned_decor, owned_key, owned_node, owned_raw}
 
 -- ---- items
 
@@ -202,3 +205,64 @@ despan_value-despan-requires-in-Datetime-clause-spelled t c =
     λ f. ∥ HasTrueSpelling (SpellsInRange (datetime (datetime_view f.value))) (option_map (owned_raw s) f.repr) ∥₁ in
     subst P (sym c.in-Datetime.scalar-is)
     (spelled s c.args.value.now _ _ _ (ap value_view c.in-Datetime.is ∙ view-Datetime c.in-Datetime.scalar) c.requires.1.1.1)
+
+-- a scalar in owned form
+abbrev owned_scalar : {A : Type 0} → Text → FormattedView A → FormattedView A
+owned_scalar t f = record { value = f.value; repr = option_map (owned_raw t) f.repr; decor = owned_decor t f.decor }
+
+owned-leaf : {A : Type 0} (make : FormattedView A → Value) (s : A → Scalar)
+    → ((f : FormattedView A) → value_view (make f) ≡ leaf (s f.value) f.repr f.decor)
+    → (t : Text) (was old new : FormattedView A) → was ≡ old → new ≡ owned_scalar t was
+    → value_view (make new) ≡ owned_node t (value_view (make old))
+owned-leaf make s view t was old new same made =
+    view new ∙ ap (λ f. leaf (s f.value) f.repr f.decor) (made ∙ ap (owned_scalar t) same) ∙ sym (ap (owned_node t) (view old))
+
+pub despan_value-returns-in-String : goal.despan_value-returns-in-String
+unfolding out-Value out
+despan_value-returns-in-String t c =
+    rw c.in-String.is (if_done c.despan.result c.despan.ensures.ok
+    (owned-leaf values.String (λ s. string (string_bytes s)) view-String _ _ c.in-String.scalar c.despan.new.self c.in-String.scalar-is))
+
+pub despan_value-returns-in-Integer : goal.despan_value-returns-in-Integer
+unfolding out-Value out
+despan_value-returns-in-Integer t c =
+    rw c.in-Integer.is (if_done c.despan-in-Integer.result c.despan-in-Integer.ensures.ok
+    (owned-leaf values.Integer (λ z. integer z) view-Integer _ _ c.in-Integer.scalar c.despan-in-Integer.new.self c.in-Integer.scalar-is))
+
+pub despan_value-returns-in-Float : goal.despan_value-returns-in-Float
+unfolding out-Value out
+despan_value-returns-in-Float t c =
+    rw c.in-Float.is (if_done c.despan-in-Float.result c.despan-in-Float.ensures.ok
+    (owned-leaf values.Float (λ t. float t) view-Float _ _ c.in-Float.scalar c.despan-in-Float.new.self c.in-Float.scalar-is))
+
+pub despan_value-returns-in-Boolean : goal.despan_value-returns-in-Boolean
+unfolding out-Value out
+despan_value-returns-in-Boolean t c =
+    rw c.in-Boolean.is (if_done c.despan-in-Boolean.result c.despan-in-Boolean.ensures.ok
+    (owned-leaf values.Boolean (λ b. boolean b) view-Boolean _ _ c.in-Boolean.scalar c.despan-in-Boolean.new.self c.in-Boolean.scalar-is))
+
+pub despan_value-returns-in-Datetime : goal.despan_value-returns-in-Datetime
+unfolding out-Value out
+despan_value-returns-in-Datetime t c =
+    rw c.in-Datetime.is (if_done c.despan-in-Datetime.result c.despan-in-Datetime.ensures.ok
+    (owned-leaf values.Datetime (λ d. datetime (datetime_view d)) view-Datetime _ _ c.in-Datetime.scalar c.despan-in-Datetime.new.self c.in-Datetime.scalar-is))
+
+-- ---- containers
+
+pub despan_value-returns-in-Array : goal.despan_value-returns-in-Array
+unfolding out-Value out
+despan_value-returns-in-Array t c =
+    let s = c.args.source.now in
+    let array = c.in-Array.array in
+    rw c.in-Array.is (if_done c.despan_array.result c.despan_array.ensures
+    (λ e. view-Array c.despan_array.new.array ∙ e ∙ ap (λ a. owned_node s (array_node (array_view a))) c.in-Array.array-is
+    ∙ sym (ap (owned_node s) (view-Array array))))
+
+pub despan_value-returns-in-InlineTable : goal.despan_value-returns-in-InlineTable
+unfolding out-Value out
+despan_value-returns-in-InlineTable t c =
+    let s = c.args.source.now in
+    let table = c.in-InlineTable.table in
+    rw c.in-InlineTable.is (if_done c.despan_inline.result c.despan_inline.ensures
+    (λ e. view-InlineTable c.despan_inline.new.table ∙ e ∙ ap (λ a. owned_node s (inline_node (inline_view a))) c.in-InlineTable.table-is
+    ∙ sym (ap (owned_node s) (view-InlineTable table))))
