@@ -8,6 +8,7 @@ use Rattle.toml_edit_tree.specs.View.{item_view, items_view, value_view}
 use Rattle.toml_edit_tree.proofs.PairTextLaws.{pair-last, pair-shown}
 use Rattle.toml_edit_tree.proofs.TurnLaws.{items-end, last-turn, other-turn, pairs-turn, value-turn}
 use Rattle.toml_edit_tree.proofs.ValueLines.{array-text, braced-line, inline-table-text, other-line}
+use Rattle.toml_edit_tree.proofs.ViewLaws.{view-Array, view-Boolean, view-Datetime, view-Float, view-InlineTable, view-Integer, view-String}
 use Rattle.toml_edit_tree.proofs.encode.+print.Goals as goal
 use Rattle.toml_edit_tree.proofs.encode.+print.Goals.{put_items-in-Value, put_items-in_default}
 use Rattle.toml_edit_laws.specs.PrintByVisits.{element_text, pairs_shown, written_items}
@@ -105,3 +106,39 @@ put_value_pairs-returns-in_default g t c =
       text = put_same _ _ _ _ c.put_pair-in_default.ensures
           (sym (pair-shown (mode_of c.args.mode) ks k n alone (option_copied c.args.before)));
     }
+
+-- the values
+pub put_value_text-returns-in-String : goal.put_value_text-returns-in-String
+put_value_text-returns-in-String g t c =
+    put_same _ _ _ _ c.put_scalar.ensures
+    (sym (ap (node_text (mode_of c.args.mode)) (ap value_view c.in-String.is ∙ view-String c.in-String.scalar)))
+
+pub put_value_text-returns-in-Integer : goal.put_value_text-returns-in-Integer
+put_value_text-returns-in-Integer g t c =
+    put_same _ _ _ _ c.put_scalar-in-Integer.ensures
+    (sym (ap (node_text (mode_of c.args.mode)) (ap value_view c.in-Integer.is ∙ view-Integer c.in-Integer.scalar)))
+
+pub put_value_text-returns-in-Float : goal.put_value_text-returns-in-Float
+put_value_text-returns-in-Float g t c =
+    put_same _ _ _ _ c.put_scalar-in-Float.ensures
+    (sym (ap (node_text (mode_of c.args.mode)) (ap value_view c.in-Float.is ∙ view-Float c.in-Float.scalar)))
+
+pub put_value_text-returns-in-Boolean : goal.put_value_text-returns-in-Boolean
+put_value_text-returns-in-Boolean g t c =
+    put_same _ _ _ _ c.put_scalar-in-Boolean.ensures
+    (sym (ap (node_text (mode_of c.args.mode)) (ap value_view c.in-Boolean.is ∙ view-Boolean c.in-Boolean.scalar)))
+
+pub put_value_text-returns-in-Datetime : goal.put_value_text-returns-in-Datetime
+put_value_text-returns-in-Datetime g t c =
+    put_same _ _ _ _ c.put_scalar-in-Datetime.ensures
+    (sym (ap (node_text (mode_of c.args.mode)) (ap value_view c.in-Datetime.is ∙ view-Datetime c.in-Datetime.scalar)))
+
+pub put_value_text-returns-in-Array : goal.put_value_text-returns-in-Array
+put_value_text-returns-in-Array g t c =
+    put_same _ _ _ _ c.put_array_text.ensures
+    (sym (ap (node_text (mode_of c.args.mode)) (ap value_view c.in-Array.is ∙ view-Array c.in-Array.array)))
+
+pub put_value_text-returns-in-InlineTable : goal.put_value_text-returns-in-InlineTable
+put_value_text-returns-in-InlineTable g t c =
+    put_same _ _ _ _ c.put_inline_text.ensures
+    (sym (ap (node_text (mode_of c.args.mode)) (ap value_view c.in-InlineTable.is ∙ view-InlineTable c.in-InlineTable.table)))
