@@ -1,5 +1,5 @@
-//! Tests of what no row of `test_rows` can say: equality, order and hash, `Display`, and calls
-//! on large tables.
+//! Tests of what no row of `test_rows` can say: equality, order and hash, `Display`, owned texts,
+//! and calls on large tables.
 //!
 //! Each test fails if calls do nothing. Functions that are generic in a type own what is made, and
 //! are proved once: a test passes it to them.
@@ -22,6 +22,8 @@ mod mixed;
 mod slots;
 #[cfg(test)]
 mod spans;
+#[cfg(test)]
+mod texts;
 
 use std::hash::{DefaultHasher, Hash, Hasher};
 

@@ -8,8 +8,6 @@ mod deed;
 mod leaked_text;
 mod shown;
 mod strip;
-#[cfg(test)]
-mod tests;
 
 pub use boxed_text::BoxedText;
 pub use leaked_text::LeakedText;
