@@ -1,5 +1,5 @@
 //! The ends of keys and scalars.
-ghost use Rattle.std.specs.Prelude.{◌≡◌, ◌≤◌, ◌++◌, true, Some, length, take, drop, is_some, option_map, IfSome};
+ghost use Rattle.std.specs.Prelude.{◌≡◌, ◌<◌, ◌≤◌, ◌++◌, true, Some, length, take, drop, is_some, option_map, IfSome};
 ghost use Rattle.toml_edit_model.specs.Text.{Text};
 ghost use Rattle.toml_edit_model.specs.Scalars.{Scalar};
 ghost use Rattle.toml_edit_model.specs.Spelling.{SpellsKey, Spells};
@@ -42,6 +42,15 @@ fn after_run_or_string(s: &str) -> Option<&str>
     }
 }
 
+/// Returns `true` if a run of so many bytes at the front is a date, and a space and a digit follow.
+fn goes_on(s: &str, run: usize) -> bool
+    ensures result { result ≡ scalar.goes_on run s.now }
+    ensures within { result ≡ true → 11 < length s.now }
+{
+    let is_date = run == 10 && byte_at(s, 4) == b'-' && byte_at(s, 7) == b'-';
+    is_date && byte_at(s, 10) == b' ' && byte_at(s, 11).is_ascii_digit()
+}
+
 /// Returns the number of bytes of the word at the front: a run, or a date, a space and the run of a
 /// time.
 #[tactic(auto, unfolding(toml_edit_laws::specs::reading::ScalarReading::word_len))]
@@ -50,8 +59,7 @@ fn word_len(s: &str) -> usize
     ensures within { result ≤ length s.now }
 {
     let run = run_len(s.as_bytes(), Class::Word);
-    let is_date = run == 10 && byte_at(s, 4) == b'-' && byte_at(s, 7) == b'-';
-    if is_date && byte_at(s, 10) == b' ' && byte_at(s, 11).is_ascii_digit() {
+    if goes_on(s, run) {
         11 + run_len(&s.as_bytes()[11..], Class::Word)
     } else {
         run
