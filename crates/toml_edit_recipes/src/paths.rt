@@ -2,7 +2,7 @@
 ghost use Rattle.std.specs.Prelude.{◌≡◌, IfOk, IsTrue, None, OnErr, option_and_then, option_map};
 ghost use Rattle.toml_edit.specs.DocumentView.{tree_owned};
 ghost use Rattle.toml_edit.specs.change.Changes.{Changes};
-ghost use Rattle.toml_edit.specs.change.Headed.{set_at_with_headers};
+ghost use Rattle.toml_edit.specs.edits.Headed.{set_at_with_headers};
 ghost use Rattle.toml_edit.specs.edits.Commands.{Refusal, done, item_at, refused, set_at};
 ghost use Rattle.toml_edit.specs.model.Scalars.{string};
 ghost use Rattle.toml_edit.specs.model.Tree.{leaf, unset};
