@@ -206,6 +206,7 @@ class Check:
     def numbers(self):
         """The numbers that pages may give, by their words."""
         found = {"rows": 0, "edits": len(self.matching("crates/*/must-fail/*.edit")), "crates": len(sources.crates())}
+        found["edits of a tool"] = len(self.matching("tools/edits/*.edit"))
         for program in ROWS:
             lines = read("%s/crates/%s/stdin" % (TOP, program)).split("\n")
             count = sum(1 for line in lines if line.strip() and not line.startswith("#"))
@@ -248,10 +249,11 @@ class Check:
                 self.fault("docs/ASSURANCE.md", 1, "no page says how many %s there are" % word)
 
     def edits(self):
-        """Each must-fail edit still fits."""
-        for name in self.matching("crates/*/must-fail/*"):
-            crate, texts, changed = "/".join(name.split("/")[:2]), {}, set()
-            if not name.endswith(".edit") or name.count("/") != 3:
+        """Each must-fail edit still fits, those that the gate does not try too."""
+        for name in [*self.matching("crates/*/must-fail/*"), *self.matching("tools/edits/*")]:
+            parts = name.split("/")
+            crate, texts, changed = "crates/" + parts[1 if parts[0] == "crates" else 2], {}, set()
+            if not name.endswith(".edit") or len(parts) != 4:
                 self.fault(name, 1, "is no must-fail edit")
             for number, (path, old, new) in enumerate(pairs_of(read(TOP + "/" + name)), 1):
                 file = crate + "/" + path
