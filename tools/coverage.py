@@ -61,6 +61,7 @@ REASONS = {
     "toml_edit_model::definitions": LAW,
     "toml_edit_laws::*": LAW,
     "toml_edit_edit_laws::*": LAW,
+    "toml_edit_fmt_laws::*": LAW,
     "toml_edit_fits::laws::*": LAW,
     "*FaultFrom::from": REFUSED,
     "toml_edit_syntax::StopFrom::from": REFUSED,

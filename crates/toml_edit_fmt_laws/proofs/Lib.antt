@@ -1,0 +1,10 @@
+mod Spacing
+mod Rows
+mod PlaceLaws
+mod Ends
+mod Means
+mod Accepts
+mod Again
+mod Grammar
+mod Remarked
+mod Off

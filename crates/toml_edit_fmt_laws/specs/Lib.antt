@@ -1,0 +1,8 @@
+-- Cited by the laws.
+pub mod Rules
+pub mod Laying
+pub mod Formatted
+pub mod Remarks
+pub mod Promises
+-- Worked examples: nothing cites them.
+pub mod examples

@@ -1,0 +1,3 @@
+-- Worked layouts of places, and of documents with their comments.
+pub mod Places
+pub mod Documents

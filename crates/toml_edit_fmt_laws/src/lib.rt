@@ -1,0 +1,22 @@
+//! Laws about formatted documents, over the definitions alone: `specs/` has words for what a
+//! formatter does to a document, and `proofs/` the lemmas.
+#![tactic(auto)]
+
+ghost use Rattle.toml_edit_fmt_laws.specs.Promises.{AcceptedAlike, FormattedAgain, KeepsRemarks, MeansTheSame, OffChangesNothing, PlacesAreLaid, StaysDocument};
+
+/// A formatted document means what the document means, and is accepted where that is. It has the same
+/// comments in the same order, each with what it belongs to. Formatted again it stays, and without
+/// any rule nothing changes.
+pub fn formatted()
+    ensures grammar { StaysDocument }
+    ensures accepted { AcceptedAlike }
+    ensures means { MeansTheSame }
+    ensures comments { KeepsRemarks }
+    ensures again { FormattedAgain }
+    ensures off { OffChangesNothing }
+{}
+
+/// What is laid out at a place is trivia with the same comments, and laid out again it stays.
+pub fn layouts()
+    ensures { PlacesAreLaid }
+{}
