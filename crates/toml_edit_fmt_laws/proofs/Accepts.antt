@@ -111,7 +111,7 @@ module _ (r : Rules) where
   source_at : Frame → Value → PairSource
   source_at f v = record { frame = f; value = v }
 
-  pair-cores : (l : Layout) (i : Text) (comma is_first : Bool) (m n : ℕ) (ps : Pairs)
+  pub pair-cores : (l : Layout) (i : Text) (comma is_first : Bool) (m n : ℕ) (ps : Pairs)
       → map cores (pair_mentions m (laid_pairs r l i comma is_first ps)) ≡ map cores (pair_mentions n ps)
   unfolding source_at
   pair-cores l i comma is_first m n no_pairs = refl
@@ -179,7 +179,7 @@ module _ (r : Rules) where
       by_source d (key_line f v end) = refl
       by_source d (header h end) = refl
 
-  statement-cores : (c e : Context) (s : Bool) (keys : ℕ) (st : Statement) → SameContext r c e
+  pub statement-cores : (c e : Context) (s : Bool) (keys : ℕ) (st : Statement) → SameContext r c e
       → cores (mentions_of c (laid_statement r s keys st)) ≡ cores (mentions_of e st)
   statement-cores c e s keys (key_line f v end) h =
       let t = laid_statement r s keys (key_line f v end) in

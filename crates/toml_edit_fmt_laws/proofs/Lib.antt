@@ -8,3 +8,7 @@ mod Again
 mod Grammar
 mod Remarked
 mod Off
+mod Shown
+mod Tags
+mod Settled
+mod Round

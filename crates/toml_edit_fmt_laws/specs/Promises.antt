@@ -1,9 +1,12 @@
 -- What formatting promises of a document.
-use Rattle.std.specs.Prelude.{◌≡◌, Bool, false, None}
-use Rattle.toml_edit_model.specs.Accepted.{is_accepted}
+use Rattle.std.specs.Prelude.{◌≡◌, Bool, true, false, None}
+use Rattle.toml_edit_model.specs.Accepted.{AcceptedAs, is_accepted}
 use Rattle.toml_edit_model.specs.Comments.{comments}
-use Rattle.toml_edit_model.specs.Meaning.{meaning}
-use Rattle.toml_edit_model.specs.Syntax.{Document, IsDocument}
+use Rattle.toml_edit_model.specs.Meaning.{SameFacts, meaning}
+use Rattle.toml_edit_model.specs.Mode.{Mode, plain}
+use Rattle.toml_edit_model.specs.Normal.{normal_in}
+use Rattle.toml_edit_model.specs.Settled.{is_settled_in}
+use Rattle.toml_edit_model.specs.Syntax.{Document, IsCut, IsDocument, document_text}
 use Rattle.toml_edit_model.specs.Text.{Text}
 use Rattle.toml_edit_model.specs.Trivia.{IsWhiteSpace, IsWholeTrivia}
 use Rattle.toml_edit_fmt_laws.specs.Rules.{Rules, as_it_is}
@@ -63,3 +66,25 @@ pub record IsOff (r : Rules) : Type 0 where
 -- Then nothing changes.
 abbrev pub OffChangesNothing : Type 0
 OffChangesNothing = (r : Rules) → IsOff r → (d : Document) → laid_document r d ≡ d
+
+-- A settled document stays settled, where no newline is made with a CR that the mode does not show.
+abbrev pub StaysSettled : Type 0
+StaysSettled =
+    (mode : Mode) (r : Rules) (d : Document)
+    → (mode ≡ plain → r.returns ≡ false) → is_settled_in mode d ≡ true
+    → is_settled_in mode (laid_document r d) ≡ true
+
+-- What is formatted of this accepted document: the text is accepted, means the same, and what is read
+-- from it is formatted as the same text.
+pub record IsFormattedText (mode : Mode) (r : Rules) (d e : Document) : Type 0 where
+  pub accepted : AcceptedAs (document_text e) e
+  pub means : SameFacts (meaning e) (meaning d)
+  pub again : (other : Document) → IsCut other (document_text e)
+      → document_text (laid_document r (normal_in mode other)) ≡ document_text e
+
+-- So it is of the normal form of each accepted text, which is what its tree prints.
+abbrev pub FormattedTextAgain : Type 0
+FormattedTextAgain =
+    (mode : Mode) (r : Rules) → (mode ≡ plain → r.returns ≡ false)
+    → (t : Text) (d : Document) → AcceptedAs t d
+    → IsFormattedText mode r d (laid_document r (normal_in mode d))

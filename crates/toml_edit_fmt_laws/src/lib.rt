@@ -2,7 +2,7 @@
 //! formatter does to a document, and `proofs/` the lemmas.
 #![tactic(auto)]
 
-ghost use Rattle.toml_edit_fmt_laws.specs.Promises.{AcceptedAlike, FormattedAgain, KeepsRemarks, MeansTheSame, OffChangesNothing, PlacesAreLaid, StaysDocument};
+ghost use Rattle.toml_edit_fmt_laws.specs.Promises.{AcceptedAlike, FormattedAgain, FormattedTextAgain, KeepsRemarks, MeansTheSame, OffChangesNothing, PlacesAreLaid, StaysDocument, StaysSettled};
 
 /// A formatted document means what the document means, and is accepted where that is. It has the same
 /// comments in the same order, each with what it belongs to. Formatted again it stays, and without
@@ -19,4 +19,11 @@ pub fn formatted()
 /// What is laid out at a place is trivia with the same comments, and laid out again it stays.
 pub fn layouts()
     ensures { PlacesAreLaid }
+{}
+
+/// What is formatted of the normal form of an accepted text is accepted, means the same and is
+/// settled, and what is read from its text is formatted as that text, byte for byte.
+pub fn formatted_texts()
+    ensures settled { StaysSettled }
+    ensures again { FormattedTextAgain }
 {}
