@@ -39,23 +39,23 @@ pub fn commented()
     ensures meaning { RecommentedMeans }
     // The tree stays well made.
     ensures made { RecommentedStaysMade }
-    // The decors of a key and its value change. One statement changes,
+    // The decors of a key and its value change. One statement changes.
     ensures line { (mode : Mode) → LineRecommented mode }
-    // by what is before the line
+    // Its line changes by what is before it.
     ensures before { (mode : Mode) → BeforeLine mode }
-    // and by what is after the value.
+    // Its line changes by what is after the value.
     ensures after { (mode : Mode) → AfterLine mode }
-    // The same of a header.
+    // The meaning stays when the decor of a header changes.
     ensures header_meaning { HeaderRecommentedMeans }
     // The tree stays well made.
     ensures header_made { HeaderRecommentedStaysMade }
-    // A printed header gets another decor, whose prefix is a text. One statement changes,
+    // A printed header gets another decor, whose prefix is a text. One statement changes.
     ensures header { (mode : Mode) → HeaderRecommented mode }
-    // by what is before and after the header.
+    // That statement changes by what is before and after the header.
     ensures header_frame { (mode : Mode) → KeepsHeader mode }
     // Of a table whose header is not printed the printed statements stay.
     ensures hidden { (mode : Mode) → HiddenRecommented mode }
-    // So they do of the root.
+    // The printed statements stay when the decor of the root changes.
     ensures root { (mode : Mode) → RootRecommented mode }
 {}
 
@@ -76,7 +76,7 @@ pub fn inserted()
 pub fn moved()
     // Whatever the item is, the statements outside of its path are the same, in the same order.
     ensures others { (mode : Mode) → MovedOthers mode }
-    // So are those at or below its path.
+    // The statements at or below its path are the same, too.
     ensures inside { (mode : Mode) → MovedInside mode }
     // A slot with a value moves to an index, in the root or in a table whose header is printed. Its
     // statement is the same, and is printed there.
@@ -87,9 +87,9 @@ pub fn moved()
     ensures made { MovedStaysMade }
     // The slot is at its index.
     ensures stands { MovedStands }
-    // Nothing changes if there is no such slot,
+    // Nothing changes if there is no such slot.
     ensures absent { AbsentStays }
-    // or if it is there already.
+    // Nothing changes if the slot is there already.
     ensures placed { PlacedStays }
 {}
 
@@ -111,9 +111,9 @@ pub fn path_edits()
     ensures moves { (mode : Mode) → MoveEdits mode }
     // A call after others is one more of them.
     ensures more { OneCallMore }
-    // The empty path names the root,
+    // The empty path names the root.
     ensures root { RootIsNamed }
-    // and each table on the walk has a path that names it.
+    // The path of a table that a table holds is longer by its key.
     ensures named { TablesAreNamed }
 {}
 
