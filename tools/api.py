@@ -399,10 +399,23 @@ class Pages:
                 if functions:
                     text += "\n" + self.words([(item, uses_of(item.module.items)) for item in functions])
                 pages[page_of_module(name)] = text.rstrip() + "\n"
+        pages["crates.md"] = crates()
         pages["README.md"] = self.index(pages)
         if len({name.lower() for name in pages}) != len(pages):
             self.faults.append("docs/api: two pages whose names differ only in case")
         return pages
+
+
+def crates():
+    """The crates of the repository, with what each says of itself and what it depends on."""
+    text, listed = MADE + "# The crates\n\nLowest first.\n\n| Crate | Holds | Stands on |\n|---|---|---|\n", sources.crates()
+    for name, depends in listed.items():
+        root = next(path for path in ("crates/%s/src/%s.rt" % (name, root) for root in ("lib", "main")) if os.path.exists(TOP + "/" + path))
+        docs = [line[3:].strip() for line in sources.read(TOP + "/" + root).split("\n") if line.startswith("//!")]
+        first = " ".join(docs[: docs.index("") if "" in docs else len(docs)]).replace("|", "\\|")
+        below = ", ".join("`%s`" % other for other in depends)
+        text += "| [`%s`](../../%s) | %s | %s |\n" % (name, root, first, below)
+    return text
 
 
 def quoted(found):
