@@ -10,3 +10,4 @@ pub mod PathLaws
 pub mod RootLaws
 pub mod SameLaws
 pub mod ViewedSlots
+pub mod staying

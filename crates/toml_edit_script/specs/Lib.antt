@@ -6,3 +6,6 @@ pub mod Slots
 pub mod Lists
 pub mod Along
 pub mod LinesStay
+pub mod OthersStay
+-- Worked examples: nothing cites them.
+pub mod examples

@@ -40,3 +40,8 @@ Applies es old new (Ok u) = applied es old ≡ Ok new
 Applies es old new (Err f) =
     (e : Edit) × (slice_get es f.at ≡ Some e) × (applied (take f.at es) old ≡ Ok new)
     × ((f.fault ≡ Memory) ⊎ (effect e new ≡ Err f.fault))
+
+-- the edits that were made: all, or those before the one that is refused
+abbrev pub made_of : List Edit → Result (Unit {0}) ScriptFault → List Edit
+made_of es (Ok u) = es
+made_of es (Err f) = take f.at es

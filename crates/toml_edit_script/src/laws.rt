@@ -1,6 +1,7 @@
 //! Laws of what edits leave.
 ghost use Rattle.toml_edit_model.specs.Mode.{Mode};
 ghost use Rattle.toml_edit_script.specs.LinesStay.{InsertedLines, RemovedLines};
+ghost use Rattle.toml_edit_script.specs.OthersStay.{AppliedStay, HeaderAddsTable};
 
 /// Where the values of an array have lines of their own, the print of the array after a value is
 /// inserted with its line, by [`Edit::Append`](crate::Edit::Append) or
@@ -9,4 +10,18 @@ ghost use Rattle.toml_edit_script.specs.LinesStay.{InsertedLines, RemovedLines};
 pub fn lines_stay()
     ensures inserted { (mode : Mode) → InsertedLines mode }
     ensures removed { (mode : Mode) → RemovedLines mode }
+{}
+
+/// Edits that are made in a steady tree, one after another, leave all statements as they were, byte
+/// for byte and in their order, but those at the paths that the edits name, and below them. The tree
+/// is steady again. Each value is put where one is, or in one, or under a new key of the root, of a
+/// table with a printed header or of one that has lines. What is moved stays in its table.
+pub fn others_stay()
+    ensures edits { (mode : Mode) → AppliedStay mode }
+{}
+
+/// An [`Edit::Header`](crate::Edit::Header) of which tables are missing leaves all statements of a
+/// steady tree as they were, and adds one table: its header and the line of the value.
+pub fn header_adds()
+    ensures table { (mode : Mode) → HeaderAddsTable mode }
 {}

@@ -1,15 +1,19 @@
 //! Making edits.
+ghost use Rattle.std.specs.Prelude.{[], ◌∷◌, OnOk};
+ghost use Rattle.toml_edit_model.specs.Mode.{Mode};
 ghost use Rattle.toml_edit_tree.specs.View.{value_view};
 ghost use Rattle.toml_edit.specs.DocumentView.{IsPrintedAs, tree_owned};
 ghost use Rattle.toml_edit_model.specs.Keys.{names};
 ghost use Rattle.toml_edit_script.specs.Effects as effects;
-ghost use Rattle.toml_edit_script.specs.Lists.{Applies, effect};
+ghost use Rattle.toml_edit_script.specs.Lists.{Applies, effect, made_of};
+ghost use Rattle.toml_edit_script.specs.OthersStay.{OthersStay};
 ghost use Rattle.toml_edit_script.specs.Outcomes.{Makes};
 
 use crate::arrays::{append, insert, take};
 use crate::edit::Edit;
 use crate::fault::{EditFault, ScriptFault};
 use crate::keys::{comment, rename, sort};
+use crate::laws::others_stay;
 use crate::moves::relocate;
 use std::alloc::Global;
 use toml_edit::{DocumentMut, Key, Value};
@@ -22,9 +26,21 @@ use toml_edit::{DocumentMut, Key, Value};
 pub fn apply(alloc: Global, document: &mut DocumentMut, edits: &[Edit]) -> Result<(), ScriptFault>
     ensures applies { Applies edits.now (tree_owned document.old) (tree_owned document.new) result }
     ensures printed { IsPrintedAs document.new document.old }
+    // In a steady tree all statements stay but those that the edits name.
+    ensures stays { (mode : Mode) → OthersStay mode (made_of edits.now result)
+        (tree_owned document.old) (tree_owned document.new) }
+{
+    others_stay();
+    make_all(alloc, document, edits)
+}
+
+/// Makes the edits up to the first that is refused.
+fn make_all(alloc: Global, document: &mut DocumentMut, edits: &[Edit]) -> Result<(), ScriptFault>
+    ensures applies { Applies edits.now (tree_owned document.old) (tree_owned document.new) result }
+    ensures printed { IsPrintedAs document.new document.old }
 {
     for at in 0..edits.len() {
-        if let Err(fault) = apply_edit(alloc, document, &edits[at]) {
+        if let Err(fault) = make(alloc, document, &edits[at]) {
             return Err(ScriptFault { at, fault });
         }
     }
@@ -37,6 +53,19 @@ pub fn apply(alloc: Global, document: &mut DocumentMut, edits: &[Edit]) -> Resul
 ///
 /// Returns why it is refused. The document is unchanged then.
 pub fn apply_edit(alloc: Global, document: &mut DocumentMut, edit: &Edit) -> Result<(), EditFault>
+    ensures makes { Makes (effect edit.now (tree_owned document.old)) (tree_owned document.old)
+        (tree_owned document.new) result }
+    ensures printed { IsPrintedAs document.new document.old }
+    // In a steady tree all statements stay but those that the edit names.
+    ensures stays { OnOk result ((mode : Mode) → OthersStay mode (edit.now ∷ [])
+        (tree_owned document.old) (tree_owned document.new)) }
+{
+    others_stay();
+    make(alloc, document, edit)
+}
+
+/// Makes the edit by the call for its kind.
+fn make(alloc: Global, document: &mut DocumentMut, edit: &Edit) -> Result<(), EditFault>
     ensures makes { Makes (effect edit.now (tree_owned document.old)) (tree_owned document.old)
         (tree_owned document.new) result }
     ensures printed { IsPrintedAs document.new document.old }
