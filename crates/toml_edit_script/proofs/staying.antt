@@ -1,5 +1,6 @@
 pub mod Words
 pub mod Below
+pub mod Places
 pub mod Values
 pub mod Sets
 pub mod Removals
@@ -9,7 +10,6 @@ pub mod Turning
 pub mod Comments
 pub mod SortedSlots
 pub mod Sorting
-pub mod Ways
 pub mod Moving
 pub mod Arrays
 pub mod Effects

@@ -1,5 +1,5 @@
 -- What edits leave of the printed statements of a steady tree: those at paths that they don't name.
-use Rattle.std.specs.Prelude.{◌≡◌, ◌⊎◌, true, false, List, [], ◌∷◌, ◌++◌, flat_map, string_bytes, None, Some, Ok}
+use Rattle.std.specs.Prelude.{◌≡◌, ◌⊎◌, true, false, List, [], ◌∷◌, ◌++◌, map, string_bytes, None, Some, Ok, Result, Err}
 use Rattle.toml_edit_model.specs.Fits.{FitsIn, is_steady_in}
 use Rattle.toml_edit_model.specs.HeaderOrder.{Visit}
 use Rattle.toml_edit_model.specs.Keys.{names}
@@ -15,14 +15,16 @@ use Rattle.toml_edit_edit_laws.specs.CallsFit.{IsHarmlessBelow}
 use Rattle.toml_edit_edit_laws.specs.Commands.{item_at}
 use Rattle.toml_edit_edit_laws.specs.CommandLaws.{AreSpelled, NamesTable, is_scalar}
 use Rattle.toml_edit_edit_laws.specs.HeaderAdds.{OneTableMore, last_table}
-use Rattle.toml_edit_edit_laws.specs.PathEdits.{NameSlots, with_last}
+use Rattle.toml_edit_edit_laws.specs.PathEdits.{with_last}
 use Rattle.toml_edit_edit_laws.specs.Staying.{StaysButAt}
 use Rattle.toml_edit_tree.specs.View.{value_view}
 use Rattle.toml_edit.specs.Edited.{IsPlainValue}
 use Rattle.toml_edit_script.specs.Effects.{headed}
 use Rattle.toml_edit_script.specs.Lists.{applied, effect}
+use Rattle.toml_edit_script.specs.Places.{place_of}
 use Rattle.toml_edit_script.specs.declared.edit.Edit.{Edit}
 use Rattle.toml_edit_script.specs.declared.edit.Edit.TheVariants as edits
+use Rattle.toml_edit_script.specs.declared.fault.EditFault.{EditFault}
 
 -- ---- the paths of an edit
 
@@ -39,12 +41,14 @@ paths_of (edits.Move path to) = names path.items ∷ one (names to.items)
 paths_of (edits.Sort path) = one (names path.items)
 paths_of (edits.Comment path text) = one (names path.items)
 
--- these places are those of the paths, of each edit in the tree that those before it left
-abbrev pub NamePlaces : List Edit → List (List Path) → Tree → Type 0
-NamePlaces [] [] t = Unit {0}
-NamePlaces (e ∷ es) (ps ∷ pss) t =
-    NameSlots t (paths_of e) ps × ((u : Tree) → effect e t ≡ Ok u → NamePlaces es pss u)
-NamePlaces _ _ t = ⊥
+abbrev pub where_done : (Tree → List Path) → Result Tree EditFault → List Path
+where_done go (Ok u) = go u
+where_done go (Err f) = []
+
+-- the places of the paths of edits, of each in the tree that those before it left
+abbrev pub places_of : List Edit → Tree → List Path
+places_of [] t = []
+places_of (e ∷ es) t = map (place_of t) (paths_of e) ++ where_done (places_of es) (effect e t)
 
 -- ---- which edits leave a steady tree
 
@@ -116,9 +120,7 @@ module _ (mode : Mode) where
   -- All statements stay, byte for byte and in their order, but those at the places of the edits, and
   -- below them. After harmless edits a tree that fitted fits.
   pub record StayElsewhere (es : List Edit) (t u : Tree) (local : AreLocal es t) : Type 0 where
-    pub places : List (List Path)
-    pub names : NamePlaces es places t
-    pub stays : StaysButAt mode (flat_map (λ ps. ps) places) t u
+    pub stays : StaysButAt mode (places_of es t) t u
     pub fits : FitsIn mode t → AreHarmless es t local → FitsIn mode u
 
   -- So it is where such edits are made in a steady tree.

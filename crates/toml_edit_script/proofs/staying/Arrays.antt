@@ -16,15 +16,14 @@ use Rattle.toml_edit_tree.specs.Casts.{array_in}
 use Rattle.toml_edit_tree.specs.Containers.{ArrayView}
 use Rattle.toml_edit_script.specs.Effects as effects
 use Rattle.toml_edit_script.specs.Effects.{array_at, array_of, array_set, set, values_of}
-use Rattle.toml_edit_script.specs.OthersStay.{in_value}
 use Rattle.toml_edit_script.specs.Outcomes.{and_then}
 use Rattle.toml_edit_script.specs.declared.fault.EditFault.{EditFault}
 use Rattle.toml_edit_script.specs.declared.fault.EditFault.TheVariants.{NoSuchPath, WrongKind}
 use Rattle.toml_edit_script.proofs.MoveLaws.{answered, there-is, went}
-use Rattle.toml_edit_script.proofs.staying.Words.{StaysAt}
+use Rattle.toml_edit_script.proofs.staying.Words.{StaysWithin}
 use Rattle.toml_edit_script.proofs.staying.Below.{AreMade, below-made, made-changed, made-dropped, made-join, made-taken}
 use Rattle.toml_edit_script.proofs.staying.Removals.{either-made, gap-made, line-removed-made}
-use Rattle.toml_edit_script.proofs.staying.Sets.{set-stays}
+use Rattle.toml_edit_script.proofs.staying.Sets.{set-in}
 
 -- ---- the array stays well made
 
@@ -72,21 +71,21 @@ module _ (mode : Mode) (t u : Tree) (path : List Key) (made : SlotsAreWellMade t
     (go : ArrayView → Result Node EditFault)
     (each : (a : ArrayView) (n : Node) → ItemsAreWellMade a.items → go a ≡ Ok n → IsMadeArray n) where
   by_node : (x : Node) (a : ArrayView) (n : Node) → item_at (names path) t ≡ Some x → array_in x ≡ Some a → go a ≡ Ok n → set path n t ≡ Ok u
-      → StaysAt mode t u (names path)
+      → StaysWithin mode t u (names path)
   by_node (list f xs) a n there is goes put =
       let w : ItemsAreWellMade xs = below-made (names path) (root_item t) (list f xs) made there in
       let same : ◌≡◌ {A = ArrayView} (record { fields = f; items = xs }) a = cc in
       let x = each a n (subst (λ (b : ArrayView). ItemsAreWellMade b.items) same w) goes in
       let m : Node = list x.fields (items_from x.items) in
-      set-stays mode t u path [] m made steady refl x.made (in_value path [] (list f xs) (sym (append-nil path)) tt there refl)
-      (answered _ u (ap (λ y. set path y t) (sym x.is) ∙ put))
+      set-in mode t u path m made steady refl x.made (answered _ u (ap (λ y. set path y t) (sym x.is) ∙ put)) path [] (list f xs)
+      (sym (append-nil path)) tt there refl
   by_node (leaf s r d) a n there is goes put = absurd cc
   by_node (inline f ss) a n there is goes put = absurd cc
   by_node (table f ss) a n there is goes put = absurd cc
   by_node (tables e xs) a n there is goes put = absurd cc
   by_node nothing a n there is goes put = absurd cc
 
-  pub array-stays : array_set go path t ≡ Ok u → StaysAt mode t u (names path)
+  pub array-stays : array_set go path t ≡ Ok u → StaysWithin mode t u (names path)
   array-stays h =
       let x = went (λ n. set path n t) (and_then go (array_at (names path) t)) u h in
       let y = went go (array_at (names path) t) x.0 x.1 in

@@ -1,9 +1,8 @@
 -- What is at and below paths.
-use Rattle.std.proofs.Common.{◌≡◌, refl, sym, ◌∙◌, ap, subst, ℕ, zero, suc, true, false, List, [], ◌∷◌, ◌++◌, append_assoc, Some, take, drop}
+use Rattle.std.proofs.Common.{◌≡◌, refl, sym, ◌∙◌, ap, subst, ℕ, zero, suc, true, false, List, [], ◌∷◌, ◌++◌, Some, take, drop}
 use Rattle.toml_edit_model.specs.Text.{Text}
-use Rattle.toml_edit_model.specs.Paths.{Path}
 use Rattle.toml_edit_model.specs.Keys.{names, new_key}
-use Rattle.toml_edit_model.specs.Tree.{Key, Node, nothing, leaf, list, inline, table, tables, Slots, SlotsAreWellMade, ItemsAreWellMade, IsWellMade, Tree, is_value_node}
+use Rattle.toml_edit_model.specs.Tree.{Key, Node, nothing, leaf, list, inline, table, tables, Slots, SlotsAreWellMade, ItemsAreWellMade, IsWellMade, is_value_node}
 use Rattle.toml_edit_model.specs.Shown.{is_table_node}
 use Rattle.toml_edit_model.specs.Slots.{changed_at, keyed, lookup_slot}
 use Rattle.toml_edit_model.specs.Lists.{slot_list, slots_from, item_list, items_from}
@@ -11,7 +10,6 @@ use Rattle.toml_edit_laws.proofs.common.OptionSteps.{some-is}
 use Rattle.toml_edit_laws.proofs.locality.Elements.{item-made}
 use Rattle.toml_edit_laws.proofs.locality.Slots.{found, items_from-list}
 use Rattle.toml_edit_edit_laws.specs.Commands.{Answer, mapped, change_slot, child, child_changed, element_of, item_below, present}
-use Rattle.toml_edit_edit_laws.specs.PathEdits.{NamesSlot}
 use Rattle.toml_edit_edit_laws.proofs.commands.Apart.{named}
 use Rattle.toml_edit_edit_laws.proofs.commands.Finding.{some-and, some-second}
 use Rattle.toml_edit_edit_laws.proofs.commands.Keeping.{item-parts, present-is}
@@ -22,19 +20,6 @@ use Rattle.toml_edit_edit_laws.proofs.path_calls.Keys.{child-at}
 pub names-join : (path more : List Key) → names (path ++ more) ≡ names path ++ names more
 names-join [] more = refl
 names-join (k ∷ path) more = ap (λ xs. k.name ∷ xs) (names-join path more)
-
--- a longer path leads to the same place
-pub named-further : (t : Tree) (path more : List Text) (p : Path) → NamesSlot t path p → NamesSlot t (path ++ more) p
-named-further t path more p n =
-    record {
-      front = n.front;
-      key = n.key;
-      inner = n.inner ++ more;
-      table = n.table;
-      is = ap (λ (q : List Text). q ++ more) n.is ∙ append_assoc n.front (n.key ∷ n.inner) more;
-      named = n.named;
-      at = n.at;
-    }
 
 -- ---- what is well made
 

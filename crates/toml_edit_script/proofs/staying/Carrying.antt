@@ -84,7 +84,7 @@ module _ (mode : Mode) (t u : Tree) (made : SlotsAreWellMade t.slots) (steady : 
   renamed-stays path above k name is h =
       let x = was-changed (on_table (slots_renamed k name)) above t u _ h in
       let r = was-renamed k name x.old x.new x.goes in
-      subst (λ q. StaysAtBoth mode t u q (above ++ (name ∷ []))) (sym is)
+      subst (λ (q : List Text). StaysAtBoth mode t u q (above ++ (name ∷ []))) (sym is)
       (key-stays mode t u above k name x.old r.slots made steady x.there r.there r.has r.free
       (ap (λ m. replaced_at above m t) (sym r.is) ∙ x.put))
 
@@ -114,7 +114,7 @@ module _ (mode : Mode) (t u : Tree) (made : SlotsAreWellMade t.slots) (steady : 
         → (if a then renamed above k name t else if b then Err WrongKind else carried_over from above k target name t) ≡ Ok u
         → StaysAtBoth mode t u from (target ++ (name ∷ []))
     by_tests above k to is ends true b e h =
-        subst (λ q. StaysAtBoth mode t u from (q ++ (name ∷ []))) (same-paths above target e) (renamed-stays from above k name is h)
+        subst (λ (q : List Text). StaysAtBoth mode t u from (q ++ (name ∷ []))) (same-paths above target e) (renamed-stays from above k name is h)
     by_tests above k to is ends false true e h = absurd cc
     by_tests above k to is ends false false e h = over above k is h
 
@@ -129,7 +129,7 @@ module _ (mode : Mode) (t u : Tree) (made : SlotsAreWellMade t.slots) (steady : 
         (λ q v. if pointwise same_text x.0 q then renamed x.0 x.1 v t
         else if starts_with same_text to from then Err WrongKind
         else carried_over from x.0 x.1 q v t) to target name ends) ∙ x.3 in
-        subst (StaysAtBoth mode t u from) (sym ends)
+        subst (λ (q : List Text). StaysAtBoth mode t u from q) (sym ends)
         (by_tests x.0 x.1 to x.2 ends (pointwise same_text x.0 target) (starts_with same_text to from) refl inner)
 
   -- ---- in its own table
@@ -140,7 +140,7 @@ module _ (mode : Mode) (t u : Tree) (made : SlotsAreWellMade t.slots) (steady : 
 
   pub move-stays : (from to : List Text) → MayMove mode t from to → moved from to t ≡ Ok u → StaysAtBoth mode t u from to
   move-stays from to (beside above k name is ends) h =
-      subst (StaysAtBoth mode t u from) (sym ends)
+      subst (λ (q : List Text). StaysAtBoth mode t u from q) (sym ends)
       (renamed-stays from above k name is (sym (is-renamed above k above name t from to is ends (same-all above)) ∙ h))
   move-stays from to (into_value n old target name there plain ends at value) h =
       away from n there plain target name

@@ -1,5 +1,5 @@
 -- Another comment after a value or a header.
-use Rattle.std.proofs.Common.{◌≡◌, refl, sym, ◌∙◌, ap, subst, Bool, true, false, List, [], ◌∷◌, ◌++◌, Option, Some, None, inl, inr}
+use Rattle.std.proofs.Common.{◌≡◌, refl, sym, ◌∙◌, ap, subst, Bool, true, false, List, [], ◌∷◌, ◌++◌, append-nil, Option, Some, None, inl, inr}
 use Rattle.std.specs.Prelude.{◌⊎◌, ◌||◌, ◌&&◌, if◌then◌else◌, not, filter, is_some}
 use Rattle.std.specs.List.{AllByRecursion}
 use Rattle.toml_edit_model.specs.Mode.{Mode}
@@ -24,7 +24,8 @@ use Rattle.toml_edit_edit_laws.specs.Staying.{away_from, StaysButAt}
 use Rattle.toml_edit_edit_laws.proofs.comments.HeaderPrints.{header_recommented, hidden_recommented}
 use Rattle.toml_edit_edit_laws.proofs.comments.HeaderSlots.{header_recommented_stays_made}
 use Rattle.toml_edit_paths.specs.Calls.{replaced_at}
-use Rattle.toml_edit_script.proofs.staying.Words.{StaysAt, CommentedStays, IsCommented}
+use Rattle.toml_edit_script.proofs.staying.Words.{StaysAt, StaysWithin, CommentedStays, IsCommented}
+use Rattle.toml_edit_script.specs.Places.{place_of}
 use Rattle.toml_edit_script.proofs.staying.Below.{below-made}
 use Rattle.toml_edit_script.proofs.staying.Tables.{InsideValue, leads-join}
 use Rattle.toml_edit_script.proofs.staying.Turning.{Turned, table-turned}
@@ -114,11 +115,12 @@ module _ (mode : Mode) (t : Tree) (path : List Text) (made : SlotsAreWellMade t.
   header-stays r put =
       let is : r ≡ edited x.way (header_edited x.turn (with_comment_after b f.decor)) t = x.left r (with_comment_after b f.decor) put in
       let same : r ≡ u = is ∙ ap (λ (g : TableFields). edited x.way (header_edited x.turn (with_comment_after b g.decor)) t) (sym x.fields) in
-      record {
-        place = x.place;
-        names = x.names;
-        stays = subst (StaysButAt mode (x.place ∷ []) t) (sym same) (by_header (v.fields.is_dotted || not (has_header mode v)) refl);
-      }
+      subst (λ (q : Path). StaysButAt mode (q ∷ []) t r) (sym x.is)
+      (subst (StaysButAt mode (x.place ∷ []) t) (sym same) (by_header (v.fields.is_dotted || not (has_header mode v)) refl))
+
+-- the place of the path itself
+pub within-at : (mode : Mode) (t u : Tree) (path : List Text) → StaysWithin mode t u path → StaysAt mode t u path
+within-at mode t u path h = subst (λ (q : List Text). StaysButAt mode (place_of t q ∷ []) t u) (append-nil path) (h [])
 
 -- ---- the law
 
@@ -130,7 +132,7 @@ module _ (mode : Mode) (t u : Tree) (k : Text) (rest : List Text) (b : Option Te
   in-table : (f : TableFields) (ss : Slots) → SlotsAreWellMade ss → replaced_at path (table (record f { decor = with_comment_after b f.decor }) ss) t ≡ done u
       → Turned t path f ss ⊎ InsideValue mode t path → StaysAt mode t u path
   in-table f ss w put (inl x) = header-stays mode t path made steady f ss x b u put
-  in-table f ss w put (inr x) = x u (table (record f { decor = with_comment_after b f.decor }) ss) w put
+  in-table f ss w put (inr x) = within-at mode t u path (x u (table (record f { decor = with_comment_after b f.decor }) ss) w put)
 
   abbrev after : Node → Node
   after n = with_decor (with_comment_after b (node_decor n)) n
@@ -139,14 +141,14 @@ module _ (mode : Mode) (t u : Tree) (k : Text) (rest : List Text) (b : Option Te
   by_node (table f ss) m w there is put =
       in-table f ss w (ap (λ x. replaced_at path x t) (sym is) ∙ put) (table-turned mode t made steady k rest f ss there)
   by_node (leaf s r d) m w there is put =
-      value-stays mode t u path (leaf s r d) (after (leaf s r d)) made steady there refl (λ _. refl) w
-      (ap (λ x. replaced_at path x t) (sym is) ∙ put)
+      within-at mode t u path (value-stays mode t u path (leaf s r d) (after (leaf s r d)) made steady there refl (λ _. refl) w
+      (ap (λ x. replaced_at path x t) (sym is) ∙ put))
   by_node (list f xs) m w there is put =
-      value-stays mode t u path (list f xs) (after (list f xs)) made steady there refl (λ _. refl) w
-      (ap (λ x. replaced_at path x t) (sym is) ∙ put)
+      within-at mode t u path (value-stays mode t u path (list f xs) (after (list f xs)) made steady there refl (λ _. refl) w
+      (ap (λ x. replaced_at path x t) (sym is) ∙ put))
   by_node (inline f ss) m w there is put =
-      value-stays mode t u path (inline f ss) (after (inline f ss)) made steady there refl (λ undotted. ap not undotted) w
-      (ap (λ x. replaced_at path x t) (sym is) ∙ put)
+      within-at mode t u path (value-stays mode t u path (inline f ss) (after (inline f ss)) made steady there refl (λ undotted. ap not undotted) w
+      (ap (λ x. replaced_at path x t) (sym is) ∙ put))
   by_node (tables e xs) m w there is put = absurd is
   by_node nothing m w there is put = absurd is
 

@@ -1,6 +1,6 @@
 -- A key with a value that moves to another table: a slot more, and one less.
 use Rattle.std.proofs.Common.{◌≡◌, refl, sym, ◌∙◌, ap, subst, Bool, true, false, List, [], ◌∷◌, ◌++◌, Some, None, inl, inr}
-use Rattle.std.specs.Prelude.{◌⊎◌, filter, if◌then◌else◌, not}
+use Rattle.std.specs.Prelude.{filter, if◌then◌else◌, not, Option}
 use Rattle.toml_edit_model.specs.Mode.{Mode}
 use Rattle.toml_edit_model.specs.Fits.{is_steady_in}
 use Rattle.toml_edit_model.specs.HeaderOrder.{Visit}
@@ -9,50 +9,49 @@ use Rattle.toml_edit_model.specs.Paths.{Path, to_key}
 use Rattle.toml_edit_model.specs.Print.{Printed, printed}
 use Rattle.toml_edit_model.specs.Slots.{Slot, changed, has_slot, lookup_slot, with_item}
 use Rattle.toml_edit_model.specs.Text.{Text, one, same_text}
-use Rattle.toml_edit_model.specs.Tree.{IsWellMade, Node, SlotsAreWellMade, Tree, inline, is_value_node, leaf, list, nothing, table, tables}
+use Rattle.toml_edit_model.specs.Tree.{IsWellMade, Node, Slots, SlotsAreWellMade, TableFields, Tree, inline, is_value_node, leaf, list, nothing, table, tables}
 use Rattle.toml_edit_laws.specs.EditLists.{Applies, add, named_path}
 use Rattle.toml_edit_laws.specs.Locality.{IsWellMadeSlot, edited, is_at_or_below, is_plain_value, root_visit}
 use Rattle.toml_edit_laws.proofs.common.OptionSteps.{some-is}
 use Rattle.toml_edit_laws.proofs.common.Tests.{and_left, if-false, if-true, or-left, or-right}
 use Rattle.toml_edit_laws.proofs.locality.Made.{made-last}
-use Rattle.toml_edit_laws.proofs.locality.Slots.{HaveOtherKeys, slots_from-list}
+use Rattle.toml_edit_laws.proofs.locality.Slots.{HaveOtherKeys, slot_list-from, slots_from-list}
 use Rattle.toml_edit_edit_laws.specs.Commands.{done, item_at, remove_at, root_item}
 use Rattle.toml_edit_edit_laws.specs.CommandLaws.{NamesTable}
-use Rattle.toml_edit_edit_laws.specs.PathEdits.{NamesSlot}
 use Rattle.toml_edit_edit_laws.specs.Staying.{StaysButAt}
 use Rattle.toml_edit_edit_laws.proofs.commands.Going.{item-along}
 use Rattle.toml_edit_edit_laws.proofs.path_calls.Removing.{remove_edits}
 use Rattle.toml_edit_edit_laws.proofs.path_calls.Staying.{after_lines_stays, edit_stays, one_after_another}
 use Rattle.toml_edit_paths.specs.Calls.{replaced_at}
 use Rattle.toml_edit_script.specs.OthersStay.{TakesLines}
-use Rattle.toml_edit_script.proofs.staying.Words.{MovedStays, Room, StaysAtBoth}
-use Rattle.toml_edit_script.proofs.staying.Below.{below-made, named-further}
+use Rattle.toml_edit_script.proofs.staying.Words.{MovedStays, Room, StaysAt, StaysAtBoth}
+use Rattle.toml_edit_script.proofs.staying.Below.{below-made}
 use Rattle.toml_edit_script.proofs.staying.Tables.{walk-left}
 use Rattle.toml_edit_script.proofs.staying.Values.{value-put, value-stays}
-use Rattle.toml_edit_script.proofs.staying.Ways.{ShowsValues, WasThere, changed-was, named-back}
+use Rattle.toml_edit_script.specs.Places.{item_or, place_from, place_of}
+use Rattle.toml_edit_script.proofs.staying.Places.{in-slots, key-place, nothing-place, removal-place, same-places, value-place}
 
--- ---- what is shown
+-- ---- places
 
-one-or : (k : Text) (s r : Slot Node) (b : Bool) → is_value_node s.item ≡ true → (if b then Some s else None) ≡ Some r → is_value_node r.item ≡ true
-one-or k s r true value h = subst (λ (x : Slot Node). is_value_node x.item ≡ true) (some-is s r h) value
-one-or k s r false value h = absurd cc
-
-last-shows : (s : Slot Node) → is_value_node s.item ≡ true → ShowsValues (λ es. es ++ one s)
-last-shows s value k r [] h = inl (one-or k s r (same_text k s.key.name) value h)
-last-shows s value k r (e ∷ es) h = by_test (same_text k e.key.name) h (last-shows s value k r es)
+-- a value more at the end of a table leaves all places there
+last-places : (s : Slot Node) → is_value_node s.item ≡ true → (p : Path) (f : TableFields) (ss : Slots) (path : List Text)
+    → place_from p path (table f (slots_from (slot_list ss ++ one s))) ≡ place_from p path (table f ss)
+last-places s value p f ss [] = refl
+last-places s value p f ss (j ∷ path) =
+    ap (λ es. place_from (to_key p j) path (item_or (lookup_slot j es))) (slot_list-from (slot_list ss ++ one s)) ∙ by_list (slot_list ss)
   where
-    by_test : (b : Bool) → (if b then Some e else lookup_slot k (es ++ one s)) ≡ Some r
-        → (lookup_slot k (es ++ one s) ≡ Some r → (is_value_node r.item ≡ true) ⊎ (lookup_slot k es ≡ Some r))
-        → (is_value_node r.item ≡ true) ⊎ ((if b then Some e else lookup_slot k es) ≡ Some r)
-    by_test true g ih = inr g
-    by_test false g ih = ih g
+    by_end : (b : Bool) → place_from (to_key p j) path (item_or (if b then Some s else None)) ≡ place_from (to_key p j) path nothing
+    by_end true = value-place (to_key p j) path s.item value ∙ sym (nothing-place (to_key p j) path)
+    by_end false = refl
 
-value-shows : (j : Text) (x : Node) → is_value_node x ≡ true → ShowsValues (changed j (with_item x))
-value-shows j x value k s es h = by_slot (changed-was j (with_item x) (λ z. refl) k es s h)
-  where
-    by_slot : (lookup_slot k es ≡ Some s) ⊎ WasThere k j (with_item x) es s → (is_value_node s.item ≡ true) ⊎ (lookup_slot k es ≡ Some s)
-    by_slot (inl g) = inr g
-    by_slot (inr g) = inl (ap (λ (z : Slot Node). is_value_node z.item) g.is ∙ value)
+    by_first : (b : Bool) (e : Slot Node) (o r : Option (Slot Node)) → place_from (to_key p j) path (item_or o) ≡ place_from (to_key p j) path (item_or r)
+        → place_from (to_key p j) path (item_or (if b then Some e else o)) ≡ place_from (to_key p j) path (item_or (if b then Some e else r))
+    by_first true e o r h = refl
+    by_first false e o r h = h
+
+    by_list : (es : List (Slot Node)) → place_from (to_key p j) path (item_or (lookup_slot j (es ++ one s))) ≡ place_from (to_key p j) path (item_or (lookup_slot j es))
+    by_list [] = by_end (same_text j s.key.name)
+    by_list (e ∷ es) = by_first (same_text j e.key.name) e (lookup_slot j (es ++ one s)) (lookup_slot j es) (by_list es)
 
 -- ---- no slot of the name
 
@@ -94,12 +93,10 @@ stays-swapped mode p q t u s =
 
 -- ---- a slot more
 
--- one place more, and each path leads to the same place in the first tree
+-- all stays but at one place, and each path has its place
 record PutAt (mode : Mode) (t w : Tree) (path : List Text) : Type 0 where
-  place : Path
-  names : NamesSlot t path place
-  stays : StaysButAt mode (place ∷ []) t w
-  back : (from : List Text) (q : Path) → NamesSlot w from q → NamesSlot t from q
+  stays : StaysAt mode t w path
+  back : (from : List Text) → place_of w from ≡ place_of t from
 
 module _ (mode : Mode) (t w : Tree) (target : List Text) (s : Slot Node) (made : SlotsAreWellMade t.slots) (steady : is_steady_in mode t ≡ true)
     (plain : is_plain_value s.item ≡ true) (well : IsWellMadeSlot s.key s.item) where
@@ -117,12 +114,13 @@ module _ (mode : Mode) (t w : Tree) (target : List Text) (s : Slot Node) (made :
       walk-left t w target v.fields v.slots g made (record { visit = v; named = named; fields = refl; slots = refl }) put in
       let none = none-found s.key.name (slot_list v.slots) new in
       let p : Path = to_key v.path s.key.name in
+      let here : place_of t to ≡ p = key-place t target s.key.name v made named in
       record {
-        place = p;
-        names = record { front = target; key = s.key.name; inner = []; table = v; is = refl; named = named; at = refl };
-        stays = subst (StaysButAt mode (p ∷ []) t) (sym is) (by_room none takes);
-        back = λ from q n.
-            named-back g (last-shows s value) t named.way v from q named.leads (subst (λ (x : Tree). NamesSlot x from q) is n);
+        stays = subst (λ (q : Path). StaysButAt mode (q ∷ []) t w) (sym here)
+            (subst (StaysButAt mode (p ∷ []) t) (sym is) (by_room none takes));
+        back = λ from.
+            ap (λ (x : Tree). place_of x from) is
+            ∙ same-places g named.way (root_visit t) v made named.leads (last-places s value v.path v.fields v.slots) from;
       }
     where
       by_room : lookup_slot s.key.name (slot_list v.slots) ≡ None → TakesLines mode v
@@ -137,13 +135,16 @@ module _ (mode : Mode) (t w : Tree) (target : List Text) (s : Slot Node) (made :
   put-in-value n m there is flat also wm put =
       let x = value-stays mode t w target n m made steady there is flat wm put in
       let y = value-put mode t w target n m made steady there is also put in
+      let g : List (Slot Node) → List (Slot Node) = changed y.key (with_item y.value) in
+      let v : Visit = y.visit in
       record {
-        place = x.place;
-        names = named-further t target (s.key.name ∷ []) x.place x.names;
-        stays = x.stays;
-        back = λ from q k.
-            named-back (changed y.key (with_item y.value)) (value-shows y.key y.value y.is_value) t y.way y.visit from q y.leads
-            (subst (λ (z : Tree). NamesSlot z from q) y.leaves k);
+        stays = x (s.key.name ∷ []);
+        back = λ from.
+            ap (λ (z : Tree). place_of z from) y.leaves
+            ∙ same-places g y.way (root_visit t) v made y.leads
+            (in-slots g v.path v.fields y.key (with_item y.value) v.slots y.old (λ z. refl) y.there
+            (λ path. value-place (to_key v.path y.key) path y.value y.is_value
+            ∙ sym (value-place (to_key v.path y.key) path y.old.item y.was_value))) from;
       }
 
   by_node : (n : Node) (es : List (Slot Node)) → item_at target t ≡ Some n → slots_in n ≡ Some es → has_slot s.key.name es ≡ false
@@ -175,13 +176,9 @@ module _ (mode : Mode) (t w : Tree) (target : List Text) (s : Slot Node) (made :
   moved u from x gone =
       let y = remove_edits mode w u from x.stays.made x.stays.steady.2 gone in
       let q : Path = named_path mode y.edit w y.applies in
-      record {
-        first = q;
-        second = x.place;
-        names = x.back from q y.names;
-        other_names = x.names;
-        stays = stays-swapped mode x.place q t u (one_after_another mode (x.place ∷ []) (q ∷ []) t w u x.stays y.stays);
-      }
+      let is : place_of t from ≡ q = sym (x.back from) ∙ removal-place mode w x.stays.made from y.edit y.at y.applies in
+      subst (λ (z : Path). StaysButAt mode (z ∷ place_of t to ∷ []) t u) (sym is)
+      (stays-swapped mode (place_of t to) q t u (one_after_another mode (place_of t to ∷ []) (q ∷ []) t w u x.stays y.stays))
 
 pub moved-stays : (mode : Mode) → MovedStays mode
 moved-stays mode t w u from target n es s made steady there slots new plain well room put gone =

@@ -3,16 +3,15 @@ use Rattle.std.proofs.Common.{◌≡◌, refl, sym, ◌∙◌, ap, subst, ℕ, B
 use Rattle.std.specs.Prelude.{◌⊎◌, ◌-◌, nat_lt, if◌then◌else◌}
 use Rattle.toml_edit_model.specs.Mode.{Mode}
 use Rattle.toml_edit_model.specs.Text.{Text}
+use Rattle.toml_edit_model.specs.Paths.{Path}
 use Rattle.toml_edit_model.specs.ArrayCalls.{removed_at}
 use Rattle.toml_edit_model.specs.Keys.{new_key}
 use Rattle.toml_edit_model.specs.Tree.{Raw, owned, ArrayFields, Node, nothing, leaf, list, inline, table, tables, Items, SlotsAreWellMade, ItemsAreWellMade, IsWellMade, Tree, is_value_node, node_decor}
 use Rattle.toml_edit_model.specs.Fits.{is_steady_in}
 use Rattle.toml_edit_model.specs.Slots.{changed_at}
 use Rattle.toml_edit_model.specs.Lists.{item_list, items_from}
-use Rattle.toml_edit_laws.specs.EditLists.{named_path}
 use Rattle.toml_edit_laws.proofs.locality.Slots.{items_from-list}
 use Rattle.toml_edit_edit_laws.specs.Commands.{Answer, and_then, done, mapped, child, child_changed, element_of, item_below, remove_below, root_item, second, with_slots}
-use Rattle.toml_edit_edit_laws.specs.PathEdits.{NamesSlot}
 use Rattle.toml_edit_edit_laws.proofs.commands.Finding.{below-was, some-and, was-there}
 use Rattle.toml_edit_edit_laws.proofs.commands.Keeping.{decor-made}
 use Rattle.toml_edit_edit_laws.proofs.commands.Setting.{was-mapped}
@@ -22,7 +21,10 @@ use Rattle.toml_edit_tree.specs.ArrayLines.{fields_removed, gap_left, is_closed,
 use Rattle.toml_edit_paths.specs.Calls.{replaced_below}
 use Rattle.toml_edit_paths.specs.Lines.{drop_line, remove_line_at, remove_line_below}
 use Rattle.toml_edit_script.proofs.staying.Words.{StaysAt, LineRemovalStays}
-use Rattle.toml_edit_script.proofs.staying.Below.{AreMade, below-made, made-changed, made-dropped, made-join, made-taken, named-further}
+use Rattle.toml_edit_script.proofs.staying.Below.{AreMade, below-made, made-changed, made-dropped, made-join, made-taken}
+use Rattle.toml_edit_script.specs.Places.{place_of}
+use Rattle.toml_edit_script.proofs.staying.Places.{removal-place}
+use Rattle.toml_edit_edit_laws.specs.Staying.{StaysButAt}
 use Rattle.toml_edit_script.proofs.staying.Values.{value-stays}
 
 -- ---- what was there
@@ -130,7 +132,7 @@ module _ (mode : Mode) (t u : Tree) (path : List Text) (made : SlotsAreWellMade 
   by_place : (r : Node) → u ≡ with_slots t r → (remove_below path (root_item t) ≡ done r) ⊎ InArray path (root_item t) r → StaysAt mode t u path
   by_place r gives (inl h) =
       let x = remove_edits mode t u path made steady (ap (mapped (with_slots t)) h ∙ ap (λ y. done y) (sym gives)) in
-      record { place = named_path mode x.edit t x.applies; names = x.names; stays = x.stays }
+      subst (λ (q : Path). StaysButAt mode (q ∷ []) t u) (sym (removal-place mode t made path x.edit x.at x.applies)) x.stays
   by_place r gives (inr x) =
       let m : Node = list (fields_removed x.at x.fields (item_list x.items)) (items_from (line_removed x.at x.fields (item_list x.items))) in
       let old : IsWellMade (list x.fields x.items) = below-made x.above (root_item t) (list x.fields x.items) made x.there in
@@ -138,11 +140,7 @@ module _ (mode : Mode) (t u : Tree) (path : List Text) (made : SlotsAreWellMade 
       line-removed-made x.at x.fields (item_list x.items) (subst ItemsAreWellMade (sym (items_from-list x.items)) old) in
       let s = value-stays mode t u x.above (list x.fields x.items) m made steady x.there refl (λ e. refl) well
       (ap (mapped (with_slots t)) x.put ∙ ap (λ y. done y) (sym gives)) in
-      record {
-        place = s.place;
-        names = subst (λ q. NamesSlot t q s.place) (sym x.is) (named-further t x.above (x.key ∷ []) s.place s.names);
-        stays = s.stays;
-      }
+      subst (λ (q : List Text). StaysButAt mode (place_of t q ∷ []) t u) (sym x.is) (s (x.key ∷ []))
 
 pub line-removal-stays : (mode : Mode) → LineRemovalStays mode
 line-removal-stays mode t u path made steady gone =

@@ -20,8 +20,10 @@ use Rattle.toml_edit_edit_laws.specs.Staying.{away_from, StaysButAt}
 use Rattle.toml_edit_edit_laws.proofs.path_calls.Staying.{renaming_stays}
 use Rattle.toml_edit_edit_laws.proofs.renaming.Names.{made-renamed, others-of_name, renamed-is}
 use Rattle.toml_edit_paths.specs.Calls.{replaced_at}
-use Rattle.toml_edit_script.proofs.staying.Words.{StaysAt, StaysAtBoth, KeyStays}
-use Rattle.toml_edit_script.proofs.staying.Below.{below-made, named-further}
+use Rattle.toml_edit_script.proofs.staying.Words.{StaysWithin, StaysAtBoth, KeyStays}
+use Rattle.toml_edit_script.specs.Places.{place_of}
+use Rattle.toml_edit_script.proofs.staying.Places.{key-place}
+use Rattle.toml_edit_script.proofs.staying.Below.{below-made}
 use Rattle.toml_edit_script.proofs.staying.Tables.{InsideValue, OnWalk, table-lands, walk-left}
 use Rattle.toml_edit_script.proofs.staying.Values.{value-stays}
 
@@ -44,19 +46,14 @@ renamed-made k name ss w has free =
     (made-renamed name fd.front fd.back s.0 others.0 others.1 (split-made k s.0 ss fd w))
 
 -- at one place in place of two
-pub twice-at : (mode : Mode) (t u : Tree) (above one other : List Text) → StaysAt mode t u above → StaysAtBoth mode t u (above ++ one) (above ++ other)
+pub twice-at : (mode : Mode) (t u : Tree) (above one other : List Text) → StaysWithin mode t u above → StaysAtBoth mode t u (above ++ one) (above ++ other)
 twice-at mode t u above one other x =
+    let s : StaysButAt mode (place_of t (above ++ one) ∷ []) t u = x one in
     record {
-      first = x.place;
-      second = x.place;
-      names = named-further t above one x.place x.names;
-      other_names = named-further t above other x.place x.names;
-      stays = record {
-        others = ap (away_from (x.place ∷ [])) x.stays.others;
-        text = x.stays.text;
-        steady = x.stays.steady;
-        made = x.stays.made;
-      };
+      others = ap (away_from (place_of t (above ++ other) ∷ [])) s.others;
+      text = s.text;
+      steady = s.steady;
+      made = s.made;
     }
 
 module _ (mode : Mode) (t u : Tree) (above : List Text) (k name : Text) (made : SlotsAreWellMade t.slots) (steady : is_steady_in mode t ≡ true) where
@@ -70,15 +67,12 @@ module _ (mode : Mode) (t u : Tree) (above : List Text) (k name : Text) (made : 
       let is-free : is_free k name (slot_list v.slots) ≡ true = ap (λ ys. is_free k name (slot_list ys)) w.slots ∙ free in
       let fd : Found k s.0 (slot_list v.slots) = found-in k v.slots s.0 (leads-made way (root_visit t) v made w.named.leads) s.1 in
       let is : u ≡ edited way (renamed_slot k name) t = walk-left t u above f ss (renamed_slot k name) made w put in
-      let p : Path = to_key v.path s.0.key.name in
-      let q : Path = to_key v.path name in
-      record {
-        first = p;
-        second = q;
-        names = record { front = above; key = k; inner = []; table = v; is = refl; named = w.named; at = ap (to_key v.path) (sym fd.named) };
-        other_names = record { front = above; key = name; inner = []; table = v; is = refl; named = w.named; at = refl };
-        stays = subst (StaysButAt mode (p ∷ q ∷ []) t) (sym is) (renaming_stays mode t way v k name s.0 made steady w.named.leads s.1 is-free);
-      }
+      let p : place_of t (above ++ (k ∷ [])) ≡ to_key v.path s.0.key.name =
+      key-place t above k v made w.named ∙ ap (to_key v.path) fd.named in
+      subst (λ (x : Path). StaysButAt mode (x ∷ place_of t (above ++ (name ∷ [])) ∷ []) t u) (sym p)
+      (subst (λ (x : Path). StaysButAt mode (to_key v.path s.0.key.name ∷ x ∷ []) t u) (sym (key-place t above name v made w.named))
+      (subst (StaysButAt mode (to_key v.path s.0.key.name ∷ to_key v.path name ∷ []) t) (sym is)
+      (renaming_stays mode t way v k name s.0 made steady w.named.leads s.1 is-free)))
 
   in-table : (f : TableFields) (ss : Slots) → SlotsAreWellMade ss → has_slot k (slot_list ss) ≡ true → is_free k name (slot_list ss) ≡ true
       → replaced_at above (table f (slots_from (renamed_slot k name (slot_list ss)))) t ≡ done u

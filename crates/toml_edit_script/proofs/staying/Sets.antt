@@ -1,6 +1,7 @@
 -- A value that is put in a value, or under a new key.
-use Rattle.std.proofs.Common.{◌≡◌, refl, sym, ◌∙◌, ap, subst, true, List, [], ◌∷◌, ◌++◌, Some, inl, inr}
+use Rattle.std.proofs.Common.{◌≡◌, refl, sym, ◌∙◌, ap, subst, true, List, [], ◌∷◌, ◌++◌, Some, None, inl, inr}
 use Rattle.toml_edit_model.specs.Mode.{Mode}
+use Rattle.toml_edit_model.specs.Text.{Text}
 use Rattle.toml_edit_model.specs.Paths.{Path, to_key}
 use Rattle.toml_edit_model.specs.Keys.{names, new_key}
 use Rattle.toml_edit_model.specs.Tree.{Key, Node, nothing, leaf, list, inline, table, tables, no_slots, slot, SlotsAreWellMade, IsWellMade, Tree, is_value_node}
@@ -13,7 +14,7 @@ use Rattle.toml_edit_laws.proofs.common.OptionSteps.{some-is}
 use Rattle.toml_edit_edit_laws.specs.Commands.{done, mapped, child, item_at, item_below, root_item, set_at, set_below, with_slots}
 use Rattle.toml_edit_edit_laws.specs.CommandLaws.{AreSpelled}
 use Rattle.toml_edit_edit_laws.specs.Headed.{set_at_with_headers, set_headed_below}
-use Rattle.toml_edit_edit_laws.specs.PathEdits.{NamesSlot}
+use Rattle.toml_edit_edit_laws.specs.Staying.{StaysButAt}
 use Rattle.toml_edit_edit_laws.proofs.commands.Finding.{some-and}
 use Rattle.toml_edit_edit_laws.proofs.commands.Going.{item-along}
 use Rattle.toml_edit_edit_laws.proofs.commands.Keeping.{set_keeps_the_rest}
@@ -23,8 +24,10 @@ use Rattle.toml_edit_edit_laws.proofs.path_calls.Keys.{child-at}
 use Rattle.toml_edit_edit_laws.proofs.path_calls.Setting.{set_adds_after_lines, set_adds_under}
 use Rattle.toml_edit_paths.specs.Calls.{replaced_at, replaced_below}
 use Rattle.toml_edit_script.specs.OthersStay.{HasPlace, in_value, at_new_key}
-use Rattle.toml_edit_script.proofs.staying.Words.{StaysAt, SetStays, HeaderStays}
-use Rattle.toml_edit_script.proofs.staying.Below.{below-made, child-goes, named-further, names-join, same-child}
+use Rattle.toml_edit_script.proofs.staying.Words.{StaysAt, StaysWithin, SetStays, HeaderStays}
+use Rattle.toml_edit_script.specs.Places.{place_of}
+use Rattle.toml_edit_script.proofs.staying.Below.{below-made, child-goes, names-join, same-child}
+use Rattle.toml_edit_script.proofs.staying.Places.{goes-place, nothing-place, set-place}
 use Rattle.toml_edit_script.proofs.staying.Values.{value-stays}
 
 -- ---- in a value
@@ -56,43 +59,31 @@ set-well t v inner old n wv w spelled h =
 
 module _ (mode : Mode) (t u : Tree) (path : List Key) (v : Node) (made : SlotsAreWellMade t.slots) (steady : is_steady_in mode t ≡ true)
     (plain : is_plain_value v ≡ true) (wv : IsWellMade v) (set : set_at path v t ≡ done u) where
-  set-in : (front inner : List Key) (old : Node) → path ≡ front ++ inner → AreSpelled inner
-      → item_at (names front) t ≡ Some old → is_value_node old ≡ true → StaysAt mode t u (names path)
+  pub set-in : (front inner : List Key) (old : Node) → path ≡ front ++ inner → AreSpelled inner
+      → item_at (names front) t ≡ Some old → is_value_node old ≡ true → StaysWithin mode t u (names front)
   set-in front inner old same spelled there value =
       let root = was-mapped (with_slots t) (set_below v path (root_item t)) u set in
       let f = set-front v front inner (root_item t) old root.from there (ap (λ q. set_below v q (root_item t)) (sym same) ∙ root.is) in
       let put : replaced_at (names front) f.0 t ≡ done u = ap (mapped (with_slots t)) f.2 ∙ ap (λ x. done x) (sym root.gives) in
       let wold : IsWellMade old = below-made (names front) (root_item t) old made there in
-      let s = value-stays mode t u (names front) old f.0 made steady there value
-      (λ undotted. (set-stands v inner old f.0 value undotted plain f.1).0) (set-well t v inner old f.0 wv wold spelled f.1) put in
-      let same-names : names front ++ names inner ≡ names path = sym (names-join front inner) ∙ ap names (sym same) in
-      record {
-        place = s.place;
-        names = subst (λ q. NamesSlot t q s.place) same-names (named-further t (names front) (names inner) s.place s.names);
-        stays = s.stays;
-      }
+      value-stays mode t u (names front) old f.0 made steady there value
+      (λ undotted. (set-stands v inner old f.0 value undotted plain f.1).0) (set-well t v inner old f.0 wv wold spelled f.1) put
 
   set-under : (below : List Key) → HasPlace mode t path below → StaysAt mode t u (names path)
-  set-under below (in_value front inner old same spelled there value) = set-in front inner old same spelled there value
+  set-under below (in_value front inner old same spelled there value) =
+      subst (λ (q : List Text). StaysButAt mode (place_of t q ∷ []) t u) (sym (names-join front inner) ∙ ap names (sym same))
+      (set-in front inner old same spelled there value (names inner))
   set-under below (at_new_key front k w same spelled names-it new (inl has)) =
       let x = set_adds_under mode t u front w k below v made steady wv plain spelled names-it new has (ap (λ q. set_at q v t) (sym same) ∙ set) in
-      let p : Path = named_path mode x.edit t x.applies in
-      record { place = p; names = subst (λ q. NamesSlot t (names q) p) (sym same) x.names; stays = x.stays }
+      let is : place_of t (names path) ≡ named_path mode x.edit t x.applies =
+      ap (λ q. place_of t (names q)) same ∙ set-place mode t made (front ++ (k ∷ below)) v x.edit x.at x.applies in
+      subst (λ (q : Path). StaysButAt mode (q ∷ []) t u) (sym is) x.stays
   set-under below (at_new_key front k w same spelled names-it new (inr some)) =
       let x = set_adds_after_lines mode t u front w k below v made steady wv plain spelled names-it new some (ap (λ q. set_at q v t) (sym same) ∙ set) in
-      record {
-        place = to_key w.path k.name;
-        names = record {
-          front = names front;
-          key = k.name;
-          inner = names below;
-          table = w;
-          is = ap names same ∙ names-join front (k ∷ below);
-          named = names-it;
-          at = refl;
-        };
-        stays = x.1;
-      }
+      let is : place_of t (names path) ≡ to_key w.path k.name =
+      goes-place t names-it.way (names path) (names front) k.name (names below) w None made names-it.goes
+      (ap names same ∙ names-join front (k ∷ below)) names-it.leads new (nothing-place (to_key w.path k.name) (names below)) in
+      subst (λ (q : Path). StaysButAt mode (q ∷ []) t u) (sym is) x.1
 
 pub set-stays : (mode : Mode) → SetStays mode
 set-stays mode t u path below v made steady plain wv may set = set-under mode t u path v made steady plain wv set below may

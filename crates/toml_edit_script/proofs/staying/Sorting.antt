@@ -27,7 +27,7 @@ use Rattle.toml_edit_edit_laws.proofs.renaming.Along.{edited-same, edited-stays}
 use Rattle.toml_edit_paths.specs.Calls.{replaced_at}
 use Rattle.toml_edit_script.proofs.staying.Words.{IsSorted, SortedStays, StaysAt}
 use Rattle.toml_edit_script.proofs.staying.Below.{below-made}
-use Rattle.toml_edit_script.proofs.staying.Comments.{apart, made-so}
+use Rattle.toml_edit_script.proofs.staying.Comments.{apart, made-so, within-at}
 use Rattle.toml_edit_script.proofs.staying.SortedSlots.{Picks, changed-there, deep, made-sorted, moved-last, others-apart, picks-sorted, there-apart}
 use Rattle.toml_edit_script.proofs.staying.Tables.{InsideValue, leads-join, table-left}
 use Rattle.toml_edit_script.proofs.staying.Turning.{Turned, table-turned}
@@ -204,21 +204,19 @@ module _ (mode : Mode) (t u : Tree) (k : Text) (rest : List Text) (made : SlotsA
       let is : u ≡ edited way (λ _. zs) t =
       table-left t u path v (λ _. zs) made named (ap (λ g. replaced_at path (table g (slots_from zs)) t) x.fields ∙ put) in
       let front : is_front x.place v.path ≡ true = sym (front-is x.place v.path) ∙ x.above in
-      record {
-        place = x.place;
-        names = x.names;
-        stays = subst (StaysButAt mode (x.place ∷ []) t) (sym is)
-            (finish mode x.place is_dotted_table ss t way v leads front
-            (deep-slots mode x.place ss [] t way v made steady leads front (ap slot_list x.slots)));
-      }
-  in-table f ss w put (inr x) = x u (table f (slots_from (sorted_slots is_dotted_table ss))) (made-sorted is_dotted_table ss w) put
+      subst (λ (q : Path). StaysButAt mode (q ∷ []) t u) (sym x.is)
+      (subst (StaysButAt mode (x.place ∷ []) t) (sym is)
+      (finish mode x.place is_dotted_table ss t way v leads front (deep-slots mode x.place ss [] t way v made steady leads front (ap slot_list x.slots))))
+  in-table f ss w put (inr x) =
+      within-at mode t u path (x u (table f (slots_from (sorted_slots is_dotted_table ss))) (made-sorted is_dotted_table ss w) put)
 
   by_node : (n m : Node) → IsWellMade n → item_at path t ≡ Some n → IsSorted n m → replaced_at path m t ≡ done u → StaysAt mode t u path
   by_node (table f ss) m w there is put =
       in-table f ss w (ap (λ x. replaced_at path x t) (sym is) ∙ put) (table-turned mode t made steady k rest f ss there)
   by_node (inline f ss) m w there is put =
-      value-stays mode t u path (inline f ss) (inline f (slots_from (sorted_slots is_dotted_inline ss))) made steady there refl
-      (λ undotted. ap not undotted) (made-sorted is_dotted_inline ss w) (ap (λ x. replaced_at path x t) (sym is) ∙ put)
+      within-at mode t u path
+      (value-stays mode t u path (inline f ss) (inline f (slots_from (sorted_slots is_dotted_inline ss))) made steady there refl
+      (λ undotted. ap not undotted) (made-sorted is_dotted_inline ss w) (ap (λ x. replaced_at path x t) (sym is) ∙ put))
   by_node (leaf s r d) m w there is put = absurd is
   by_node (list f xs) m w there is put = absurd is
   by_node (tables e xs) m w there is put = absurd is

@@ -18,7 +18,7 @@ use Rattle.toml_edit_edit_laws.proofs.commands.Going.{goes-along, made-goes}
 use Rattle.toml_edit_edit_laws.proofs.commands.Setting.{done-is}
 use Rattle.toml_edit_edit_laws.proofs.path_calls.Spots.{GoesOn, at_slot, at_element, in_value, Spot, spot}
 use Rattle.toml_edit_paths.specs.Calls.{replaced_at, replaced_below}
-use Rattle.toml_edit_script.proofs.staying.Words.{StaysAt}
+use Rattle.toml_edit_script.proofs.staying.Words.{StaysWithin}
 use Rattle.toml_edit_script.proofs.staying.Values.{inside-value}
 
 -- ---- ways that go on
@@ -59,7 +59,7 @@ pub record OnWalk (t : Tree) (path : List Text) (f : TableFields) (ss : Slots) :
   pub slots : visit.slots ≡ ss
 
 abbrev pub InsideValue : Mode → Tree → List Text → Type 0
-InsideValue mode t path = (u : Tree) (m : Node) → IsWellMade m → replaced_at path m t ≡ done u → StaysAt mode t u path
+InsideValue mode t path = (u : Tree) (m : Node) → IsWellMade m → replaced_at path m t ≡ done u → StaysWithin mode t u path
 
 module _ (mode : Mode) (t : Tree) (made : SlotsAreWellMade t.slots) (steady : is_steady_in mode t ≡ true) (path : List Text)
     (f : TableFields) (ss : Slots) where

@@ -20,12 +20,13 @@ use Rattle.toml_edit_laws.proofs.locality.Under.{front-is}
 use Rattle.toml_edit_edit_laws.specs.Commands.{done, mapped, change_element, change_slot, element_of, item_at}
 use Rattle.toml_edit_edit_laws.specs.CommandLaws.{Goes}
 use Rattle.toml_edit_edit_laws.specs.Comments.{header_edited, recommented, with_header_decor}
-use Rattle.toml_edit_edit_laws.specs.PathEdits.{NamesSlot}
 use Rattle.toml_edit_edit_laws.proofs.commands.Going.{changed-same, element-there}
-use Rattle.toml_edit_edit_laws.proofs.path_calls.Spots.{GoesOn, at_slot, at_element, in_value, Spot, spot, spot-names}
+use Rattle.toml_edit_edit_laws.proofs.path_calls.Spots.{GoesOn, at_slot, at_element, in_value, Spot, spot}
 use Rattle.toml_edit_paths.specs.Calls.{replaced_at, replaced_below}
+use Rattle.toml_edit_script.specs.Places.{place_of}
+use Rattle.toml_edit_script.proofs.staying.Places.{spot-place}
 use Rattle.toml_edit_script.proofs.staying.Tables.{InsideValue, goes-join}
-use Rattle.toml_edit_script.proofs.staying.Values.{inside-value, slot-left, slot-named}
+use Rattle.toml_edit_script.proofs.staying.Values.{inside-value, slot-left}
 
 pub record Turned (t : Tree) (path : List Text) (f : TableFields) (ss : Slots) : Type 0 where
   pub way : List Turn
@@ -38,7 +39,7 @@ pub record Turned (t : Tree) (path : List Text) (f : TableFields) (ss : Slots) :
   pub fields : visit.fields ≡ f
   pub slots : visit.slots ≡ ss
   pub place : Path
-  pub names : NamesSlot t path place
+  pub is : place_of t path ≡ place
   pub above : is_at_or_below place visit.path ≡ true
   -- the table gets another decor
   pub left : (u : Tree) (d : Decor) → replaced_at path (table (recommented d f) ss) t ≡ done u → u ≡ edited way (header_edited turn d) t
@@ -54,8 +55,8 @@ module _ (mode : Mode) (t : Tree) (made : SlotsAreWellMade t.slots) (steady : is
   abbrev place : Path
   place = to_key w.path p.key.name
 
-  names : NamesSlot t path place
-  names = spot-names t path (table f ss) p place (ap (to_key w.path) (sym (slot-named t made path (table f ss) p)))
+  is_there : place_of t path ≡ place
+  is_there = spot-place t made path (table f ss) p
 
   turned : (inner : List Text) → p.inner ≡ inner → GoesOn p.top (table f ss) inner → Turned t path f ss ⊎ InsideValue mode t path
   turned [] is (at_slot same) =
@@ -73,7 +74,7 @@ module _ (mode : Mode) (t : Tree) (made : SlotsAreWellMade t.slots) (steady : is
         fields = refl;
         slots = refl;
         place = place;
-        names = names;
+        is = is_there;
         above = front-is place place ∙ front-refl place;
         left = λ u d put.
             let m : Node = table (recommented d f) ss in
@@ -103,7 +104,7 @@ module _ (mode : Mode) (t : Tree) (made : SlotsAreWellMade t.slots) (steady : is
         fields = cc;
         slots = cc;
         place = place;
-        names = names;
+        is = is_there;
         above = front-is place (to_element place (element_count e.before)) ∙ front-more place (at_element (element_count e.before) ∷ []);
         left = λ u d put.
             let m : Node = table (recommented d f) ss in

@@ -22,10 +22,11 @@ use Rattle.toml_edit_edit_laws.proofs.commands.Keeping.{child-only}
 use Rattle.toml_edit_edit_laws.proofs.commands.Setting.{below-stands, done-is, was-mapped}
 use Rattle.toml_edit_edit_laws.proofs.path_calls.Inside.{spelled}
 use Rattle.toml_edit_edit_laws.proofs.path_calls.Keys.{child-at}
-use Rattle.toml_edit_edit_laws.proofs.path_calls.Spots.{GoesOn, at_slot, at_element, in_value, Spot, spot, spot-names}
+use Rattle.toml_edit_edit_laws.proofs.path_calls.Spots.{GoesOn, at_slot, at_element, in_value, Spot, spot}
 use Rattle.toml_edit_edit_laws.proofs.path_calls.Staying.{edit_stays}
 use Rattle.toml_edit_paths.specs.Calls.{replaced_at, replaced_below}
-use Rattle.toml_edit_script.proofs.staying.Words.{StaysAt, ValueStays}
+use Rattle.toml_edit_script.proofs.staying.Words.{StaysWithin, ValueStays}
+use Rattle.toml_edit_script.proofs.staying.Places.{spot-further}
 
 -- what a path leads to can be replaced
 pub there-replaced : (path : List Text) (m n a : Node) → item_below path n ≡ Some a → (r : Node) × (replaced_below path m n ≡ done r)
@@ -88,19 +89,15 @@ module _ (mode : Mode) (t u : Tree) (made : SlotsAreWellMade t.slots) (steady : 
       ∙ ap (λ a. mapped (λ xs. table w.fields (slots_from xs)) (mapped (λ x. changed p.segment (with_item x) (slot_list w.slots)) a)) h)
 
   value-slot : (n : Node) → is_value_node p.top ≡ true → is_plain_value n ≡ true → IsWellMade n → replaced_below p.inner m p.top ≡ done n
-      → StaysAt mode t u path
-  value-slot n value flat wn h =
+      → StaysWithin mode t u path
+  value-slot n value flat wn h more =
       let e : Edit = replace p.way p.segment (λ l. l) n in
       let applies : Applies mode e t =
       (w, p.key, p.top, p.leads, p.there, value, flat, refl, (spelled p.segment w.slots (keyed p.key p.top) well p.there, wn)) in
-      let place : Path = to_key w.path p.key.name in
-      record {
-        place = place;
-        names = spot-names t path found p place (ap (to_key w.path) (sym there-is.named));
-        stays = subst (StaysButAt mode (place ∷ []) t) (sym (slot-changes n h)) (edit_stays mode e t made steady applies);
-      }
+      subst (λ (q : Path). StaysButAt mode (q ∷ []) t u) (sym (spot-further t made path found p value more))
+      (subst (StaysButAt mode (to_key w.path p.key.name ∷ []) t) (sym (slot-changes n h)) (edit_stays mode e t made steady applies))
 
-  pub inside-value : IsWellMade m → is_value_node p.top ≡ true → (x : Text) (inner : List Text) → p.inner ≡ x ∷ inner → StaysAt mode t u path
+  pub inside-value : IsWellMade m → is_value_node p.top ≡ true → (x : Text) (inner : List Text) → p.inner ≡ x ∷ inner → StaysWithin mode t u path
   inside-value wm value x inner is =
       let n = there-replaced p.inner m p.top found p.below in
       let h : replaced_below (x ∷ inner) m p.top ≡ done n.0 = ap (λ q. replaced_below q m p.top) (sym is) ∙ n.1 in
@@ -108,17 +105,12 @@ module _ (mode : Mode) (t u : Tree) (made : SlotsAreWellMade t.slots) (steady : 
       (replaced-made p.inner m p.top n.0 wm there-is.made n.1) n.1
 
   pub at-value : IsWellMade m → is_value_node p.top ≡ true → (is_dotted_inline p.top ≡ false → is_plain_value m ≡ true) → p.inner ≡ []
-      → StaysAt mode t u path
+      → StaysWithin mode t u path
   at-value wm value flat is = value-slot m value (flat undotted) wm (ap (λ q. replaced_below q m p.top) is)
-
-pub slot-named : (t : Tree) → SlotsAreWellMade t.slots → (path : List Text) (found : Node) (p : Spot (root_visit t) path found)
-    → p.segment ≡ p.key.name
-slot-named t made path found p =
-    (found-in p.segment p.visit.slots (keyed p.key p.top) (leads-made p.way (root_visit t) p.visit made p.leads) p.there).named
 
 by_end : (mode : Mode) (t u : Tree) (made : SlotsAreWellMade t.slots) (steady : is_steady_in mode t ≡ true) (path : List Text) (old m : Node)
     (p : Spot (root_visit t) path old) → is_value_node old ≡ true → (is_dotted_inline old ≡ false → is_plain_value m ≡ true) → IsWellMade m
-    → replaced_at path m t ≡ done u → (inner : List Text) → p.inner ≡ inner → GoesOn p.top old inner → StaysAt mode t u path
+    → replaced_at path m t ≡ done u → (inner : List Text) → p.inner ≡ inner → GoesOn p.top old inner → StaysWithin mode t u path
 by_end mode t u made steady path old m p value flat wm put [] is (at_slot same) =
     at-value mode t u made steady path old m p put wm (subst (λ x. is_value_node x ≡ true) (sym same) value)
     (subst (λ x. is_dotted_inline x ≡ false → is_plain_value m ≡ true) (sym same) flat) is
@@ -141,8 +133,11 @@ pub record ValuePut (t u : Tree) : Type 0 where
   pub way : List Turn
   pub visit : Visit
   pub key : Text
+  pub old : Slot Node
   pub value : Node
   pub leads : Leads way (root_visit t) visit
+  pub there : lookup_slot key (slot_list visit.slots) ≡ Some old
+  pub was_value : is_value_node old.item ≡ true
   pub is_value : is_value_node value ≡ true
   pub leaves : u ≡ edited way (changed key (with_item value)) t
 
@@ -154,8 +149,11 @@ put_by_end mode t u made steady path old m p value also put [] is (at_slot same)
       way = p.way;
       visit = p.visit;
       key = p.segment;
+      old = keyed p.key p.top;
       value = m;
       leads = p.leads;
+      there = p.there;
+      was_value = ap is_value_node same ∙ value;
       is_value = also;
       leaves = slot-changes mode t u made steady path old m p put m (ap (λ q. replaced_below q m p.top) is);
     }
@@ -168,8 +166,11 @@ put_by_end mode t u made steady path old m p value also put (x ∷ inner) is (in
       way = p.way;
       visit = p.visit;
       key = p.segment;
+      old = keyed p.key p.top;
       value = n.0;
       leads = p.leads;
+      there = p.there;
+      was_value = top;
       is_value = still-value (new_key y) (replaced_below more m) p.top n.0 top h;
       leaves = slot-changes mode t u made steady path old m p put n.0 n.1;
     }

@@ -2,7 +2,6 @@
 use Rattle.std.specs.Prelude.{◌≡◌, ◌⊎◌, true, false, List, [], ◌∷◌, ◌++◌, Option, Some}
 use Rattle.toml_edit_model.specs.Mode.{Mode}
 use Rattle.toml_edit_model.specs.Text.{Text, one}
-use Rattle.toml_edit_model.specs.Paths.{Path}
 use Rattle.toml_edit_model.specs.Fits.{is_steady_in}
 use Rattle.toml_edit_model.specs.HeaderOrder.{Visit}
 use Rattle.toml_edit_model.specs.Keys.{names}
@@ -17,11 +16,11 @@ use Rattle.toml_edit_laws.specs.Locality.{is_plain_value, IsWellMadeSlot}
 use Rattle.toml_edit_edit_laws.specs.Commands.{done, item_at, remove_at, root_item, set_at}
 use Rattle.toml_edit_edit_laws.specs.CommandLaws.{NamesTable}
 use Rattle.toml_edit_edit_laws.specs.Headed.{set_at_with_headers}
-use Rattle.toml_edit_edit_laws.specs.PathEdits.{NamesSlot}
 use Rattle.toml_edit_edit_laws.specs.Staying.{StaysButAt}
 use Rattle.toml_edit_paths.specs.Calls.{item_inside, replaced_at}
 use Rattle.toml_edit_paths.specs.Lines.{remove_line_at}
 use Rattle.toml_edit_script.specs.OthersStay.{HasPlace, TakesLines}
+use Rattle.toml_edit_script.specs.Places.{place_of}
 
 -- the item with this comment
 abbrev pub IsCommented : Option Text → Node → Node → Type 0
@@ -37,17 +36,19 @@ IsSorted (inline f ss) m = m ≡ inline f (slots_from (sorted_slots is_dotted_in
 IsSorted n m = ⊥
 
 module _ (mode : Mode) where
-  -- all stays but at one place, to which the path leads
-  pub record StaysAt (t u : Tree) (path : List Text) : Type 0 where
-    pub place : Path
-    pub names : NamesSlot t path place
-    pub stays : StaysButAt mode (place ∷ []) t u
+  -- all stays but at the place of the path
+  abbrev pub StaysAt : Tree → Tree → List Text → Type 0
+  StaysAt t u path = StaysButAt mode (place_of t path ∷ []) t u
+
+  -- which is that of each longer path, too
+  abbrev pub StaysWithin : Tree → Tree → List Text → Type 0
+  StaysWithin t u path = (more : List Text) → StaysAt t u (path ++ more)
 
   abbrev pub ValueStays : Type 0
   ValueStays =
       (t u : Tree) (path : List Text) (old m : Node) → SlotsAreWellMade t.slots → is_steady_in mode t ≡ true
       → item_at path t ≡ Some old → is_value_node old ≡ true → (is_dotted_inline old ≡ false → is_plain_value m ≡ true)
-      → IsWellMade m → replaced_at path m t ≡ done u → StaysAt t u path
+      → IsWellMade m → replaced_at path m t ≡ done u → StaysWithin t u path
 
   abbrev pub SetStays : Type 0
   SetStays =
@@ -67,12 +68,8 @@ module _ (mode : Mode) where
       → remove_line_at path t ≡ done u → StaysAt t u path
 
   -- the same with a second path
-  pub record StaysAtBoth (t u : Tree) (path other : List Text) : Type 0 where
-    pub first : Path
-    pub second : Path
-    pub names : NamesSlot t path first
-    pub other_names : NamesSlot t other second
-    pub stays : StaysButAt mode (first ∷ second ∷ []) t u
+  abbrev pub StaysAtBoth : Tree → Tree → List Text → List Text → Type 0
+  StaysAtBoth t u path other = StaysButAt mode (place_of t path ∷ place_of t other ∷ []) t u
 
   abbrev pub KeyStays : Type 0
   KeyStays =

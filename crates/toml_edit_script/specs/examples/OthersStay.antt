@@ -6,7 +6,7 @@ use Rattle.toml_edit_model.specs.Conversions.{new_table}
 use Rattle.toml_edit_model.specs.HeaderOrder.{Visit, visit_of}
 use Rattle.toml_edit_model.specs.Keys.{names, new_key}
 use Rattle.toml_edit_model.specs.Mode.{plain}
-use Rattle.toml_edit_model.specs.Paths.{at_key}
+use Rattle.toml_edit_model.specs.Paths.{at_key, same_path}
 use Rattle.toml_edit_model.specs.Text.{Text}
 use Rattle.toml_edit_model.specs.Tree.{Key, Node, Slots, Tree, is_value_node, no_items, no_slots, owned, slot, table}
 use Rattle.toml_edit_model.specs.examples.Parts.{plain_int, plain_list}
@@ -14,7 +14,8 @@ use Rattle.toml_edit_laws.specs.Locality as locality
 use Rattle.toml_edit_laws.specs.Locality.{is_plain_value}
 use Rattle.toml_edit_edit_laws.specs.Commands.{item_at}
 use Rattle.toml_edit_edit_laws.specs.CommandLaws.{NamesTable}
-use Rattle.toml_edit_script.specs.OthersStay.{HasPlace, IsHarmless, IsHarmlessAt, IsLocal, MayMove, NamePlaces, at_new_key, beside, in_value, into_table, paths_of}
+use Rattle.toml_edit_script.specs.OthersStay.{HasPlace, IsHarmless, IsHarmlessAt, IsLocal, MayMove, at_new_key, beside, in_value, into_table, paths_of, places_of}
+use Rattle.toml_edit_script.specs.Places.{place_of}
 use Rattle.toml_edit_script.specs.declared.edit.Edit.TheVariants as edits
 
 abbrev a : Text
@@ -86,12 +87,22 @@ root_is_no_place (at_new_key (j ∷ front) k w same spelled named is_new takes) 
 renamed_keys : (path to : Vec Key Global) → paths_of (edits.Move path to) ≡ names path.items ∷ names to.items ∷ []
 renamed_keys path to = refl
 
-no_edits : NamePlaces [] [] small
-no_edits = tt
+no_edits : places_of [] small ≡ []
+no_edits = refl
 
--- no edit has no place
-none_of_them : NamePlaces [] ([] ∷ []) small → ⊥
-none_of_them h = h
+place_in_x : place_of small (x ∷ b ∷ []) ≡ at_key x ∷ at_key b ∷ []
+place_in_x = refl
+
+-- a key that is not there has a place of its own
+new_place_in_x : place_of small (x ∷ a ∷ []) ≡ at_key x ∷ at_key a ∷ []
+new_place_in_x = refl
+
+-- what is inside a value has the value's place, and what is in a table has not the table's
+place_in_a : place_of small (a ∷ b ∷ []) ≡ at_key a ∷ []
+place_in_a = refl
+
+place_of_x_alone : same_path (place_of small (x ∷ b ∷ [])) (at_key x ∷ []) ≡ false
+place_of_x_alone = refl
 
 -- ---- harmless edits
 
