@@ -1,2 +1,3 @@
 -- Worked examples.
 pub mod OthersStay
+pub mod Places
