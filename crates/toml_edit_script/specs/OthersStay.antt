@@ -41,6 +41,7 @@ paths_of (edits.Move path to) = names path.items ∷ one (names to.items)
 paths_of (edits.Sort path) = one (names path.items)
 paths_of (edits.Comment path text) = one (names path.items)
 
+-- the places in the tree that was left, if it was
 abbrev pub where_done : (Tree → List Path) → Result Tree EditFault → List Path
 where_done go (Ok u) = go u
 where_done go (Err f) = []
