@@ -1,34 +1,49 @@
 -- What commands write of a document.
-use Rattle.std.specs.Prelude.{◌≡◌, nat_eq, Bool, not, ◌&&◌, if◌then◌else◌, [], ◌∷◌, ◌++◌, List, Some}
-use Rattle.std.specs.List.{starts_with}
+use Rattle.std.specs.Prelude.{◌≡◌, ◌↔◌, ◌++◌, Any, Bool, true, IsTrue, List, [], Option, Some, None}
+use Rattle.std.specs.Option.{option_copied}
+use Rattle.toml_edit_model.specs.Keys.{names}
 use Rattle.toml_edit_model.specs.Text.{Text, newline}
-use Rattle.toml_edit_model.specs.Fits.{FitsIn}
 use Rattle.toml_edit_model.specs.Tree.{Node, Tree}
 use Rattle.toml_edit_edit_laws.specs.Commands.{item_at}
-use Rattle.toml_edit.specs.DocumentView.{mode_owned, open_owned, print_of, tree_owned}
-use Rattle.toml_edit.specs.Documents.{MeansWhatIsShown}
-use Rattle.toml_edit.specs.declared.document.DocumentMut.{DocumentMut}
+use Rattle.toml_edit_files.specs.declared.stop.Reason.{Reason}
+use Rattle.toml_edit_files.specs.declared.stop.Reason.TheVariants.{No}
+use Rattle.toml_edit_files.specs.declared.words.Question.{Question}
+use Rattle.toml_edit_files.specs.declared.words.Question.TheVariants.{Get, Has, Keys, Json}
+use Rattle.toml_edit_files.specs.Get.{AreGot, HasAt, IsNotGot, found_at}
+use Rattle.toml_edit_files.specs.Keys.{IsListedAt, IsNotListed}
 use Rattle.toml_edit_json.specs.Values.{json_text}
 
 -- the item at the path as JSON, and a newline
 abbrev pub IsJsonAt : List Text → Tree → Text → Type 0
 IsJsonAt path t s = (n : Node) × (item_at path t ≡ Some n) × (s ≡ json_text n ++ newline)
 
--- a byte order mark
-abbrev pub mark : Text
-mark = 0xEF ∷ 0xBB ∷ 0xBF ∷ []
+-- there is none, where memory has not run out
+abbrev pub IsNoJson : Option Reason → Option Node → Type 0
+IsNoJson None o = Unit {0}
+IsNoJson (Some No) o = o ≡ None
+IsNoJson (Some _) o = ⊥
 
--- the mark that stays of a text
-abbrev pub mark_of : Bool → Text → Text
-mark_of normal t = if starts_with nat_eq t mark && not normal then mark else []
+-- ---- questions
 
--- The document fits, so its print is accepted and means what it shows, and this is the print.
-pub record IsFittingPrint (d : DocumentMut) (s : Text) : Type 0 where
-  pub fits : FitsIn (mode_owned d) (tree_owned d)
-  pub back : ∥ MeansWhatIsShown (mode_owned d) (open_owned d) (tree_owned d) ∥₁
-  pub text : s ≡ print_of d
+abbrev pub file_of : Question → Text
+file_of (Get c) = c.file.now
+file_of (Has c) = c.file.now
+file_of (Keys c) = c.file.now
+file_of (Json c) = c.file.now
 
--- This is written in place of the text before.
-abbrev pub IsWritten : Bool → Text → DocumentMut → Text → Type 0
-IsWritten normal before d s =
-    (x : Text) × IsFittingPrint d x × (s ≡ mark_of normal before ++ x)
+-- the answer to a question about a tree: whether it is yes, and what is written
+abbrev pub IsAnswer : Question → Tree → Bool → Text → Type 0
+IsAnswer (Get c) t is_yes s =
+    (is_yes ≡ true) × AreGot c.shape (option_copied c.default) (found_at t c.paths.items) s
+IsAnswer (Has c) t is_yes s =
+    (IsTrue is_yes ↔ HasAt c.kind (item_at (names c.path.items) t)) × (s ≡ [])
+IsAnswer (Keys c) t is_yes s = (is_yes ≡ true) × IsListedAt c.all c.path.items t s
+IsAnswer (Json c) t is_yes s = (is_yes ≡ true) × IsJsonAt (names c.path.items) t s
+
+-- why there is none, where memory has not run out
+abbrev pub HasNoAnswer : Question → Tree → Option Reason → Type 0
+HasNoAnswer (Get c) t why =
+    Any (IsNotGot c.shape (option_copied c.default) why) (found_at t c.paths.items)
+HasNoAnswer (Has c) t why = ⊥
+HasNoAnswer (Keys c) t why = IsNotListed c.all why (item_at (names c.path.items) t)
+HasNoAnswer (Json c) t why = IsNoJson why (item_at (names c.path.items) t)

@@ -1,1 +1,12 @@
+pub mod Stops
+pub mod Get
+pub mod Keys
+pub mod KeyPaths
+pub mod Folders
+pub mod Edited
+pub mod EditFiles
+pub mod Checks
 pub mod Answers
+pub mod Runs
+-- Worked examples: nothing cites them.
+pub mod examples

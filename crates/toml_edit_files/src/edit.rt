@@ -1,8 +1,17 @@
-//! The command `edit`: the text of a file after its edits.
-ghost use Rattle.std.specs.Prelude.{◌≡◌, ◌++◌, IfOk, string_bytes};
-ghost use Rattle.toml_edit_files.specs.Answers.{IsFittingPrint, IsWritten, mark_of};
+//! The command `edit`: the text of a file after its edits, and where it goes.
+ghost use Rattle.std.specs.Prelude.{◌≡◌, ◌++◌, IfErr, IfOk, IsTrue, None, Ok, OnErr, OnOk, Some, string_bytes};
+ghost use Rattle.std.specs.Option.{option_copied};
+ghost use Rattle.toml_edit.specs.DocumentView.{IsPrintedAs, tree_owned};
+ghost use Rattle.toml_edit_files.specs.EditFiles.{EditsFile, ScriptedFirst, StopsEditing};
+ghost use Rattle.toml_edit_files.specs.Edited.{IsAccepted, IsEdited, IsFittingPrint, IsInForm, IsMisfit, IsNotEdited, IsNotMade, IsNotWritten, IsTooNew, IsWritten, mark_of};
+ghost use Rattle.toml_edit_files.specs.Folders.{NotReplaced, OnlyLooks, Puts, Replaced, is_shown, is_there, target_of};
+ghost use Rattle.toml_edit_files.specs.Stops.{IsFor, reason_of};
+ghost use Rattle.toml_edit_files.specs.declared.stop.Reason.TheVariants.{Failed, Mistaken};
+ghost use Rattle.toml_edit_model.specs.Version.{v1_0};
+ghost use Rattle.toml_edit_script.specs.Lists.{applied};
 
 use crate::edits::edits_of_script;
+use crate::form::{MARK, check_form};
 use crate::messages::{failed, refused_edit};
 use crate::paths::path_text;
 use crate::read::{STREAM, document_of, text_of};
@@ -12,10 +21,7 @@ use std::alloc::Global;
 use toml_edit::{Document, DocumentMut, Mem, ParseFault, ParseOptions, Version};
 use toml_edit_io::Input;
 use toml_edit_replace::{Folder, replace};
-use toml_edit_script::{Edit, apply_edit};
-
-/// A byte order mark.
-const MARK: &str = "\u{feff}";
+use toml_edit_script::{Edit, apply};
 
 /// What an edit writes, and what it says on standard error.
 #[derive(Drop)]
@@ -30,120 +36,86 @@ pub fn edit<F: Folder, I: Input>(
     alloc: Global,
     folder: &mut F,
     input: &mut I,
-    command: &mut EditCommand<'_>,
+    command: &EditCommand<'_>,
+    edits: Vec<Edit>,
     reading: Reading,
-) -> Result<Edited, Stop> {
-    let edits = all_edits(alloc, folder, input, command, reading)?;
+) -> Result<Edited, Stop>
+    ensures edits { IfOk result (λ e. EditsFile reading command.now edits.items
+        (F.history folder.old) (F.history folder.new) (string_bytes e.output)) }
+    ensures stops { IfErr result (λ stop. StopsEditing command.now (F.history folder.old)
+        (F.history folder.new) (reason_of stop)) }
+{
+    let edits = all_edits(alloc, folder, input, command.script, edits, reading)?;
     let text = text_of(alloc, folder, input, command.file)?;
-    let mut document = document_of(alloc, command.file, text.as_str(), reading)?;
-    let notes = check_form(alloc, command, text.as_str(), &document, reading)?;
-    make(alloc, command.file, &mut document, edits.as_slice())?;
-    let new = text_after(alloc, command.file, text.as_str(), &document, reading)?;
-    let output = put(alloc, folder, command, text.as_str(), new)?;
-    Ok(Edited { output, notes })
+    let edited = edited_text(alloc, command, text.as_str(), edits.as_slice(), reading)?;
+    let output = put(alloc, folder, command, text.as_str(), edited.output)?;
+    Ok(Edited {
+        output,
+        notes: edited.notes,
+    })
 }
 
-/// Returns the edits of the script and of the words.
+/// Returns the edits of the script, if there is one, and those of the words.
 fn all_edits<F: Folder, I: Input>(
     alloc: Global,
     folder: &mut F,
     input: &mut I,
-    command: &mut EditCommand<'_>,
+    script: Option<&str>,
+    mut edits: Vec<Edit>,
     reading: Reading,
-) -> Result<Vec<Edit>, Stop> {
-    let mut edits = Vec::new(alloc);
-    if let Some(script) = command.script {
-        let text = text_of(alloc, folder, input, script)?;
-        edits_of_script(alloc, script, text.as_str(), &mut edits, reading)?;
-    }
-    edits.append(&mut command.edits)?;
-    Ok(edits)
+) -> Result<Vec<Edit>, Stop>
+    ensures edits { IfOk result (λ all. ScriptedFirst (option_copied script.entry) edits.items
+        all.items) }
+    ensures looks { OnlyLooks (F.history folder.old) (F.history folder.new) }
+{
+    let Some(script) = script else {
+        return Ok(edits);
+    };
+    let text = text_of(alloc, folder, input, script)?;
+    let mut all = Vec::new(alloc);
+    edits_of_script(alloc, script, text.as_str(), &mut all, reading)?;
+    all.append(&mut edits)?;
+    Ok(all)
 }
 
-/// Makes the edits in the document.
-fn make(alloc: Global, file: &str, document: &mut DocumentMut, edits: &[Edit]) -> Result<(), Stop> {
-    for at in 0..edits.len() {
-        let edit = &edits[at];
-        if let Err(fault) = apply_edit(alloc, document, edit) {
-            return Err(refused_edit(alloc, file, document, at + 1, edit, fault)?);
-        }
-    }
-    Ok(())
-}
-
-/// Returns the text of a file without its byte order mark.
-fn without_mark(text: &str) -> &str {
-    text.strip_prefix(MARK).unwrap_or(text)
-}
-
-/// Returns a note on the lines that change though no edit names them, or refuses them under
-/// `--locked`.
-fn check_form(
+/// Returns what the edits leave of a text, and a note on the lines that change though no edit names
+/// them.
+fn edited_text(
     alloc: Global,
     command: &EditCommand<'_>,
     text: &str,
-    document: &DocumentMut,
+    edits: &[Edit],
     reading: Reading,
-) -> Result<String, Stop> {
-    let file = command.file;
-    if reading.normal && !command.locked {
-        return Ok(String::new(alloc));
-    }
-    let text = without_mark(text);
-    let print = document.print(alloc)?;
-    if print.as_str() == text {
-        return Ok(String::new(alloc));
-    }
-    let (first, last) = lines_between(alloc, text, print.as_str())?;
-    let note = if command.locked {
-        "lines are not in normal form"
-    } else {
-        "lines are brought to normal form"
-    };
-    let note = format!(in alloc; "tomlfile: {file}:{first}-{last}: {note}\n")?;
-    if command.locked {
-        return Err(Stop::Told(Reason::Refused, note));
-    }
-    Ok(note)
+) -> Result<Edited, Stop>
+    ensures text { IfOk result
+        (λ e. IsEdited reading edits.now text.now (string_bytes e.output)) }
+    ensures locked { OnOk result (IsTrue command.now.locked → IsInForm reading text.now) }
+    ensures stops { IfErr result (λ stop. IsNotEdited reading command.now.locked edits.now text.now
+        (reason_of stop)) }
+{
+    let mut document = document_of(alloc, command.file, text, reading)?;
+    let notes = check_form(alloc, command, text, &document, reading)?;
+    make(alloc, command.file, &mut document, edits)?;
+    let output = text_after(alloc, command.file, text, &document, reading)?;
+    Ok(Edited { output, notes })
 }
 
-/// Returns the numbers of the first and the last line of a text that differ from another one.
-fn lines_between(alloc: Global, text: &str, other: &str) -> Mem<(usize, usize)> {
-    let lines = lines_of(alloc, text)?;
-    let others = lines_of(alloc, other)?;
-    let first = equal_front(lines.as_slice(), others.as_slice()).saturating_add(1);
-    let equal = equal_back(lines.as_slice(), others.as_slice());
-    Ok((first, lines.len().saturating_sub(equal).max(first)))
-}
-
-/// Returns the lines of a text.
-fn lines_of<'t>(alloc: Global, text: &'t str) -> Mem<Vec<&'t str>> {
-    let mut lines = Vec::new(alloc);
-    for line in text.lines() {
-        lines.push(line)?;
-    }
-    Ok(lines)
-}
-
-/// Returns the number of lines at the front that are equal.
-fn equal_front(lines: &[&str], others: &[&str]) -> usize {
-    for at in 0..lines.len() {
-        if at >= others.len() || lines[at] != others[at] {
-            return at;
+/// Makes the edits in the document.
+fn make(alloc: Global, file: &str, document: &mut DocumentMut, edits: &[Edit]) -> Result<(), Stop>
+    ensures makes { OnOk result
+        (applied edits.now (tree_owned document.old) ≡ Ok (tree_owned document.new)) }
+    ensures printed { IsPrintedAs document.new document.old }
+    ensures stops { IfErr result
+        (λ stop. IsNotMade edits.now (tree_owned document.old) (reason_of stop)) }
+{
+    match apply(alloc, document, edits) {
+        Ok(()) => Ok(()),
+        Err(refused) => {
+            let edit = &edits[refused.at];
+            let number = refused.at + 1;
+            Err(refused_edit(alloc, file, document, number, edit, refused.fault)?)
         }
     }
-    lines.len()
-}
-
-/// Returns the number of lines at the end that are equal.
-fn equal_back(lines: &[&str], others: &[&str]) -> usize {
-    for at in 0..lines.len() {
-        let line = lines[lines.len() - at - 1];
-        if at >= others.len() || line != others[others.len() - at - 1] {
-            return at;
-        }
-    }
-    lines.len()
 }
 
 /// Returns the text of a file after its edits, if that is TOML of the version that is asked for and
@@ -155,8 +127,9 @@ fn text_after(
     document: &DocumentMut,
     reading: Reading,
 ) -> Result<String, Stop>
-    ensures { IfOk result
-        (λ s. IsWritten reading.normal before.now document.now (string_bytes s)) }
+    ensures text { IfOk result (λ s. IsWritten reading before.now document.now (string_bytes s)) }
+    ensures stops { IfErr result
+        (λ stop. IsNotWritten reading document.now (reason_of stop)) }
 {
     let text = fitting_text(alloc, file, document)?;
     if reading.strict {
@@ -167,7 +140,8 @@ fn text_after(
 
 /// Returns the text of a document, if it fits.
 fn fitting_text(alloc: Global, file: &str, document: &DocumentMut) -> Result<String, Stop>
-    ensures { IfOk result (λ s. IsFittingPrint document.now (string_bytes s)) }
+    ensures text { IfOk result (λ s. IsFittingPrint document.now (string_bytes s)) }
+    ensures stops { IfErr result (λ stop. IsMisfit document.now (reason_of stop)) }
 {
     if !document.fits(alloc)? {
         return Err(misfit(alloc, file, document)?);
@@ -188,7 +162,10 @@ fn with_mark(alloc: Global, before: &str, text: String, normal: bool) -> Mem<Str
 }
 
 /// Refuses a text that is no TOML 1.0.
-fn needs_old(alloc: Global, file: &str, text: &str) -> Result<(), Stop> {
+fn needs_old(alloc: Global, file: &str, text: &str) -> Result<(), Stop>
+    ensures accepted { OnOk result (IsAccepted v1_0 text.now) }
+    ensures stops { IfErr result (λ stop. IsTooNew text.now (reason_of stop)) }
+{
     let options = ParseOptions::new().version(Version::V1_0);
     match Document::parse_with(alloc, text, options) {
         Ok(document) => {
@@ -197,7 +174,7 @@ fn needs_old(alloc: Global, file: &str, text: &str) -> Result<(), Stop> {
         }
         Err(ParseFault::Toml(error)) => {
             let message = error.message();
-            Err(Stop::Told(
+            Err(Stop::Message(
                 Reason::Mistaken,
                 format!(in alloc; "tomlfile: {file}: what is written is no TOML 1.0: {message}\n")?,
             ))
@@ -207,7 +184,10 @@ fn needs_old(alloc: Global, file: &str, text: &str) -> Result<(), Stop> {
 }
 
 /// Returns that the document does not fit, and where.
-fn misfit(alloc: Global, file: &str, document: &DocumentMut) -> Result<Stop, Stop> {
+fn misfit(alloc: Global, file: &str, document: &DocumentMut) -> Result<Stop, Stop>
+    ensures stop { IfOk result (λ stop. reason_of stop ≡ Some Mistaken) }
+    ensures memory { IfErr result (λ stop. reason_of stop ≡ None) }
+{
     let text = match document.first_misfit(alloc)? {
         Some(misfit) => {
             let path = path_text(alloc, misfit.path())?;
@@ -216,38 +196,65 @@ fn misfit(alloc: Global, file: &str, document: &DocumentMut) -> Result<Stop, Sto
         }
         None => format!(in alloc; "tomlfile: {file}: does not fit\n")?,
     };
-    Ok(Stop::Told(Reason::Mistaken, text))
+    Ok(Stop::Message(Reason::Mistaken, text))
 }
 
-/// Puts the new text where it goes: into the file, if it changes, or into another one. Returns what
+/// Puts a text where it goes: into the file, if it is not there, or into another one. Returns what
 /// goes to standard output.
 fn put<F: Folder>(
     alloc: Global,
     folder: &mut F,
     command: &EditCommand<'_>,
-    old: &str,
-    new: String,
-) -> Result<String, Stop> {
-    let target = command.output.unwrap_or(command.file);
-    if command.dry_run || target == STREAM {
-        return Ok(new);
+    before: &str,
+    text: String,
+) -> Result<String, Stop>
+    ensures puts { IfOk result (λ output. Puts command.now before.now (string_bytes text)
+        (F.history folder.old) (F.history folder.new) (string_bytes output)) }
+    ensures stops { OnErr result (NotReplaced (target_of command.now) (string_bytes text)
+        (F.history folder.old) (F.history folder.new)) }
+    ensures reason { IfErr result (λ stop. IsFor Failed (reason_of stop)) }
+{
+    if is_shown(command) {
+        return Ok(text);
     }
-    if command.output.is_some() || new.as_str() != old {
-        match put_file(alloc, folder, target, new.as_str()) {
-            Ok(()) => {}
-            Err(error) => return Err(failed(alloc, target, &error)),
-        }
+    if is_there(command, before, text.as_str()) {
+        return Ok(String::new(alloc));
     }
-    Ok(String::new(alloc))
+    let target = target_of(command);
+    match put_file(alloc, folder, target, text.as_str()) {
+        Ok(()) => Ok(String::new(alloc)),
+        Err(error) => Err(failed(alloc, target, &error)),
+    }
+}
+
+/// Returns the name of the file that is written.
+fn target_of<'w>(command: &EditCommand<'w>) -> &'w str
+    ensures { result.now ≡ target_of command.now }
+{
+    command.output.unwrap_or(command.file)
+}
+
+/// Returns `true` if the text goes to standard output.
+fn is_shown(command: &EditCommand<'_>) -> bool
+    ensures { result ≡ is_shown command.now }
+{
+    command.dry_run || target_of(command) == STREAM
+}
+
+/// Returns `true` if the text is that of the file, which no other file is to get.
+fn is_there(command: &EditCommand<'_>, before: &str, text: &str) -> bool
+    ensures { result ≡ is_there command.now before.now text.now }
+{
+    command.output.is_none() && text == before
 }
 
 /// Replaces the text of the file that a name leads to.
-fn put_file<F: Folder>(
-    alloc: Global,
-    folder: &mut F,
-    file: &str,
-    text: &str,
-) -> std::io::Result<()> {
+fn put_file<F: Folder>(alloc: Global, folder: &mut F, file: &str, text: &str) -> std::io::Result<()>
+    ensures ok { OnOk result
+        (Replaced file.now text.now (F.history folder.old) (F.history folder.new)) }
+    ensures err { OnErr result
+        (NotReplaced file.now text.now (F.history folder.old) (F.history folder.new)) }
+{
     let name = folder.target(alloc, file)?;
     replace(alloc, folder, name.as_str(), text.as_bytes())
 }

@@ -82,7 +82,7 @@ fn edit_of_line(
         Some(2) if !path.is_empty() && (!operand.is_empty() || takes_empty(name)) => {}
         Some(_) => return Err(missing_operand(alloc, script, number, name)),
         None => {
-            return Err(Stop::Told(
+            return Err(Stop::Message(
                 Reason::Mistaken,
                 format!(in alloc; "tomlfile: {script}: edit {number}: no edit {name}\n")?,
             ));
@@ -136,7 +136,7 @@ fn missing_operand(alloc: Global, file: &str, number: usize, name: &str) -> Stop
         _ => "PATH VALUE",
     };
     match format!(in alloc; "tomlfile: {file}: edit {number}: usage: {name} {wanted}\n") {
-        Ok(text) => Stop::Told(Reason::Mistaken, text),
+        Ok(text) => Stop::Message(Reason::Mistaken, text),
         Err(_) => Stop::Memory,
     }
 }
@@ -216,7 +216,7 @@ fn new_name(alloc: Global, place: &str, text: &str) -> Result<String, Stop> {
     let keys = path_of(alloc, place, text)?;
     match keys.as_slice() {
         [key] => Ok(String::from_str(alloc, key.get())?),
-        _ => Err(Stop::Told(
+        _ => Err(Stop::Message(
             Reason::Mistaken,
             format!(in alloc; "tomlfile: {place}: no key {text}\n")?,
         )),

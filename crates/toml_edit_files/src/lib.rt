@@ -5,6 +5,7 @@
 mod check;
 mod edit;
 mod edits;
+mod form;
 mod get;
 mod help;
 mod json;

@@ -1,4 +1,8 @@
 //! Messages about files and edits.
+ghost use Rattle.std.specs.Prelude.{◌≡◌, IfOk, option_map};
+ghost use Rattle.toml_edit_files.specs.Stops.{IsFor, reason_for, reason_of};
+ghost use Rattle.toml_edit_files.specs.declared.stop.Reason.TheVariants.{Failed};
+
 use crate::paths::{hint, path_text};
 use crate::stop::{Reason, Stop};
 use std::alloc::Global;
@@ -8,12 +12,14 @@ use toml_edit::{DocumentMut, Key, Mem, TomlError};
 use toml_edit_script::{Edit, EditFault};
 
 /// Returns that a call on a file has failed.
-pub fn failed(alloc: Global, file: &str, error: &io::Error) -> Stop {
+pub fn failed(alloc: Global, file: &str, error: &io::Error) -> Stop
+    ensures { IsFor Failed (reason_of result) }
+{
     if error.kind() == ErrorKind::OutOfMemory {
         return Stop::Memory;
     }
     match format!(in alloc; "tomlfile: {file}: {error}\n") {
-        Ok(text) => Stop::Told(Reason::Failed, text),
+        Ok(text) => Stop::Message(Reason::Failed, text),
         Err(_) => Stop::Memory,
     }
 }
@@ -35,7 +41,9 @@ pub fn refused_edit(
     number: usize,
     edit: &Edit,
     fault: EditFault,
-) -> Result<Stop, Stop> {
+) -> Mem<Stop>
+    ensures { IfOk result (λ stop. reason_of stop ≡ reason_for fault) }
+{
     let word = edit.word();
     let path = path_text(alloc, edit.path())?;
     let path = path.as_str();
@@ -45,29 +53,31 @@ pub fn refused_edit(
         String::new(alloc)
     };
     let hint = hint.as_str();
-    let (reason, why) = match fault {
-        EditFault::NoSuchPath => (Reason::Mistaken, "no such path"),
-        EditFault::WrongKind => (Reason::Mistaken, "wrong kind"),
-        EditFault::NoSuchElement => (Reason::No, "no such element"),
-        EditFault::Taken => (Reason::Mistaken, "the key is there already"),
-        EditFault::BadComment => (Reason::Mistaken, "bad comment"),
-        EditFault::Memory => return Ok(Stop::Memory),
+    let Some((reason, why)) = reason_and_why(fault) else {
+        return Ok(Stop::Memory);
     };
-    Ok(Stop::Told(
+    Ok(Stop::Message(
         reason,
         format!(in alloc; "tomlfile: {file}: edit {number} ({word} {path}): {why}{hint}\n")?,
     ))
 }
 
-/// Returns that something is wrong at a path of a file.
-pub fn wrong_at(alloc: Global, file: &str, path: &[Key], why: &str) -> Stop {
-    match wrong_text(alloc, file, path, why) {
-        Ok(text) => Stop::Told(Reason::Mistaken, text),
-        Err(_) => Stop::Memory,
+/// Returns the reason of a refusal and what it says, or `None` if memory ran out.
+fn reason_and_why(fault: EditFault) -> Option<(Reason, &'static str)>
+    ensures { option_map (λ told. told.0) result ≡ reason_for fault }
+{
+    match fault {
+        EditFault::NoSuchPath => Some((Reason::Mistaken, "no such path")),
+        EditFault::WrongKind => Some((Reason::Mistaken, "wrong kind")),
+        EditFault::NoSuchElement => Some((Reason::No, "no such element")),
+        EditFault::Taken => Some((Reason::Mistaken, "the key is there already")),
+        EditFault::BadComment => Some((Reason::Mistaken, "bad comment")),
+        EditFault::Memory => None,
     }
 }
 
-fn wrong_text(alloc: Global, file: &str, path: &[Key], why: &str) -> Mem<String> {
+/// Returns the message that something is wrong at a path of a file.
+pub fn wrong_at(alloc: Global, file: &str, path: &[Key], why: &str) -> Mem<String> {
     let path = path_text(alloc, path)?;
     let path = path.as_str();
     format!(in alloc; "tomlfile: {file}: {path}: {why}\n")

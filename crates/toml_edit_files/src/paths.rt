@@ -12,7 +12,7 @@ pub fn path_of(alloc: Global, place: &str, text: &str) -> Result<Vec<Key>, Stop>
         Err(ParseFault::Toml(error)) => {
             let why = parse_message(alloc, &error)?;
             let why = why.as_str();
-            Err(Stop::Told(
+            Err(Stop::Message(
                 Reason::Mistaken,
                 format!(in alloc; "tomlfile: {place}: bad path {text}{why}\n")?,
             ))
@@ -34,7 +34,7 @@ pub fn value_of(
         Err(ParseFault::Toml(error)) => {
             let why = parse_message(alloc, &error)?;
             let why = why.as_str();
-            Err(Stop::Told(
+            Err(Stop::Message(
                 Reason::Mistaken,
                 format!(in alloc; "tomlfile: {place}: bad value {text}{why}{hint}\n")?,
             ))

@@ -1,5 +1,12 @@
 //! The program as one function.
-ghost use Rattle.std.specs.Prelude.{◌≡◌, ◌≢◌, ◌≤◌, ◌⊎◌};
+ghost use Rattle.std.specs.Prelude.{[], ◌≡◌, ◌≢◌, ◌≤◌, ◌⊎◌, IfErr, IfOk, string_bytes, true};
+ghost use Rattle.std.specs.Io.KnownBytes.{Appends};
+ghost use Rattle.toml_edit.specs.DocumentView.{tree_owned};
+ghost use Rattle.toml_edit_files.specs.Answers.{HasNoAnswer, IsAnswer};
+ghost use Rattle.toml_edit_files.specs.Folders.{OnlyLooks};
+ghost use Rattle.toml_edit_files.specs.Runs.{AnswersQuestion, IsDone, Leaves};
+ghost use Rattle.toml_edit_files.specs.Stops.{reason_of};
+ghost use Rattle.toml_edit_model.specs.Text.{Text};
 
 use crate::check::check;
 use crate::edit::edit;
@@ -9,8 +16,9 @@ use crate::json::json;
 use crate::keys::keys;
 use crate::read::read_document;
 use crate::stop::{DONE, FAILED, NO, NO_MEMORY, Stop};
-use crate::words::{Command, Reading, request_of};
+use crate::words::{Command, Question, Reading, request_of};
 use std::alloc::Global;
+use toml_edit::DocumentMut;
 use toml_edit_io::{Input, Output, write_all};
 use toml_edit_replace::Folder;
 
@@ -53,10 +61,17 @@ pub fn run<F: Folder, I: Input, O: Output, E: Output>(
 ) -> u8
     ensures status { result ≤ 5 }
     ensures unwritten { 2 ≤ result → result ≢ 4 → output.new ≡ output.old }
+    // The output is what a command writes that is done, with the answer yes.
+    ensures done { result ≡ 0 → (text : Text) × IsDone (F.history folder.old)
+        (F.history folder.new) (I.remaining input.old) true text
+        × Appends (O.contents output.old) (O.contents output.new) text }
+    // The folder is only looked at.
+    ensures refused { (result ≡ 2) ⊎ (result ≡ 5)
+        → OnlyLooks (F.history folder.old) (F.history folder.new) }
 {
     match answer(alloc, words, folder, input) {
         Ok(done) => finish(&done, output, errors),
-        Err(Stop::Told(reason, message)) => {
+        Err(Stop::Message(reason, message)) => {
             tell(errors, message.as_str());
             reason.status()
         }
@@ -79,7 +94,10 @@ fn tell<E: Output>(errors: &mut E, text: &str) {
 
 /// Writes what a command leaves, and returns its status.
 fn finish<O: Output, E: Output>(done: &Done, output: &mut O, errors: &mut E) -> u8
-    ensures { (result ≤ 1) ⊎ (result ≡ 4) }
+    ensures status { (result ≤ 1) ⊎ (result ≡ 4) }
+    ensures yes { result ≡ 0 → done.now.yes ≡ true }
+    ensures output { result ≤ 1 → Appends (O.contents output.old) (O.contents output.new)
+        (string_bytes done.now.output) }
 {
     match write_all(output, done.output.as_bytes()) {
         Ok(()) => {
@@ -99,63 +117,83 @@ fn answer<F: Folder, I: Input>(
     words: &[String],
     folder: &mut F,
     input: &mut I,
-) -> Result<Done, Stop> {
+) -> Result<Done, Stop>
+    ensures done { IfOk result (λ done. IsDone (F.history folder.old) (F.history folder.new)
+        (I.remaining input.old) done.yes (string_bytes done.output)) }
+    ensures stops { IfErr result
+        (λ stop. Leaves (F.history folder.old) (F.history folder.new) (reason_of stop)) }
+{
     let request = request_of(alloc, words)?;
     let reading = request.reading;
     match request.command {
-        Command::Help(topic) => answered(alloc, help(alloc, topic)?),
-        Command::Version => answered(alloc, String::from_str(alloc, VERSION)?),
+        Command::Help(topic) => Ok(answered(alloc, help(alloc, topic)?)),
+        Command::Version => Ok(answered(alloc, String::from_str(alloc, VERSION)?)),
         Command::Check(files) => {
-            let output = check(alloc, folder, input, files, reading)?;
+            let checked = check(alloc, folder, input, files, reading)?;
             Ok(Done {
-                yes: output.is_empty(),
-                output,
+                yes: checked.accepted,
+                output: checked.report,
                 notes: String::new(alloc),
             })
         }
-        Command::Edit(mut command) => {
-            let edited = edit(alloc, folder, input, &mut command, reading)?;
+        Command::Edit(command, edits) => {
+            let edited = edit(alloc, folder, input, &command, edits, reading)?;
             Ok(Done {
                 yes: true,
                 output: edited.output,
                 notes: edited.notes,
             })
         }
-        asked => ask(alloc, &asked, folder, input, reading),
+        Command::Ask(question) => ask(alloc, &question, folder, input, reading),
     }
 }
 
 /// Returns that a command is done, with its output alone.
-fn answered(alloc: Global, output: String) -> Result<Done, Stop> {
-    Ok(Done {
+fn answered(alloc: Global, output: String) -> Done
+    ensures yes { result.yes ≡ true }
+    ensures output { result.output ≡ output }
+    ensures notes { string_bytes result.notes ≡ [] }
+{
+    Done {
         yes: true,
         output,
         notes: String::new(alloc),
-    })
+    }
 }
 
-/// Runs a command that asks about one file.
+/// Answers a question about a file.
 fn ask<F: Folder, I: Input>(
     alloc: Global,
-    command: &Command<'_>,
+    question: &Question<'_>,
     folder: &mut F,
     input: &mut I,
     reading: Reading,
-) -> Result<Done, Stop> {
-    let file = match command {
-        Command::Get(command) => command.file,
-        Command::Has(command) => command.file,
-        Command::Keys(command) => command.file,
-        Command::Json(command) => command.file,
-        _ => return answered(alloc, String::new(alloc)),
-    };
-    let document = read_document(alloc, folder, input, file, reading)?;
-    let output = match command {
-        Command::Get(command) => get(alloc, &document, command)?,
-        Command::Has(command) => has(alloc, &document, command)?,
-        Command::Keys(command) => keys(alloc, &document, command)?,
-        Command::Json(command) => json(alloc, &document, command)?,
-        _ => String::new(alloc),
-    };
-    answered(alloc, output)
+) -> Result<Done, Stop>
+    ensures answer { IfOk result (λ done. AnswersQuestion (F.history folder.old)
+        (F.history folder.new) (I.remaining input.old) done.yes (string_bytes done.output)) }
+    ensures looks { OnlyLooks (F.history folder.old) (F.history folder.new) }
+{
+    let document = read_document(alloc, folder, input, question.file(), reading)?;
+    let done = answer_of(alloc, &document, question)?;
+    Ok(done)
+}
+
+/// Answers a question about a document.
+fn answer_of(alloc: Global, document: &DocumentMut, question: &Question<'_>) -> Result<Done, Stop>
+    ensures answer { IfOk result (λ done. IsAnswer question.now (tree_owned document.now) done.yes
+        (string_bytes done.output)) }
+    ensures quiet { IfOk result (λ done. string_bytes done.notes ≡ []) }
+    ensures stops { IfErr result (λ stop. HasNoAnswer question.now (tree_owned document.now)
+        (reason_of stop)) }
+{
+    match question {
+        Question::Get(command) => Ok(answered(alloc, get(alloc, document, command)?)),
+        Question::Keys(command) => Ok(answered(alloc, keys(alloc, document, command)?)),
+        Question::Json(command) => Ok(answered(alloc, json(alloc, document, command)?)),
+        Question::Has(command) => Ok(Done {
+            yes: has(document, command),
+            output: String::new(alloc),
+            notes: String::new(alloc),
+        }),
+    }
 }

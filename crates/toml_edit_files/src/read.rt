@@ -1,4 +1,12 @@
 //! Reading a file, or standard input, and the document that it holds.
+ghost use Rattle.std.specs.Prelude.{◌≡◌, ◌≢◌, IfErr, IfOk, IfSome, Some, string_bytes};
+ghost use Rattle.toml_edit.specs.DocumentView.{mode_owned, open_owned, tree_owned};
+ghost use Rattle.toml_edit_files.specs.Edited.{IsNotRead, IsRead, IsReadFrom, mode_by, version_by};
+ghost use Rattle.toml_edit_files.specs.Folders.{IsNoTextOf, IsTextOf, OnlyLooks};
+ghost use Rattle.toml_edit_files.specs.declared.stop.Reason.TheVariants.{Refused};
+ghost use Rattle.toml_edit_replace.specs.Events.{NotesFound, found};
+ghost use Rattle.toml_edit_files.specs.Stops.{reason_of};
+
 use crate::messages::{failed, located};
 use crate::stop::{Reason, Stop};
 use crate::words::Reading;
@@ -16,28 +24,67 @@ pub fn text_of<F: Folder, I: Input>(
     folder: &mut F,
     input: &mut I,
     file: &str,
-) -> Result<String, Stop> {
-    let bytes = if file == STREAM {
-        match read_to_end(alloc, input) {
-            Ok(bytes) => bytes,
-            Err(ReadFault::Memory) => return Err(Stop::Memory),
-            Err(ReadFault::Broken) => {
-                let text = String::from_str(alloc, "tomlfile: -: read failed\n")?;
-                return Err(Stop::Told(Reason::Failed, text));
-            }
-        }
-    } else {
-        match folder.read(alloc, file) {
-            Ok(bytes) => bytes,
-            Err(error) => return Err(failed(alloc, file, &error)),
-        }
-    };
+) -> Result<String, Stop>
+    ensures text { IfOk result (λ s. IsTextOf file.now (F.history folder.old)
+        (F.history folder.new) (I.remaining input.old) (string_bytes s)) }
+    ensures refused { IfErr result (λ stop. reason_of stop ≡ Some Refused
+        → IsNoTextOf file.now (F.history folder.old) (F.history folder.new)
+        (I.remaining input.old)) }
+    ensures looks { OnlyLooks (F.history folder.old) (F.history folder.new) }
+{
+    let bytes = bytes_of(alloc, folder, input, file)?;
     match String::from_utf8(bytes) {
         Ok(text) => Ok(text),
-        Err(_) => Err(Stop::Told(
+        Err(_) => Err(Stop::Message(
             Reason::Refused,
             format!(in alloc; "tomlfile: {file}: not UTF-8\n")?,
         )),
+    }
+}
+
+/// Returns the bytes of a file, or of standard input for `-`.
+fn bytes_of<F: Folder, I: Input>(
+    alloc: Global,
+    folder: &mut F,
+    input: &mut I,
+    file: &str,
+) -> Result<Vec<u8>, Stop>
+    ensures text { IfOk result (λ bytes. IsTextOf file.now (F.history folder.old)
+        (F.history folder.new) (I.remaining input.old) bytes.items) }
+    ensures failed { IfErr result (λ stop. reason_of stop ≢ Some Refused) }
+    ensures looks { OnlyLooks (F.history folder.old) (F.history folder.new) }
+{
+    if file == STREAM {
+        input_bytes(alloc, input)
+    } else {
+        file_bytes(alloc, folder, file)
+    }
+}
+
+/// Returns the bytes of standard input.
+fn input_bytes<I: Input>(alloc: Global, input: &mut I) -> Result<Vec<u8>, Stop>
+    ensures failed { IfErr result (λ stop. reason_of stop ≢ Some Refused) }
+    ensures bytes { IfOk result (λ bytes. IfSome (I.remaining input.old) (λ left. bytes.items ≡ left)) }
+{
+    match read_to_end(alloc, input) {
+        Ok(bytes) => Ok(bytes),
+        Err(ReadFault::Memory) => Err(Stop::Memory),
+        Err(ReadFault::Broken) => {
+            let text = String::from_str(alloc, "tomlfile: -: read failed\n")?;
+            Err(Stop::Message(Reason::Failed, text))
+        }
+    }
+}
+
+/// Returns the bytes of a file.
+fn file_bytes<F: Folder>(alloc: Global, folder: &mut F, file: &str) -> Result<Vec<u8>, Stop>
+    ensures failed { IfErr result (λ stop. reason_of stop ≢ Some Refused) }
+    ensures notes { NotesFound (F.history folder.old) (F.history folder.new)
+        (λ bytes. found file.now bytes.items) result }
+{
+    match folder.read(alloc, file) {
+        Ok(bytes) => Ok(bytes),
+        Err(error) => Err(failed(alloc, file, &error)),
     }
 }
 
@@ -47,13 +94,18 @@ pub fn document_of(
     file: &str,
     text: &str,
     reading: Reading,
-) -> Result<DocumentMut, Stop> {
+) -> Result<DocumentMut, Stop>
+    ensures read { IfOk result (λ d. IsRead reading text.now (tree_owned d) (open_owned d)) }
+    ensures mode { IfOk result (λ d. mode_owned d ≡ mode_by reading) }
+    ensures stops { IfErr result
+        (λ stop. IsNotRead (version_by reading) text.now (reason_of stop)) }
+{
     match DocumentMut::from_str_with(alloc, text, reading.options()) {
         Ok(document) => Ok(document),
         Err(ParseFault::Toml(error)) => {
             let line = located(alloc, file, &error)?;
             let line = line.as_str();
-            Err(Stop::Told(Reason::Refused, format!(in alloc; "tomlfile: {line}")?))
+            Err(Stop::Message(Reason::Refused, format!(in alloc; "tomlfile: {line}")?))
         }
         Err(ParseFault::Memory) => Err(Stop::Memory),
     }
@@ -66,7 +118,12 @@ pub fn read_document<F: Folder, I: Input>(
     input: &mut I,
     file: &str,
     reading: Reading,
-) -> Result<DocumentMut, Stop> {
+) -> Result<DocumentMut, Stop>
+    ensures read { IfOk result
+        (λ d. IsReadFrom reading file.now (F.history folder.old) (F.history folder.new)
+        (I.remaining input.old) (tree_owned d)) }
+    ensures looks { OnlyLooks (F.history folder.old) (F.history folder.new) }
+{
     let text = text_of(alloc, folder, input, file)?;
     document_of(alloc, file, text.as_str(), reading)
 }

@@ -1,5 +1,6 @@
 //! Why a run ends before it is done.
-ghost use Rattle.std.specs.Prelude.{◌≤◌};
+ghost use Rattle.std.specs.Prelude.{◌≡◌};
+ghost use Rattle.toml_edit_files.specs.Stops.{status_of};
 
 use std::alloc::{AllocError, AllocFailed, Global};
 use toml_edit::{NoMemory, PrintFault};
@@ -8,7 +9,7 @@ use toml_edit::{NoMemory, PrintFault};
 #[derive(Drop)]
 pub enum Stop {
     /// For this reason, with a message, which may be empty.
-    Told(Reason, String),
+    Message(Reason, String),
     /// Out of memory.
     Memory,
 }
@@ -41,7 +42,7 @@ pub const FAILED: u8 = 4;
 impl Reason {
     /// Returns the exit status.
     pub fn status(self) -> u8
-        ensures { result ≤ 5 }
+        ensures { result ≡ status_of self }
     {
         match self {
             Reason::No => NO,
@@ -52,30 +53,45 @@ impl Reason {
     }
 }
 
-/// Returns that the answer is no, without a message.
-pub fn no(alloc: Global) -> Stop {
-    Stop::Told(Reason::No, String::new(alloc))
-}
-
 impl From<AllocError> for Stop {
+    ghost use Rattle.std.specs.Prelude.{◌≡◌};
+    ghost use Rattle.toml_edit_files.specs.declared.stop.Stop.TheVariants.{Memory};
+
+    ghost from_gives = { λ _ stop. stop ≡ Memory };
+
     fn from(_refused: AllocError) -> Stop {
         Stop::Memory
     }
 }
 
 impl<T: Drop> From<AllocFailed<T>> for Stop {
+    ghost use Rattle.std.specs.Prelude.{◌≡◌};
+    ghost use Rattle.toml_edit_files.specs.declared.stop.Stop.TheVariants.{Memory};
+
+    ghost from_gives = { λ _ stop. stop ≡ Memory };
+
     fn from(_refused: AllocFailed<T>) -> Stop {
         Stop::Memory
     }
 }
 
 impl<T: Drop> From<NoMemory<T>> for Stop {
+    ghost use Rattle.std.specs.Prelude.{◌≡◌};
+    ghost use Rattle.toml_edit_files.specs.declared.stop.Stop.TheVariants.{Memory};
+
+    ghost from_gives = { λ _ stop. stop ≡ Memory };
+
     fn from(_refused: NoMemory<T>) -> Stop {
         Stop::Memory
     }
 }
 
 impl From<PrintFault> for Stop {
+    ghost use Rattle.std.specs.Prelude.{◌≡◌};
+    ghost use Rattle.toml_edit_files.specs.declared.stop.Stop.TheVariants.{Memory};
+
+    ghost from_gives = { λ _ stop. stop ≡ Memory };
+
     fn from(_refused: PrintFault) -> Stop {
         Stop::Memory
     }

@@ -1,4 +1,9 @@
 //! The words of a call: which command they are, and on what.
+ghost use Rattle.std.specs.Prelude.{◌≡◌};
+ghost use Rattle.toml_edit_files.specs.Answers.{file_of};
+ghost use Rattle.toml_edit_files.specs.Edited.{mode_by, version_by};
+ghost use Rattle.toml_edit_parser.specs.Options.{mode_of, version_of};
+
 use crate::edits::next_edit;
 use crate::help::{Topic, topic_of, usage};
 use crate::paths::path_of;
@@ -26,7 +31,10 @@ pub struct Reading {
 
 impl Reading {
     /// Returns the options of parsing.
-    pub fn options(self) -> ParseOptions {
+    pub fn options(self) -> ParseOptions
+        ensures version { version_of result ≡ version_by self }
+        ensures mode { mode_of result ≡ mode_by self }
+    {
         let options = ParseOptions::new().exact(!self.normal);
         if self.strict {
             options.version(Version::V1_0)
@@ -41,12 +49,32 @@ impl Reading {
 pub enum Command<'w> {
     Help(Topic),
     Version,
+    Ask(Question<'w>),
+    Edit(EditCommand<'w>, Vec<Edit>),
+    Check(&'w [String]),
+}
+
+/// A command that asks about one file.
+#[derive(Drop)]
+pub enum Question<'w> {
     Get(Get<'w>),
     Has(Has<'w>),
-    Edit(EditCommand<'w>),
     Keys(Keys<'w>),
     Json(Json<'w>),
-    Check(&'w [String]),
+}
+
+impl<'w> Question<'w> {
+    /// Returns the file that is asked about.
+    pub fn file(&self) -> &'w str
+        ensures { result.now ≡ file_of self.now }
+    {
+        match self {
+            Question::Get(command) => command.file,
+            Question::Has(command) => command.file,
+            Question::Keys(command) => command.file,
+            Question::Json(command) => command.file,
+        }
+    }
 }
 
 /// How `get` writes an item.
@@ -90,11 +118,10 @@ pub enum Kind {
     Tables,
 }
 
-/// The operands of `edit`.
-#[derive(Drop)]
+/// The operands of `edit` beside its edits.
+#[derive(Clone, Copy)]
 pub struct EditCommand<'w> {
     pub file: &'w str,
-    pub edits: Vec<Edit>,
     pub script: Option<&'w str>,
     pub dry_run: bool,
     pub output: Option<&'w str>,
@@ -160,11 +187,11 @@ fn command_of<'w>(
     }
     match topic {
         Topic::Program => Err(wrong_words(alloc, Topic::Program)),
-        Topic::Get => Ok(Command::Get(get_of(alloc, operands)?)),
-        Topic::Has => Ok(Command::Has(has_of(alloc, operands)?)),
-        Topic::Edit => Ok(Command::Edit(edit_of(alloc, operands, reading)?)),
-        Topic::Keys => Ok(Command::Keys(keys_of(alloc, operands)?)),
-        Topic::Json => Ok(Command::Json(json_of(alloc, operands)?)),
+        Topic::Get => Ok(Command::Ask(Question::Get(get_of(alloc, operands)?))),
+        Topic::Has => Ok(Command::Ask(Question::Has(has_of(alloc, operands)?))),
+        Topic::Edit => edit_of(alloc, operands, reading),
+        Topic::Keys => Ok(Command::Ask(Question::Keys(keys_of(alloc, operands)?))),
+        Topic::Json => Ok(Command::Ask(Question::Json(json_of(alloc, operands)?))),
         Topic::Check => match operands {
             [] => Err(wrong_words(alloc, Topic::Check)),
             _ => Ok(Command::Check(operands)),
@@ -196,7 +223,7 @@ fn asks_help(operands: &[String]) -> bool {
 pub fn wrong_words(alloc: Global, topic: Topic) -> Stop {
     let usage = usage(topic);
     match format!(in alloc; "tomlfile: usage: {usage}\n") {
-        Ok(text) => Stop::Told(Reason::Mistaken, text),
+        Ok(text) => Stop::Message(Reason::Mistaken, text),
         Err(_) => Stop::Memory,
     }
 }
@@ -282,12 +309,9 @@ enum Expected {
 }
 
 /// Reads the operands of `edit`.
-fn edit_of<'w>(
-    alloc: Global,
-    words: &'w [String],
-    reading: Reading,
-) -> Result<EditCommand<'w>, Stop> {
-    let mut command = no_edits(alloc);
+fn edit_of<'w>(alloc: Global, words: &'w [String], reading: Reading) -> Result<Command<'w>, Stop> {
+    let mut command = no_operands();
+    let mut edits = Vec::new(alloc);
     let mut expected = Expected::File;
     let mut rest = words;
     'words: for _ in 0..words.len() {
@@ -311,23 +335,22 @@ fn edit_of<'w>(
             Expected::Comma => return Err(wrong_words(alloc, Topic::Edit)),
             Expected::First | Expected::Next => {
                 let file = command.file;
-                rest = next_edit(alloc, &mut command.edits, file, rest, reading)?;
+                rest = next_edit(alloc, &mut edits, file, rest, reading)?;
                 expected = Expected::Comma;
             }
         }
     }
     match expected {
-        Expected::Comma => Ok(command),
-        Expected::First if command.script.is_some() => Ok(command),
+        Expected::Comma => Ok(Command::Edit(command, edits)),
+        Expected::First if command.script.is_some() => Ok(Command::Edit(command, edits)),
         _ => Err(wrong_words(alloc, Topic::Edit)),
     }
 }
 
 /// Returns the operands of `edit` before any is read.
-fn no_edits<'w>(alloc: Global) -> EditCommand<'w> {
+fn no_operands<'w>() -> EditCommand<'w> {
     EditCommand {
         file: "",
-        edits: Vec::new(alloc),
         script: None,
         dry_run: false,
         output: None,

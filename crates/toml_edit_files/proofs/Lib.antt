@@ -1,0 +1,5 @@
+pub mod KeyLaws
+pub mod GetLaws
+pub mod EditLaws
+pub mod FolderLaws
+pub mod StopLaws

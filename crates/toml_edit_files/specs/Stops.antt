@@ -1,0 +1,30 @@
+-- Why a run ends before it is done.
+use Rattle.std.specs.Prelude.{◌≡◌, ◌⊎◌, ℕ, Option, Some, None}
+use Rattle.toml_edit_files.specs.declared.stop.Reason.{Reason}
+use Rattle.toml_edit_script.specs.declared.fault.EditFault.{EditFault}
+use Rattle.toml_edit_script.specs.declared.fault.EditFault.TheVariants as faults
+use Rattle.toml_edit_files.specs.declared.stop.Reason.TheVariants.{No, Mistaken, Failed, Refused}
+use Rattle.toml_edit_files.specs.declared.stop.Stop.{Stop}
+use Rattle.toml_edit_files.specs.declared.stop.Stop.TheVariants.{Message, Memory}
+
+-- the reason, unless memory ran out
+abbrev pub reason_of : Stop → Option Reason
+reason_of (Message reason text) = Some reason
+reason_of Memory = None
+
+-- memory ran out, or it is for this reason
+abbrev pub IsFor : Reason → Option Reason → Type 0
+IsFor reason why = (why ≡ None) ⊎ (why ≡ Some reason)
+
+-- the reason where an edit is refused: the answer is no where no element is equal
+abbrev pub reason_for : EditFault → Option Reason
+reason_for faults.Memory = None
+reason_for faults.NoSuchElement = Some No
+reason_for _ = Some Mistaken
+
+-- the exit status
+abbrev pub status_of : Reason → ℕ
+status_of No = 1
+status_of Mistaken = 2
+status_of Failed = 4
+status_of Refused = 5

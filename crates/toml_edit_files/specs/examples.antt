@@ -1,0 +1,3 @@
+-- Worked examples of what commands write.
+pub mod Keys
+pub mod Get

@@ -1,0 +1,129 @@
+//! The normal form of a file, and which of its lines are not in it.
+ghost use Rattle.std.specs.Prelude.{◌≡◌, [], IfErr, IfOk, IsTrue, OnOk, string_bytes};
+ghost use Rattle.toml_edit.specs.DocumentView.{print_of};
+ghost use Rattle.toml_edit_files.specs.Edited.{IsNotInForm, unmarked};
+ghost use Rattle.toml_edit_files.specs.Stops.{reason_of};
+
+use crate::stop::{Reason, Stop};
+use crate::words::{EditCommand, Reading};
+use std::alloc::Global;
+use toml_edit::{DocumentMut, Mem};
+
+/// A byte order mark.
+pub const MARK: &str = "\u{feff}";
+
+/// Returns the text of a file without its byte order mark.
+fn without_mark(text: &str) -> &str
+    ensures { result.now ≡ unmarked text.now }
+{
+    text.strip_prefix(MARK).unwrap_or(text)
+}
+
+/// Returns a note on the lines that change though no edit names them, or refuses them under
+/// `--locked`.
+pub fn check_form(
+    alloc: Global,
+    command: &EditCommand<'_>,
+    text: &str,
+    document: &DocumentMut,
+    reading: Reading,
+) -> Result<String, Stop>
+    ensures locked { OnOk result
+        (IsTrue command.now.locked → print_of document.now ≡ unmarked text.now) }
+    ensures quiet { IfOk result
+        (λ note. print_of document.now ≡ unmarked text.now → string_bytes note ≡ []) }
+    ensures stops { IfErr result (λ stop. IsNotInForm command.now.locked (print_of document.now)
+        (unmarked text.now) (reason_of stop)) }
+{
+    if reading.normal && !command.locked {
+        return Ok(String::new(alloc));
+    }
+    let text = without_mark(text);
+    let print = document.print(alloc)?;
+    if print.as_str() == text {
+        return Ok(String::new(alloc));
+    }
+    let (file, print) = (command.file, print.as_str());
+    if command.locked {
+        let note = lines_note(alloc, file, text, print, "lines are not in normal form")?;
+        return Err(Stop::Message(Reason::Refused, note));
+    }
+    Ok(lines_note(alloc, file, text, print, "lines are brought to normal form")?)
+}
+
+/// Returns a line for each run of lines of a text that differ from those of another one.
+fn lines_note(alloc: Global, file: &str, text: &str, other: &str, note: &str) -> Mem<String> {
+    let mut notes = String::new(alloc);
+    for run in runs_between(alloc, text, other)? {
+        let (first, last) = run;
+        let line = format!(in alloc; "tomlfile: {file}:{first}-{last}: {note}\n")?;
+        notes.push_str(line.as_str())?;
+    }
+    Ok(notes)
+}
+
+/// Returns the first and the last line of each run of lines of a text that differ from those of
+/// another one.
+fn runs_between(alloc: Global, text: &str, other: &str) -> Mem<Vec<(usize, usize)>> {
+    let lines = lines_of(alloc, text)?;
+    let others = lines_of(alloc, other)?;
+    if lines.len() == others.len() {
+        return runs_apart(alloc, lines.as_slice(), others.as_slice());
+    }
+    let first = equal_front(lines.as_slice(), others.as_slice()).saturating_add(1);
+    let equal = equal_back(lines.as_slice(), others.as_slice());
+    let mut runs = Vec::new(alloc);
+    runs.push((first, lines.len().saturating_sub(equal).max(first)))?;
+    Ok(runs)
+}
+
+/// Returns the runs of lines that differ, of as many lines.
+fn runs_apart(alloc: Global, lines: &[&str], others: &[&str]) -> Mem<Vec<(usize, usize)>> {
+    let mut runs = Vec::new(alloc);
+    // The first line of a run that goes on, or 0.
+    let mut first = 0;
+    for at in 0..lines.len().min(others.len()) {
+        if lines[at] == others[at] {
+            if first > 0 {
+                runs.push((first, at))?;
+                first = 0;
+            }
+        } else if first == 0 {
+            first = at + 1;
+        }
+    }
+    if first > 0 {
+        runs.push((first, lines.len()))?;
+    }
+    Ok(runs)
+}
+
+/// Returns the lines of a text, each with its newline.
+fn lines_of<'t>(alloc: Global, text: &'t str) -> Mem<Vec<&'t str>> {
+    let mut lines = Vec::new(alloc);
+    for line in text.split_inclusive('\n') {
+        lines.push(line)?;
+    }
+    Ok(lines)
+}
+
+/// Returns the number of lines at the front that are equal.
+fn equal_front(lines: &[&str], others: &[&str]) -> usize {
+    for at in 0..lines.len() {
+        if at >= others.len() || lines[at] != others[at] {
+            return at;
+        }
+    }
+    lines.len()
+}
+
+/// Returns the number of lines at the end that are equal.
+fn equal_back(lines: &[&str], others: &[&str]) -> usize {
+    for at in 0..lines.len() {
+        let line = lines[lines.len() - at - 1];
+        if at >= others.len() || line != others[others.len() - at - 1] {
+            return at;
+        }
+    }
+    lines.len()
+}
