@@ -165,6 +165,21 @@ module _ (r : Rules) where
       ∙ ap (λ b. (keeps_limits (key_line f v end) && is_ranged (key_line f v end)) && b) (value-agrees i room v)
   sound-laid s keys (header h end) = ap (λ b. (b && true) && true) (short-laid h.path)
 
+  limits-laid : (s : Bool) (keys : ℕ) (st : Statement) → keeps_limits (laid_statement r s keys st) ≡ keeps_limits st
+  limits-laid s keys (key_line f v end) =
+      let i = line_indent r keys in
+      let room = Some (used_before i f) in
+      ap (λ b. b && (nat_le (depth (laid_value r i room v)) nesting_limit && has_short_keys (laid_value r i room v))) (short-laid f.path)
+      ∙ ap (λ n. is_short f.path && (nat_le n nesting_limit && has_short_keys (laid_value r i room v))) (value-depth i room v)
+      ∙ ap (λ b. is_short f.path && (nat_le (depth v) nesting_limit && b)) (value-short i room v)
+  limits-laid s keys (header h end) = short-laid h.path
+
+  pub all-limits : (s : Bool) (keys : ℕ) (ss : List Statement) → list_all keeps_limits (laid_statements r s keys ss) ≡ list_all keeps_limits ss
+  all-limits s keys [] = refl
+  all-limits s keys (st ∷ rest) =
+      ap (λ b. b && list_all keeps_limits (laid_statements r false (keys_below keys st) rest)) (limits-laid s keys st)
+      ∙ ap (λ b. keeps_limits st && b) (all-limits false (keys_below keys st) rest)
+
   all-sound : (c e : Context) (s : Bool) (keys : ℕ) (ss : List Statement)
       → list_all (λ p. is_sound_in v1_1 p.source.statement) (placed_from c (laid_statements r s keys ss))
       ≡ list_all (λ p. is_sound_in v1_1 p.source.statement) (placed_from e ss)

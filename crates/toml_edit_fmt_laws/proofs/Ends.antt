@@ -6,7 +6,9 @@ use Rattle.std.specs.List.{AllByRecursion, flat_map, filter_map, cons_option}
 use Rattle.std.proofs.lemmas.Grind.{flat_map-append}
 use Rattle.std.proofs.lemmas.List.Elements.{filter_map-append, filter-append}
 use Rattle.toml_edit_model.specs.Comments.{lines, words, first_comment, comments}
-use Rattle.toml_edit_model.specs.Text.{Text, one, is_empty, joined}
+use Rattle.toml_edit_model.specs.Text.{Text, one, is_empty, joined, without_returns}
+use Rattle.toml_edit_laws.proofs.common.Trivia.{returns-append, visible-returns}
+use Rattle.toml_edit_laws.proofs.common.WhiteSpace.{white-returns}
 use Rattle.toml_edit_model.specs.Trivia.{IsWhiteSpace, lf, comment, IsFinalTrivia, IsOpenComment}
 use Rattle.toml_edit_laws.proofs.common.Tests.{or-true}
 use Rattle.toml_edit_fmt_laws.specs.Rules.{Indentation, as_it_is, flush, by_depth, Rules}
@@ -15,8 +17,8 @@ use Rattle.toml_edit_fmt_laws.proofs.Spacing.{spaced-again, all-spaced, spaced-m
 use Rattle.toml_edit_fmt_laws.proofs.Rows.{Row, row_text, IsRow, IsBody, body_text, line_part, rows_text, Rows, view, rows-whole, NoFeed, part-feed}
 use Rattle.toml_edit_fmt_laws.proofs.Rows.{lines-any, lines-rows, whole-rows, is_none_body, empty-row, moved, indented-rows}
 use Rattle.toml_edit_fmt_laws.proofs.Rows.{all-moved, row_bodies, bodies-rows, bodies-moved, first_comment-part, words-part}
-use Rattle.toml_edit_fmt_laws.proofs.Rows.{line_words-part, unbroken-part}
-use Rattle.toml_edit_fmt_laws.proofs.PlaceLaws.{spaced_rows, bodies-spaced, laid-again, laid-rows, joined-rows, spaced-none}
+use Rattle.toml_edit_fmt_laws.proofs.Rows.{line_words-part, unbroken-part, lean_row, lean-rows, all-lean, moved-lean}
+use Rattle.toml_edit_fmt_laws.proofs.PlaceLaws.{spaced_rows, bodies-spaced, laid-again, laid-rows, joined-rows, spaced-none, spaced-lean}
 
 -- rows, and after the last newline white space and perhaps a comment
 pub record Closing (t : Text) : Type 0 where
@@ -246,3 +248,32 @@ module _ (r : Rules) where
       by_kind as_it_is = ap joined (spaced-none r s true)
       by_kind flush = ap (flat_map (indented [])) (spaced-none r s true)
       by_kind by_depth = ap (flat_map (indented [])) (spaced-none r s true)
+
+  -- ---- what is shown of it
+
+  final-lean : (k : Indentation) (s e : Bool) (rs : List Row) → AllByRecursion IsRow rs
+      → final_rows k s e (map lean_row rs) ≡ map lean_row (final_rows k s e rs)
+  final-lean as_it_is s e rs h = spaced-lean r s e rs h
+  final-lean flush s e rs h = ap (map (moved [])) (spaced-lean r s e rs h) ∙ moved-lean [] (spaced_rows r s e rs)
+  final-lean by_depth s e rs h = ap (map (moved [])) (spaced-lean r s e rs h) ∙ moved-lean [] (spaced_rows r s e rs)
+
+  rest-returns : (w : Text) (o : Option Text) → IsWhiteSpace w → IsBody o → without_returns (w ++ body_text o) ≡ w ++ body_text o
+  rest-returns w None h g = ap without_returns (append-nil w) ∙ white-returns w h ∙ sym (append-nil w)
+  rest-returns w (Some b) h g =
+      returns-append w (comment b) ∙ ap (λ u. u ++ without_returns (comment b)) (white-returns w h)
+      ∙ ap (λ u. w ++ (35 ∷ u)) (visible-returns b g)
+
+  pub final-returns : (s : Bool) (t : Text) → IsFinalTrivia t → without_returns (final_text r s t) ≡ final_text r s (without_returns t)
+  final-returns s t h =
+      let v = closing t h in
+      let k = r.indentation in
+      let e = end_flag k v.white v.body in
+      let last = v.white ++ body_text v.body in
+      ap (λ u. without_returns (final_text r s u)) v.is
+      ∙ ap without_returns (final-form k s v.rows v.white v.body v.all v.is_white v.is_body)
+      ∙ lean-rows (final_rows k s e v.rows) (final_white k v.white ++ body_text v.body) (all-final k s e v.rows v.all)
+      (rest-returns (final_white k v.white) v.body (white-final k v.white v.is_white) v.is_body)
+      ∙ ap (λ rs. rows_text rs (final_white k v.white ++ body_text v.body)) (sym (final-lean k s e v.rows v.all))
+      ∙ sym (ap (λ u. final_text r s (without_returns u)) v.is
+      ∙ ap (final_text r s) (lean-rows v.rows last v.all (rest-returns v.white v.body v.is_white v.is_body))
+      ∙ final-form k s (map lean_row v.rows) v.white v.body (all-lean v.rows v.all) v.is_white v.is_body)

@@ -21,7 +21,7 @@ begun-joined : (c : ℕ) (ls : List Text) → joined (begun_with c ls) ≡ c ∷
 begun-joined c [] = refl
 begun-joined c (l ∷ ls) = refl
 
-joined-lines : (t : Text) → joined (lines t) ≡ t
+pub joined-lines : (t : Text) → joined (lines t) ≡ t
 joined-lines [] = refl
 joined-lines (c ∷ t) =
     elim (cases_Bool (c == line_feed)) [

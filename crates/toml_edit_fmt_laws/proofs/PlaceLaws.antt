@@ -6,17 +6,20 @@ use Rattle.std.specs.List.{AllByRecursion, before_first, flat_map, cons_option, 
 use Rattle.std.proofs.lemmas.Bool.{cases_Bool}
 use Rattle.toml_edit_model.specs.Comments.{lines, first_line, words, comments}
 use Rattle.toml_edit_model.specs.Mode.{exact, line_newline}
-use Rattle.toml_edit_model.specs.Text.{Text, newline, line_feed, one, is_empty, joined}
+use Rattle.toml_edit_model.specs.Text.{Text, newline, line_feed, one, is_empty, joined, carriage_return, without_returns}
+use Rattle.toml_edit_laws.proofs.common.Trivia.{returns-append}
+use Rattle.toml_edit_laws.proofs.common.WhiteSpace.{white-returns}
 use Rattle.toml_edit_model.specs.Trivia.{IsWhiteSpace, Newline, lf, crlf, newline_text, IsWholeTrivia, IsLineEnd}
 use Rattle.toml_edit_laws.proofs.common.Tests.{and_left, and_right, not-true, or-left, or-right, or-true}
 use Rattle.toml_edit_fmt_laws.specs.Rules.{Indentation, as_it_is, flush, by_depth, Rules, spaces, made_newline}
 use Rattle.toml_edit_fmt_laws.specs.Laying.{is_empty_line, whole_lines, indented, squeezed, spaced_by, spaced, has_empty_line}
 use Rattle.toml_edit_fmt_laws.specs.Laying.{leading_as, leading, set_off, header_leading, rest_after, line_rest, line_break, beside, gap, before_comma}
 use Rattle.toml_edit_fmt_laws.specs.Remarks.{bodies_in}
-use Rattle.toml_edit_fmt_laws.proofs.Spacing.{spaced-again, all-spaced, spaced-found, spaced-map, squeezed-pass, squeezed-other}
+use Rattle.toml_edit_fmt_laws.proofs.Spacing.{spaced-start, spaced-again, all-spaced, spaced-found, spaced-map, squeezed-pass, squeezed-other}
 use Rattle.toml_edit_fmt_laws.proofs.Rows.{Row, row_text, IsRow, rows_text, view, rows-whole, lines-row, lines-rows, last_lines}
 use Rattle.toml_edit_fmt_laws.proofs.Rows.{first_line-row, newline-row, broken-row, white-unbroken, white-no-line, empty-row, whole-lines, is_none_body}
 use Rattle.toml_edit_fmt_laws.proofs.Rows.{first_comment-row, first_comment-part, first_comment-alone, first_comment-white, row_bodies, bodies-lines, comments-rows, moved}
+use Rattle.toml_edit_fmt_laws.proofs.Rows.{lean_row, lean-rows, all-lean, moved-lean, comments-returns}
 use Rattle.toml_edit_fmt_laws.proofs.Rows.{indented-rows, all-moved, moved-again, bodies-moved, line_part, part-end, comments-part, words-part, body_text}
 
 -- ---- white space before a comment
@@ -617,6 +620,197 @@ module _ (r : Rules) where
       ∙ bodies-head k s indent rows.rows
       ∙ sym (ap comments rows.is ∙ comments-rows rows.rows rows.last rows.all rows.white)
 
+  -- ---- rows with LF for each newline
+
+  pub spaced-lean : (s e : Bool) (rs : List Row) → AllByRecursion IsRow rs
+      → spaced_rows s e (map lean_row rs) ≡ map lean_row (spaced_rows s e rs)
+  spaced-lean s e rs h = spaced-map lean_row is_none_body is_none_body IsRow (λ x g. refl) r s e rs h
+
+  gap-lean : r.returns ≡ false → (s e : Bool) (indent : Text) (rs : List Row) → AllByRecursion IsRow rs
+      → gap_rows s e indent (map lean_row rs) ≡ map lean_row (gap_rows s e indent rs)
+  unfolding gap_rows head_row made_end
+  gap-lean n s e indent [] h = ap (λ b. one (record { white = []; body = None; end = if b then crlf else lf })) n
+  gap-lean n s e indent (x ∷ xs) h =
+      ap (λ ys. lean_row (head_row x) ∷ ys)
+      (ap (map (moved indent)) (spaced-lean s e xs h.1) ∙ moved-lean indent (spaced_rows s e xs))
+
+  lead-lean : (k : Indentation) (s : Bool) (indent : Text) (rs : List Row) → AllByRecursion IsRow rs
+      → lead_rows k s indent (map lean_row rs) ≡ map lean_row (lead_rows k s indent rs)
+  lead-lean as_it_is s indent rs h = spaced-lean s false rs h
+  lead-lean flush s indent rs h = ap (map (moved indent)) (spaced-lean s false rs h) ∙ moved-lean indent (spaced_rows s false rs)
+  lead-lean by_depth s indent rs h = ap (map (moved indent)) (spaced-lean s false rs h) ∙ moved-lean indent (spaced_rows s false rs)
+
+  pub gap-returns : r.returns ≡ false → (s e : Bool) (indent last t : Text) → IsWhiteSpace indent → IsWhiteSpace last → IsWholeTrivia t
+      → without_returns (gap r s e indent last t) ≡ gap r s e indent last (without_returns t)
+  gap-returns n s e indent last t w v h =
+      let rows = view t h in
+      ap (λ u. without_returns (gap r s e indent last u)) rows.is
+      ∙ ap without_returns (gap-form s e indent last rows.rows rows.last rows.all rows.white)
+      ∙ lean-rows (gap_rows s e indent rows.rows) last (all-gap s e indent rows.rows w rows.all) (white-returns last v)
+      ∙ ap (λ rs. rows_text rs last) (sym (gap-lean n s e indent rows.rows rows.all))
+      ∙ sym (ap (λ u. gap r s e indent last (without_returns u)) rows.is
+      ∙ ap (gap r s e indent last) (lean-rows rows.rows rows.last rows.all (white-returns rows.last rows.white))
+      ∙ gap-form s e indent last (map lean_row rows.rows) rows.last (all-lean rows.rows rows.all) rows.white)
+
+  -- white space makes no gap of its own
+  pub gap-white : (s e : Bool) (indent last l : Text) → IsWhiteSpace l → gap r s e indent last l ≡ gap r s e indent last []
+  gap-white s e indent last l h = gap-form s e indent last [] l tt h ∙ sym (gap-form s e indent last [] [] tt refl)
+
+  pub comma-white : (indent l : Text) → IsWhiteSpace l → before_comma r indent l ≡ []
+  comma-white indent l h = ap (λ cs. if is_empty cs then [] else gap r false false indent indent l) (comments-rows [] l tt h)
+
+  pub comma-returns : r.returns ≡ false → (indent t : Text) → IsWhiteSpace indent → IsWholeTrivia t
+      → without_returns (before_comma r indent t) ≡ before_comma r indent (without_returns t)
+  comma-returns n indent t w h =
+      by_test (is_empty (comments t))
+      ∙ sym (ap (λ cs. if is_empty cs then [] else gap r false false indent indent (without_returns t)) (comments-returns t h))
+    where
+      by_test : (b : Bool) → without_returns (if b then [] else gap r false false indent indent t)
+          ≡ (if b then [] else gap r false false indent indent (without_returns t))
+      by_test true = refl
+      by_test false = gap-returns n false false indent indent t w w h
+
+  pub leading-returns : (s : Bool) (indent t : Text) → IsWhiteSpace indent → IsWholeTrivia t
+      → without_returns (leading r s indent t) ≡ leading r s indent (without_returns t)
+  leading-returns s indent t w h =
+      let rows = view t h in
+      let k = r.indentation in
+      let last = white-lead k indent rows.last w rows.white in
+      ap (λ u. without_returns (leading r s indent u)) rows.is
+      ∙ ap without_returns (lead-form k s indent rows.rows rows.last rows.all rows.white)
+      ∙ lean-rows (lead_rows k s indent rows.rows) (lead_last k indent rows.last) (all-lead k s indent rows.rows w rows.all)
+      (white-returns (lead_last k indent rows.last) last)
+      ∙ ap (λ rs. rows_text rs (lead_last k indent rows.last)) (sym (lead-lean k s indent rows.rows rows.all))
+      ∙ sym (ap (λ u. leading r s indent (without_returns u)) rows.is
+      ∙ ap (leading r s indent) (lean-rows rows.rows rows.last rows.all (white-returns rows.last rows.white))
+      ∙ lead-form k s indent (map lean_row rows.rows) rows.last (all-lean rows.rows rows.all) rows.white)
+
+  made-returns : r.returns ≡ false → without_returns (made_newline r) ≡ made_newline r
+  made-returns n =
+      ap (λ b. without_returns (if b then carriage_return ∷ newline else newline)) n
+      ∙ sym (ap (λ b. if b then carriage_return ∷ newline else newline) n)
+
+  any-lean : (rs : List Row) → list_any is_none_body (map lean_row rs) ≡ list_any is_none_body rs
+  any-lean [] = refl
+  any-lean (x ∷ xs) = ap (λ b. is_none_body x || b) (any-lean xs)
+
+  empty-returns : (t : Text) → IsWholeTrivia t → has_empty_line (without_returns t) ≡ has_empty_line t
+  empty-returns t h =
+      let rows = view t h in
+      ap (λ u. has_empty_line (without_returns u)) rows.is
+      ∙ ap has_empty_line (lean-rows rows.rows rows.last rows.all (white-returns rows.last rows.white))
+      ∙ any-empty (map lean_row rows.rows) rows.last (all-lean rows.rows rows.all) rows.white
+      ∙ any-lean rows.rows
+      ∙ sym (ap has_empty_line rows.is ∙ any-empty rows.rows rows.last rows.all rows.white)
+
+  pub header-returns : r.returns ≡ false → (s : Bool) (indent t : Text) → IsWhiteSpace indent → IsWholeTrivia t
+      → without_returns (header_leading r s indent t) ≡ header_leading r s indent (without_returns t)
+  header-returns n s indent t w h =
+      let u = leading r s indent t in
+      by_test (r.empty_lines && not (s || has_empty_line u)) u
+      ∙ ap (λ b. if r.empty_lines && not (s || b) then made_newline r ++ without_returns u else without_returns u)
+      (sym (empty-returns u (leading-whole s indent t w h)))
+      ∙ ap (set_off r s) (leading-returns s indent t w h)
+    where
+      by_test : (b : Bool) (u : Text) → without_returns (if b then made_newline r ++ u else u)
+          ≡ (if b then made_newline r ++ without_returns u else without_returns u)
+      by_test true u = returns-append (made_newline r) u ∙ ap (λ x. x ++ without_returns u) (made-returns n)
+      by_test false u = refl
+
+  -- ---- the start of the text
+
+  moved-start : (indent : Text) (rs : List Row) → AllByRecursion IsRow rs
+      → map (moved indent) (spaced_rows true false (map (moved indent) (spaced_rows false false rs)))
+      ≡ map (moved indent) (spaced_rows true false rs)
+  moved-start indent rs h =
+      ap (map (moved indent)) (spaced-moved true false indent (spaced_rows false false rs) (all-spaced is_none_body IsRow r false false rs h))
+      ∙ moved-again indent (spaced_rows true false (spaced_rows false false rs))
+      ∙ ap (map (moved indent)) (spaced-start is_none_body r rs)
+
+  lead-start : (k : Indentation) (indent : Text) (rs : List Row) → AllByRecursion IsRow rs
+      → lead_rows k true indent (lead_rows k false indent rs) ≡ lead_rows k true indent rs
+  lead-start as_it_is indent rs h = spaced-start is_none_body r rs
+  lead-start flush indent rs h = moved-start indent rs h
+  lead-start by_depth indent rs h = moved-start indent rs h
+
+  -- laid out as others are, and then as the start is
+  pub leading-start : (indent t : Text) → IsWhiteSpace indent → IsWholeTrivia t
+      → leading r true indent (leading r false indent t) ≡ leading r true indent t
+  leading-start indent t w h =
+      let rows = view t h in
+      let k = r.indentation in
+      ap (leading r true indent) (ap (leading r false indent) rows.is ∙ lead-form k false indent rows.rows rows.last rows.all rows.white)
+      ∙ lead-form k true indent (lead_rows k false indent rows.rows) (lead_last k indent rows.last)
+      (all-lead k false indent rows.rows w rows.all) (white-lead k indent rows.last w rows.white)
+      ∙ ap (λ rs. rows_text rs (lead_last k indent (lead_last k indent rows.last))) (lead-start k indent rows.rows rows.all)
+      ∙ ap (rows_text (lead_rows k true indent rows.rows)) (lead-last-again k indent rows.last)
+      ∙ sym (ap (leading r true indent) rows.is ∙ lead-form k true indent rows.rows rows.last rows.all rows.white)
+
+  -- a made row in front is none at the start
+  made-start : (k : Indentation) (indent : Text) (rs : List Row) → r.empty_lines ≡ true
+      → lead_rows k true indent (made_row ∷ rs) ≡ lead_rows k true indent rs
+  unfolding made_row
+  made-start k indent rs on = by_kind k
+    where
+      same : spaced_rows true false (made_row ∷ rs) ≡ spaced_rows true false rs
+      same =
+          ap (λ b. if b then squeezed is_none_body false (made_row ∷ rs) else made_row ∷ rs) on
+          ∙ sym (ap (λ b. if b then squeezed is_none_body false rs else rs) on)
+
+      by_kind : (j : Indentation) → lead_rows j true indent (made_row ∷ rs) ≡ lead_rows j true indent rs
+      by_kind as_it_is = same
+      by_kind flush = ap (map (moved indent)) same
+      by_kind by_depth = ap (map (moved indent)) same
+
+  head-start-rows : (k : Indentation) (indent : Text) (rs : List Row) → AllByRecursion IsRow rs → r.empty_lines ≡ true
+      → lead_rows k true indent (head_rows k false indent rs) ≡ lead_rows k true indent rs
+  unfolding head_rows set_rows
+  head-start-rows k indent rs h on = by_test (r.empty_lines && not (false || list_any is_none_body (lead_rows k false indent rs)))
+    where
+      by_test : (b : Bool) → lead_rows k true indent (if b then made_row ∷ lead_rows k false indent rs else lead_rows k false indent rs)
+          ≡ lead_rows k true indent rs
+      by_test true = made-start k indent (lead_rows k false indent rs) on ∙ lead-start k indent rs h
+      by_test false = lead-start k indent rs h
+
+  -- at the start a header is laid out as a line is
+  pub header-start : (indent t : Text) → header_leading r true indent t ≡ leading r true indent t
+  header-start indent t = ap (λ b. if b then made_newline r ++ leading r true indent t else leading r true indent t) (and-false r.empty_lines)
+
+  pub header-then-start : (indent t : Text) → IsWhiteSpace indent → IsWholeTrivia t → r.empty_lines ≡ true
+      → leading r true indent (header_leading r false indent t) ≡ header_leading r true indent t
+  header-then-start indent t w h on =
+      let rows = view t h in
+      let k = r.indentation in
+      ap (leading r true indent) (ap (header_leading r false indent) rows.is ∙ head-form false indent rows.rows rows.last w rows.all rows.white)
+      ∙ lead-form k true indent (head_rows k false indent rows.rows) (lead_last k indent rows.last)
+      (all-head k false indent rows.rows w rows.all) (white-lead k indent rows.last w rows.white)
+      ∙ ap (λ rs. rows_text rs (lead_last k indent (lead_last k indent rows.last))) (head-start-rows k indent rows.rows rows.all on)
+      ∙ ap (rows_text (lead_rows k true indent rows.rows)) (lead-last-again k indent rows.last)
+      ∙ sym (ap (leading r true indent) rows.is ∙ lead-form k true indent rows.rows rows.last rows.all rows.white)
+      ∙ sym (header-start indent t)
+
+  -- where empty lines stay, the start is as other places are
+  pub spaced-any : r.empty_lines ≡ false → (s : Bool) (ls : List Text) → spaced r s false ls ≡ ls
+  spaced-any off s ls = ap (λ b. if b then squeezed is_empty_line (not s) ls else ls) off
+
+  pub leading-any : r.empty_lines ≡ false → (s : Bool) (indent t : Text) → leading r s indent t ≡ leading r false indent t
+  leading-any off s indent t = by_kind r.indentation
+    where
+      same : (ls : List Text) → spaced r s false ls ≡ spaced r false false ls
+      same ls = spaced-any off s ls ∙ sym (spaced-any off false ls)
+
+      by_kind : (k : Indentation) → leading_as k r s indent t ≡ leading_as k r false indent t
+      by_kind as_it_is = ap joined (same (lines t))
+      by_kind flush = ap (λ ls. flat_map (indented indent) ls ++ indent) (same (whole_lines (lines t)))
+      by_kind by_depth = ap (λ ls. flat_map (indented indent) ls ++ indent) (same (whole_lines (lines t)))
+
+  pub header-any : r.empty_lines ≡ false → (s : Bool) (indent t : Text) → header_leading r s indent t ≡ header_leading r false indent t
+  header-any off s indent t =
+      ap (λ b. if b && not (s || has_empty_line (leading r s indent t)) then made_newline r ++ leading r s indent t else leading r s indent t) off
+      ∙ leading-any off s indent t
+      ∙ sym (ap (λ b. if b && not (false || has_empty_line (leading r false indent t)) then made_newline r ++ leading r false indent t
+      else leading r false indent t) off)
+
 -- ---- after something on its line
 
 -- the end of a line, as a row without its newline
@@ -644,7 +838,7 @@ rest-form (Some n) x h =
     ap (λ o. (if is_some o then spaces n else []) ++ words (line_part x)) (first_comment-part x h)
     ∙ ap (λ u. (if is_some x.body then spaces n else []) ++ u) (words-part x h)
 
-rest-is_row : (n : Option ℕ) (x : Row) → IsRow x → IsRow (rest_row n x)
+pub rest-is_row : (n : Option ℕ) (x : Row) → IsRow x → IsRow (rest_row n x)
 rest-is_row None x h = h
 rest-is_row (Some n) x h = (by_test (is_some x.body), h.1)
   where

@@ -110,6 +110,29 @@ module _ {A : Type 0} (test : A → Bool) where
       (trimmed-squeezed may (squeezed test may xs) (squeezed-is may xs)))
       ∙ trimmed-again (squeezed test may xs)
 
+  -- squeezed where one may come first, and then where none may
+  squeezed-start : (xs : List A) → squeezed test false (squeezed test true xs) ≡ squeezed test false xs
+  squeezed-start [] = refl
+  squeezed-start (x ∷ xs) =
+      elim (cases_Bool (test x)) [
+        | inl e ↦ ap (squeezed test false) (squeezed-pass true x xs e)
+            ∙ squeezed-pass false x (squeezed test false xs) e
+            ∙ squeezed-again false xs
+            ∙ sym (squeezed-pass false x xs e)
+        | inr e ↦ ap (squeezed test false) (squeezed-other true x xs e)
+            ∙ squeezed-other false x (squeezed test true xs) e
+            ∙ ap (λ ys. x ∷ ys) (squeezed-again true xs)
+            ∙ sym (squeezed-other false x xs e)
+      ]
+
+  pub spaced-start : (r : Rules) (xs : List A) → spaced_by test r true false (spaced_by test r false false xs) ≡ spaced_by test r true false xs
+  spaced-start r xs = by_rule r.empty_lines
+    where
+      by_rule : (b : Bool) → (if b then squeezed test false (if b then squeezed test true xs else xs) else (if b then squeezed test true xs else xs))
+          ≡ (if b then squeezed test false xs else xs)
+      by_rule true = squeezed-start xs
+      by_rule false = refl
+
   pub spaced-again : (r : Rules) (is_start is_end : Bool) (xs : List A)
       → spaced_by test r is_start is_end (spaced_by test r is_start is_end xs) ≡ spaced_by test r is_start is_end xs
   spaced-again r is_start is_end xs = by_tests r.empty_lines is_end

@@ -4,5 +4,7 @@ pub mod Laying
 pub mod Formatted
 pub mod Remarks
 pub mod Promises
+pub mod FormattedTree
+pub mod TreeLaws
 -- Worked examples: nothing cites them.
 pub mod examples

@@ -67,11 +67,15 @@ pub record IsOff (r : Rules) : Type 0 where
 abbrev pub OffChangesNothing : Type 0
 OffChangesNothing = (r : Rules) → IsOff r → (d : Document) → laid_document r d ≡ d
 
--- A settled document stays settled, where no newline is made with a CR that the mode does not show.
+-- No newline is made with a CR that the mode does not show.
+abbrev pub ShowsNewlines : Mode → Rules → Type 0
+ShowsNewlines mode r = mode ≡ plain → r.returns ≡ false
+
+-- A settled document stays settled.
 abbrev pub StaysSettled : Type 0
 StaysSettled =
     (mode : Mode) (r : Rules) (d : Document)
-    → (mode ≡ plain → r.returns ≡ false) → is_settled_in mode d ≡ true
+    → ShowsNewlines mode r → is_settled_in mode d ≡ true
     → is_settled_in mode (laid_document r d) ≡ true
 
 -- What is formatted of this accepted document: the text is accepted, means the same, and what is read
@@ -85,6 +89,6 @@ pub record IsFormattedText (mode : Mode) (r : Rules) (d e : Document) : Type 0 w
 -- So it is of the normal form of each accepted text, which is what its tree prints.
 abbrev pub FormattedTextAgain : Type 0
 FormattedTextAgain =
-    (mode : Mode) (r : Rules) → (mode ≡ plain → r.returns ≡ false)
+    (mode : Mode) (r : Rules) → ShowsNewlines mode r
     → (t : Text) (d : Document) → AcceptedAs t d
     → IsFormattedText mode r d (laid_document r (normal_in mode d))

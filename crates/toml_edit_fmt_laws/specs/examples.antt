@@ -1,3 +1,4 @@
--- Worked layouts of places, and of documents with their comments.
+-- Worked layouts of places, of documents with their comments, and of trees.
 pub mod Places
 pub mod Documents
+pub mod Trees

@@ -2,11 +2,12 @@
 //! formatter does to a document, and `proofs/` the lemmas.
 #![tactic(auto)]
 
+ghost use Rattle.toml_edit_fmt_laws.specs.TreeLaws.{FormattedFits, FormattedLaysOut, FormattedPrints, FormattedTextPrints, FormattedTwice, PrintsLaid, ReadLaysOut, ReadMayBeOpen, ShowsTheSame, StaysMade};
 ghost use Rattle.toml_edit_fmt_laws.specs.Promises.{AcceptedAlike, FormattedAgain, FormattedTextAgain, KeepsRemarks, MeansTheSame, OffChangesNothing, PlacesAreLaid, StaysDocument, StaysSettled};
 
-/// A formatted document means what the document means, and is accepted where that is. It has the same
-/// comments in the same order, each with what it belongs to. Formatted again it stays, and without
-/// any rule nothing changes.
+/// A formatted document means what the document means, and is accepted where that is. It has the
+/// same comments in the same order, each with what it belongs to. Formatted again it stays, and
+/// without any rule nothing changes.
 pub fn formatted()
     ensures grammar { StaysDocument }
     ensures accepted { AcceptedAlike }
@@ -26,4 +27,29 @@ pub fn layouts()
 pub fn formatted_texts()
     ensures settled { StaysSettled }
     ensures again { FormattedTextAgain }
+{}
+
+/// A formatted tree shows what the tree shows and is as well made, and fits where the tree fits.
+pub fn formatted_trees()
+    ensures means { ShowsTheSame }
+    ensures made { StaysMade }
+    ensures lays_out { FormattedLaysOut }
+    ensures fits { FormattedFits }
+{}
+
+/// The print of a formatted tree is the print of the tree, laid out. If the tree fits, it is
+/// accepted, means what the tree shows, and has the same comments in the same order, each with what
+/// it belongs to. Formatted again the tree prints the same.
+pub fn formatted_prints()
+    ensures laid { PrintsLaid }
+    ensures prints { FormattedPrints }
+    ensures twice { FormattedTwice }
+{}
+
+/// The tree of a text, formatted, prints the normal form of the text, laid out. That text, read and
+/// formatted again, stays as it is, byte for byte.
+pub fn formatted_reads()
+    ensures lays_out { ReadLaysOut }
+    ensures ends { ReadMayBeOpen }
+    ensures prints { FormattedTextPrints }
 {}
