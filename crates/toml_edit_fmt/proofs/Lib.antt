@@ -1,0 +1,17 @@
+pub mod LineLaws
+pub mod BreakLaws
+pub mod Turns
+pub mod Walks
+pub mod WidthLaws
+pub mod LastLaws
+pub mod ValueLaws
+pub mod SlotLaws
+pub mod SlotWalk
+pub mod TableLaws
+pub mod StartLaws
+pub mod HeadedLaws
+pub mod InlineLaws
+pub mod StartSteps
+pub mod ValueKind
+pub mod RootLaws
+pub mod PromiseLaws

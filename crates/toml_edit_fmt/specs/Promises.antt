@@ -1,0 +1,55 @@
+-- What formatting promises of a document.
+use Rattle.std.specs.Prelude.{◌≡◌, Bool}
+use Rattle.toml_edit_model.specs.Accepted.{AcceptedAs}
+use Rattle.toml_edit_model.specs.Fits.{FitsIn}
+use Rattle.toml_edit_model.specs.Meaning.{SameFacts, meaning}
+use Rattle.toml_edit_model.specs.Mode.{Mode}
+use Rattle.toml_edit_model.specs.Print.{document_in}
+use Rattle.toml_edit_model.specs.Shown.{shown_meaning}
+use Rattle.toml_edit_model.specs.Syntax.{Document}
+use Rattle.toml_edit_model.specs.Text.{Text}
+use Rattle.toml_edit_model.specs.Tree.{Tree}
+use Rattle.toml_edit_model.specs.Version.{Version}
+use Rattle.toml_edit_laws.specs.AcceptedPrints.{IsFitting}
+use Rattle.toml_edit.specs.DocumentView.{mode_owned, open_owned, print_of, tree_owned}
+use Rattle.toml_edit.specs.Documents.{IsOwnedReadingIn}
+use Rattle.toml_edit.specs.declared.document.DocumentMut.{DocumentMut}
+use Rattle.toml_edit_fmt_laws.specs.FormattedTree.{formatted}
+use Rattle.toml_edit_fmt_laws.specs.Promises.{ShowsNewlines}
+use Rattle.toml_edit_fmt_laws.specs.Remarks.{remarks}
+use Rattle.toml_edit_fmt_laws.specs.Rules.{Rules}
+use Rattle.toml_edit_fmt_laws.specs.TreeLaws.{LaysOut, MayBeOpen}
+
+-- The tree fits and is laid out as its print is, and nothing follows the statements where the end is
+-- open.
+pub record MayBeFormatted (mode : Mode) (is_open : Bool) (t : Tree) : Type 0 where
+  pub fitting : IsFitting mode t
+  pub lays_out : LaysOut t
+  pub ends : MayBeOpen is_open t
+
+-- So it is of each text that was read.
+abbrev pub ReadMayBeFormatted : Type 0
+ReadMayBeFormatted =
+    (mode : Mode) (version : Version) (text : Text) (t : Tree) (is_open : Bool)
+    → IsOwnedReadingIn mode version text t is_open → MayBeFormatted mode is_open t
+
+-- the statements that a document prints
+abbrev pub printed : DocumentMut → Document
+printed d = document_in (mode_owned d) (open_owned d) (tree_owned d)
+
+-- The new document is the old one, formatted.
+pub record IsFormatted (r : Rules) (old new : DocumentMut) : Type 0 where
+  -- it fits, so its print is accepted, and means what the old document shows
+  pub fits : FitsIn (mode_owned new) (tree_owned new)
+  pub accepted : AcceptedAs (print_of new) (printed new)
+  pub means : SameFacts (meaning (printed new)) (shown_meaning (tree_owned old))
+  -- the comments are those of the old print, in the same order, each with what it belongs to
+  pub comments : remarks (printed new) ≡ remarks (printed old)
+  -- formatted again it prints the same
+  pub again : document_in (mode_owned new) (open_owned new) (formatted r (tree_owned new)) ≡ printed new
+
+-- So it is of each document that may be formatted, with newlines that its mode shows.
+abbrev pub Formats : Rules → DocumentMut → DocumentMut → Type 0
+Formats r old new =
+    MayBeFormatted (mode_owned old) (open_owned old) (tree_owned old) → ShowsNewlines (mode_owned old) r
+    → IsFormatted r old new

@@ -1,0 +1,65 @@
+//! The rules of a formatter.
+
+/// How far lines and headers are indented.
+#[derive(Clone, Copy, Debug, PartialEq, Eq)]
+pub enum Indentation {
+    /// As they are.
+    AsItIs,
+    /// Not at all.
+    Flush,
+    /// A header by one unit for each key before its last, and the lines below it by one for each of
+    /// its keys.
+    ByDepth,
+}
+
+/// What a formatter is asked for. A rule that is off leaves the places as they are that it is
+/// about.
+#[derive(Clone, Copy, Debug, PartialEq, Eq)]
+pub struct Rules {
+    /// One space on both sides of `=`.
+    pub equals: bool,
+    /// No white space at dots and inside the brackets of headers.
+    pub dots: bool,
+    /// So many spaces before the `#` of a comment that is after something on its line.
+    pub before_comment: Option<usize>,
+    /// At most one empty line in a row, one before a header, and none at the ends of the text.
+    pub empty_lines: bool,
+    /// How far lines and headers are indented.
+    pub indentation: Indentation,
+    /// The spaces of a unit of indentation.
+    pub unit: usize,
+    /// Arrays on one line, or, if they have a newline or a comment, with a line for each value and
+    /// a comma after the last.
+    pub arrays: bool,
+    /// An array on a line that would have more bytes gets a line for each value.
+    pub width: Option<usize>,
+    /// Inline tables on one line, or, if they have a newline or a comment, with a line for each
+    /// pair.
+    pub inline_tables: bool,
+    /// New lines end in CR LF, where line endings are kept.
+    pub returns: bool,
+}
+
+/// Makes the rules that are usual: all are on, lines are not indented, and new lines end in LF.
+impl Default for Rules {
+    ghost use Rattle.std.specs.Prelude.{◌≡◌};
+    ghost use Rattle.toml_edit_fmt_laws.specs.Rules.{default_rules};
+    ghost use Rattle.toml_edit_fmt.specs.RulesView.{rules_of};
+
+    ghost is_default = { λ rules. rules_of rules ≡ default_rules };
+
+    fn default() -> Rules {
+        Rules {
+            equals: true,
+            dots: true,
+            before_comment: Some(1),
+            empty_lines: true,
+            indentation: Indentation::Flush,
+            unit: 2,
+            arrays: true,
+            width: Some(80),
+            inline_tables: true,
+            returns: false,
+        }
+    }
+}
