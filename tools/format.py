@@ -1,0 +1,178 @@
+#!/usr/bin/env python3
+"""Tries the formatter on texts: twice each, and on what each rule is about.
+
+    tools/format.py [--in FOLDER | --unproved] [FILE..]
+
+FILE is a text. Left out, these are the files of this machine whose names end in `.toml`, the common suite of TOML's texts among them
+(Debian's package `golang-github-burntsushi-toml-dev`).
+
+Of each text that is accepted, the second run changes nothing, and the comments of the formatted text are those of the text, in order, as a
+scanner of strings and comments finds them. Where Python's `tomllib` reads the text, which knows TOML 1.0 alone, it reads the same data from
+the formatted one. So with the default rules, with line endings kept, with lines indented by depth, in narrow lines, and with each rule off.
+
+Ends with the number of texts, and with 1 if one is otherwise.
+"""
+import os, subprocess, sys, tempfile, tomllib
+
+import unproved
+
+PROGRAM = "test_formats"
+# Words of the program that are tried with each text.
+WORDS = [[], ["exact"], ["exact", "returns"], ["by-depth", "four"], ["narrow"], ["no-equals"], ["no-dots"], ["no-comments"], ["no-empty-lines"],
+         ["no-indentation"], ["no-arrays"], ["no-inline-tables"], ["no-empty-lines", "no-indentation", "exact"], ["no-width"]]
+OFF = ["no-equals", "no-dots", "no-comments", "no-empty-lines", "no-indentation", "no-arrays", "no-width", "no-inline-tables"]
+# What each rule is about: the words, a text, and the formatted text.
+CASES = [
+    ([], 'a=1\nb  =  "x"\n', 'a = 1\nb = "x"\n'),
+    (["no-equals"], "a=1\nb  =  2\n", "a=1\nb  =  2\n"),
+    ([], "[ a . b ]\nc . d=1\n", "[a.b]\nc.d = 1\n"),
+    (["no-dots"], "[ a . b ]\nc . d=1\n", "[ a . b ]\nc . d = 1\n"),
+    ([], "a = 1   # one\n[t]# two\n", "a = 1 # one\n\n[t] # two\n"),
+    (["two-before-comments"], "a = 1 # one\n", "a = 1  # one\n"),
+    (["no-comments"], "a = 1   # one\nb = 2  \n", "a = 1   # one\nb = 2  \n"),
+    ([], "\n\n# top\n\n\n\na = 1\n# of t\n[t]\n\n\nb = 2\n\n\n", "# top\n\na = 1\n\n# of t\n[t]\n\nb = 2\n"),
+    ([], "\n\n[t]\n[u]\n# end\n\n\n", "[t]\n\n[u]\n# end\n"),
+    ([], "a = 1\n# remark\n\n[t]\n", "a = 1\n# remark\n\n[t]\n"),
+    ([], "\n\n# only\n\n", "# only\n"),
+    (["no-empty-lines"], "\n\na = 1\n\n\n[t]\n\n\n", "\n\na = 1\n\n\n[t]\n\n\n"),
+    ([], "  a = 1\n [t]\n   # c\n\tb = 2\n", "a = 1\n\n[t]\n# c\nb = 2\n"),
+    (["by-depth"], "a = 1\n[t]\nb = 1\n# c\n[t.u]\nd = 1\n", "a = 1\n\n[t]\n  b = 1\n\n  # c\n  [t.u]\n    d = 1\n"),
+    (["no-indentation"], "  a = 1\n [t]\n   # c\n\tb = 2\n", "  a = 1\n\n [t]\n   # c\n\tb = 2\n"),
+    ([], "a = [ 1,2 , 3, ]\nb = [ ]\nc = [\n]\n", "a = [1, 2, 3]\nb = []\nc = []\n"),
+    ([], "a = [ 1, # one\n\n\n2\n# two\n, 3 # three\n]\n", "a = [\n  1, # one\n\n  2\n  # two\n  ,\n  3, # three\n]\n"),
+    ([], "a = [ # head\n]\n", "a = [ # head\n]\n"),
+    ([], "a = [[\n1,[2,\n3]]]\n", "a = [[\n  1,\n  [\n    2,\n    3,\n  ],\n]]\n"),
+    (["narrow"], 'name = ["one", "two", "three"]\n', 'name = [\n  "one",\n  "two",\n  "three",\n]\n'),
+    (["narrow", "no-width"], 'name = ["one", "two", "three"]\n', 'name = ["one", "two", "three"]\n'),
+    (["narrow", "four"], "a = [[1, 2], [3, 4, 5, 6, 777]]\n", "a = [\n    [1, 2],\n    [\n        3,\n        4,\n        5,\n        6,\n        777,\n    ],\n]\n"),
+    (["no-arrays"], "a = [ 1,2 , 3, ]\nb = [\n]\n", "a = [ 1,2 , 3, ]\nb = [\n]\n"),
+    ([], "a = {b=1,c  = {}, d.e=2 }\nf = {  }\n", "a = { b = 1, c = {}, d.e = 2 }\nf = {}\n"),
+    ([], "a = {b=1, # one\nc.d = 2 # two\n}\n", "a = {\n  b = 1, # one\n  c.d = 2, # two\n}\n"),
+    (["no-inline-tables"], "a = {b=1,c  =  2  }\n", "a = {b = 1,c = 2  }\n"),
+    ([], 't = { version="1",features=[\n"a","b" ]}\n', 't = { version = "1", features = [\n  "a",\n  "b",\n] }\n'),
+    (["exact"], "a=1\r\n[t]\r\nb=2", "a = 1\r\n\n[t]\r\nb = 2"),
+    (["exact", "returns"], "a=1\r\n[t]\r\nb=2", "a = 1\r\n\r\n[t]\r\nb = 2"),
+    ([], 's = """\n  # no comment\n""" # one\n', 's = """\n  # no comment\n""" # one\n'),
+    ([], "[[a]]\nb=1\n[[a]]\n", "[[a]]\nb = 1\n\n[[a]]\n"),
+    ([], "\n# one\na.b=1\na.c=2\n", "# one\na.b = 1\na.c = 2\n"),
+    ([], "\n\n[a.b]\n[a]\nx=1\n", "[a.b]\n\n[a]\nx = 1\n"),
+    (OFF, "\n a=1 \n\n\n[ t ]#c\n b = [ 1,\n2]\n c={ d=1 }\n\n", "\n a=1 \n\n\n[ t ]#c\n b = [ 1,\n2]\n c={ d=1 }\n\n"),
+]
+
+
+def comments_of(text):
+    """The comments of a text, in order."""
+    found, at = [], 0
+    while at < len(text):
+        for mark in ('"""', "'''", '"', "'"):
+            if text.startswith(mark, at):
+                at = end_of_string(text, at + len(mark), mark)
+                break
+        else:
+            if text[at] == "#":
+                end = text.find("\n", at)
+                end = len(text) if end < 0 else end
+                found.append(text[at:end].rstrip("\r"))
+                at = end
+            else:
+                at += 1
+    return found
+
+
+def end_of_string(text, at, mark):
+    """Where the string ends, whose content begins at a place."""
+    while at < len(text):
+        if text[at] == "\\" and mark[0] == '"':
+            at += 2
+        elif text.startswith(mark, at):
+            at += len(mark)
+            # Up to two quotation marks more are of the string.
+            while len(mark) == 3 and text.startswith(mark[0], at):
+                at += 1
+            return at
+        else:
+            at += 1
+    return at
+
+
+def run(program, words, text):
+    """What the program writes, or None where it refuses the text."""
+    ran = subprocess.run([program, *words], input=text, capture_output=True, timeout=60)
+    if ran.returncode:
+        return None
+    return ran.stdout
+
+
+def data_of(text):
+    """What `tomllib` reads, as a text, or None where it refuses."""
+    try:
+        return repr(tomllib.loads(text.decode()))
+    except (tomllib.TOMLDecodeError, RecursionError):
+        return None
+
+
+def fault(program, words, text):
+    """What is wrong with a text formatted, None if nothing, or "refused"."""
+    once = run(program, words, text)
+    if once is None:
+        return "refused"
+    if run(program, words, once) != once:
+        return "the second run changes it"
+    if comments_of(text.decode()) != comments_of(once.decode()):
+        return "the comments differ"
+    data = data_of(text)
+    if data is not None and data_of(once) != data:
+        return "the data differ"
+    return None
+
+
+def read(path):
+    """The text of a file, or None where it isn't UTF-8."""
+    with open(path, "rb") as file:
+        text = file.read()
+    try:
+        text.decode()
+    except UnicodeDecodeError:
+        return None
+    return text
+
+
+def texts():
+    """The files of this machine."""
+    ran = subprocess.run(["find", "/usr", "/root", "/opt", "/home", "-xdev", "-name", "*.toml"], capture_output=True, text=True)
+    return sorted(ran.stdout.splitlines())
+
+
+def main():
+    words = sys.argv[1:]
+    if words[:1] == ["--help"]:
+        return print(__doc__.strip())
+    with tempfile.TemporaryDirectory() as folder:
+        (program,), words = unproved.programs([PROGRAM], words, folder)
+        bad = 0
+        for asked, before, after in CASES:
+            came = run(program, asked, before.encode())
+            came = came and came.decode()
+            again = came and run(program, asked, came.encode()).decode()
+            if came != after or again != after:
+                bad += 1
+                print("case %s\n%r\nwanted %r\ncame   %r\nagain  %r" % (" ".join(asked), before, after, came, again))
+        paths = [path for path in words or texts() if read(path) is not None]
+        refused = set()
+        for asked in WORDS:
+            for path in paths:
+                if path in refused:
+                    continue
+                it = fault(program, asked, read(path))
+                if it == "refused" and data_of(read(path)) is None:
+                    refused.add(path)
+                elif it:
+                    bad += 1
+                    print("%s: %s: %s" % (path, " ".join(asked) or "default", it))
+            print("%s: %d texts, %d refused, %d faults" % (" ".join(asked) or "default", len(paths), len(refused), bad), flush=True)
+    print("%d cases, %d texts, %d of them refused, %d ways each; %d faults" % (len(CASES), len(paths), len(refused), len(WORDS), bad))
+    return 1 if bad else 0
+
+
+if __name__ == "__main__":
+    sys.exit(main())
