@@ -10,6 +10,7 @@ mod first;
 mod inline;
 mod keys;
 mod kind;
+pub mod laws;
 mod laying;
 mod layout;
 mod places;
@@ -34,9 +35,9 @@ use toml_edit_repr::{Mem, RawString};
 
 /// Returns the document formatted by the rules.
 ///
-/// It shows the same. A document that was read, or one that fits and is steady, fits again, has the
-/// same comments in the same order, each with what it belongs to, and stays as it is when it is
-/// formatted again.
+/// It means the same. A document that was read fits again, has the same comments in the same order,
+/// each with what it belongs to, and formatted again it stays. So does an edited one that may be
+/// formatted, as [`readings`] says of those that were read. Other promises are [`laws`].
 ///
 /// # Errors
 ///
@@ -45,7 +46,7 @@ pub fn format(alloc: Global, document: DocumentMut, rules: &Rules) -> Mem<Docume
     ensures tree { IfOk result
         (λ d. tree_owned d ≡ formatted (rules_of rules.now) (tree_owned document)) }
     ensures printed { IfOk result (λ d. IsPrintedAs d document) }
-    ensures shows { IfOk result
+    ensures means { IfOk result
         (λ d. shown_meaning (tree_owned d) ≡ shown_meaning (tree_owned document)) }
     ensures formats { IfOk result (λ d. Formats (rules_of rules.now) document d) }
 {

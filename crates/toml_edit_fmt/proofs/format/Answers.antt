@@ -3,8 +3,8 @@ use Rattle.toml_edit_fmt.specs.RulesView.{rules_of}
 use Rattle.toml_edit_fmt.proofs.PromiseLaws.{result_formats, result_shows}
 use Rattle.toml_edit_fmt.proofs.format.Goals as goal
 
-pub returns-clause-shows : goal.returns-clause-shows
-returns-clause-shows c =
+pub returns-clause-means : goal.returns-clause-means
+returns-clause-means c =
     result_shows (rules_of c.args.rules.now) c.args.document c.format_tree.result c.format_tree.ensures.tree c.formatted_trees.ensures.means
 
 pub returns-clause-formats : goal.returns-clause-formats
