@@ -1,13 +1,13 @@
 #!/usr/bin/env python3
-"""Measures the stack that `tomled` takes, by valgrind's massif.
+"""Measures the stack that `tomled` and `tomlfile` take, by valgrind's massif.
 
-    tools/stack.py [--program FILE]
+    tools/stack.py [--in FOLDER | --unproved]
 
-The program is FILE, or the proved one in `crates/tomled/out`, or else one that is built unproved. Each document has a line with the most
-stack that each command took, in KB: a usual document, and those at the limits of depth, 80 keys in a path and 80 open brackets. The last one
-has inline tables in inline tables, each at a path of 80 keys. It ends with status 1 if a run fails.
+The programs are the proved ones, after `rt run < stdin` in the folder of each, or those in FOLDER, or built by `--unproved`. Each document has
+a line with the most stack that each command took, in KB: a usual document, and those at the limits of depth, 80 keys in a path and 80 open
+brackets. The last one has inline tables in inline tables, each at a path of 80 keys. `tomled` ends without dropping its document, and
+`tomlfile` drops it, as a program over the library does. It ends with status 1 if a run fails.
 """
-import argparse
 import os
 import re
 import subprocess
@@ -36,7 +36,8 @@ def documents():
     }
 
 
-COMMANDS = (["print"], ["set", "new", "1"])
+# Each program with the commands that are run on standard input.
+COMMANDS = (("tomled", ["print"]), ("tomled", ["set", "new", "1"]), ("tomlfile", ["check", "-"]), ("tomlfile", ["edit", "-", "set", "new", "1"]))
 
 
 def stack_of(program, words, text, folder):
@@ -48,24 +49,22 @@ def stack_of(program, words, text, folder):
 
 
 def main():
-    words = argparse.ArgumentParser(description=__doc__.split("\n")[0])
-    words.add_argument("--program")
-    given = words.parse_args()
+    if sys.argv[1:] == ["--help"]:
+        return print(__doc__.strip())
     faults, most = 0, 0
     with tempfile.TemporaryDirectory() as folder:
-        program = given.program or unproved.TOP + "/crates/tomled/out/tomled"
-        if not os.path.isfile(program):
-            program = folder + "/tomled"
-            unproved.build("tomled", program)
+        (tomled, tomlfile), _ = unproved.programs(["tomled", "tomlfile"], sys.argv[1:], folder)
+        programs = {"tomled": tomled, "tomlfile": tomlfile}
+        print("%-14s%s" % ("", "".join("%16s" % " ".join([name, words[0]]) for name, words in COMMANDS)))
         for name, text in documents().items():
             stacks = []
-            for command in COMMANDS:
-                status, stack = stack_of(program, command, text, folder)
+            for program, words in COMMANDS:
+                status, stack = stack_of(programs[program], words, text, folder)
                 if status != 0:
                     faults += 1
-                    print("%s: %s: status %d" % (name, " ".join(command), status))
+                    print("%s: %s %s: status %d" % (name, program, " ".join(words), status))
                 stacks.append(stack)
-            print("%-14s%s" % (name, "".join("%8d" % round(stack / 1000) for stack in stacks)))
+            print("%-14s%s" % (name, "".join("%16d" % round(stack / 1000) for stack in stacks)), flush=True)
             most = max(most, *stacks)
     print("%d documents, %d commands; at most %d KB; %d faults" % (len(documents()), len(COMMANDS), round(most / 1000), faults))
     return 1 if faults else 0
