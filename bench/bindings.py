@@ -1,0 +1,115 @@
+#!/usr/bin/env python3
+"""Times a set of one value from Python and Rust, beside others, in one run.
+
+    bench/bindings.py [--tomlkit FOLDER] [--beside PROGRAM]     FOLDER has the package `tomlkit`; PROGRAM is that of bench/crate_set
+
+The documents are a manifest of 3 KB and a lock file of 1 MB. A set is from a text to a text: it is read, one value is changed, and it is
+printed. What is given is the mean processor time of many. It wants what `bindings/build` makes in bindings/out, and cargo.
+"""
+import os
+import subprocess
+import sys
+import tempfile
+import time
+
+TOP = os.path.dirname(os.path.dirname(os.path.abspath(__file__)))
+sys.path.insert(0, TOP + "/bindings/python")
+import toml_edit  # noqa: E402
+from toml_edit import _core  # noqa: E402
+
+
+def documents():
+    """The functions of bench/run.py that make documents."""
+    with open(TOP + "/bench/run.py", encoding="utf-8") as file:
+        made = {"__file__": file.name}
+        # Its last line runs it.
+        exec(compile(file.read().rsplit("main()", 1)[0], file.name, "exec"), made)  # pylint: disable=exec-used
+    return made
+
+
+def mean(count, call):
+    """The mean processor time of so many calls, in seconds."""
+    start = time.process_time()
+    for _ in range(count):
+        call()
+    return (time.process_time() - start) / count
+
+
+def keys_to(document):
+    """A path to a value in the middle of a document, as keys, of those that every kind of reader has."""
+    found = list(document)[len(document) // 2]
+    keys = [found]
+    node = document[found]
+    while not isinstance(node, (str, int, float)):
+        key = len(node) // 2 if isinstance(node, (list, toml_edit.Array)) else list(node)[0]
+        keys.append(key)
+        node = node[key]
+    return keys
+
+
+def by_tomlkit(tomlkit, text, keys):
+    document = tomlkit.parse(text)
+    node = document
+    for key in keys[:-1]:
+        node = node[key]
+    node[keys[-1]] = "changed"
+    return tomlkit.dumps(document)
+
+
+def by_document(text, keys):
+    document = toml_edit.loads(text)
+    node = document
+    for key in keys[:-1]:
+        node = node[key]
+    node[keys[-1]] = "changed"
+    return toml_edit.dumps(document)
+
+
+def rust(program, file, path, count):
+    words = [program, file, path, '"changed"', str(count)]
+    return int(subprocess.run(words, capture_output=True, text=True, check=True).stdout) / 1e9
+
+
+def row(name, seconds):
+    print("| %s | %s |" % (name, "%.3f ms" % (seconds * 1000) if seconds else "-"), flush=True)
+
+
+def time_kind(title, text, count, folder, program, beside, tomlkit):
+    keys = keys_to(toml_edit.loads(text))
+    path = ".".join(map(str, keys))
+    file = folder + "/document.toml"
+    with open(file, "w", encoding="utf-8") as made:
+        made.write(text)
+    print("\n| %s, %d bytes, `%s` | a set |\n|---|---|" % (title, len(text.encode()), path))
+    row("Rust, this library", rust(program, file, path, count))
+    row("Rust, the crate", beside and rust(beside, file, path, count))
+    row("Python, one call", mean(count, lambda: _core.call("set", 0, text.encode(), path.encode(), b'"changed"')))
+    row("Python, a document", mean(max(count // 5, 1), lambda: by_document(text, keys)))
+    row("Python, tomlkit", tomlkit and mean(max(count // 20, 1), lambda: by_tomlkit(tomlkit, text, keys)))
+
+
+def main():
+    words = sys.argv[1:]
+    given = dict(zip(words[::2], words[1::2]))
+    if len(words) % 2 or set(given) - {"--tomlkit", "--beside"}:
+        return print(__doc__.strip())
+    if "--tomlkit" in given:
+        sys.path.insert(0, given["--tomlkit"])
+        import tomlkit
+    else:
+        tomlkit = None
+    with tempfile.TemporaryDirectory() as folder:
+        rust_folder = TOP + "/bindings/rust"
+        env = dict(os.environ, CARGO_TARGET_DIR=folder + "/target")
+        words = ["cargo", "build", "--release", "--offline", "--quiet", "--example", "time_set"]
+        subprocess.run(words, cwd=rust_folder, env=env, check=True)
+        program = folder + "/target/release/examples/time_set"
+        print("The library is %s." % toml_edit.built())
+        made = documents()
+        for title, text, count in (("manifest", made["manifest"](3000), 200), ("lock file", made["lock"](1_000_000), 20)):
+            time_kind(title, text, count, folder, program, given.get("--beside"), tomlkit)
+    return None
+
+
+if __name__ == "__main__":
+    sys.exit(main())

@@ -1,0 +1,148 @@
+"""Makes random calls of the library, and ends with status 1 if one breaks what the header says.
+
+    LD_PRELOAD=ASAN ASAN_OPTIONS=detect_leaks=0 python3 -m tests.random_calls [COUNT [SEED]]
+
+COUNT is 1,000,000 if it is not named. Texts are parts of documents that were put together, bytes of which some were changed, and bytes that
+are no UTF-8. The room has each size up to what is needed and some bytes more. Two threads make the calls side by side. Behind the room and
+before it are bytes that have to stay, and with the address sanitizer each text is a block of its own.
+"""
+
+from __future__ import annotations
+
+import ctypes
+import random
+import sys
+import threading
+
+from toml_edit import _core
+
+PARTS = [b"a = 1\n", b"[a.b]\n", b"[[t]]\n", b"x.y = 'z' # c\r\n", b'"\\u00e9" = """\n"""\n', b"l = [1, [2], # c\n]\n", b"i = { j = 0x1, }\n"]
+PARTS += [b"\xef\xbb\xbf", b"d = 1979-05-27T07:32:00Z", b"\n", b"\r", b"[", b"]", b"=", b"#\x01", b"\xff", b"'''", b"f = -inf\n", b"\0"]
+PATHS = [b"a", b"a.b", b"t.0", b"x.y", b"l.1.0", b"i.j", b"", b"\xff", b"a..b", b"'q'.r", b'"\\u00e9"', b"t.0.n.m"]
+VALUES = [b"1", b"'s'", b"[1, 2]", b"{ a = 1 }", b"1979-05-27", b"", b"\xff", b"{ a = 1, }", b"[", b"+inf", b'"""\n"""']
+WORDS = [b"set", b"header", b"remove", b"append", b"insert", b"take", b"rename", b"move", b"sort", b"comment", b"other", b"\xff"]
+GUARD = 16
+
+
+def text(random_: random.Random) -> bytes:
+    made = bytearray(b"".join(random_.choice(PARTS) for _ in range(random_.randrange(8))))
+    if random_.randrange(8) == 0:
+        made = bytearray(b"[" * random_.randrange(90)) + made
+    for _ in range(random_.choice([0, 0, 0, 1, 3])):
+        if made:
+            made[random_.randrange(len(made))] = random_.randrange(256)
+    return bytes(made)
+
+
+def script(random_: random.Random) -> bytes:
+    words = []
+    for _ in range(random_.randrange(4)):
+        word = random_.choice(WORDS)
+        words += [word, random_.choice(PATHS)]
+        if word not in (b"remove", b"sort"):
+            words.append(random_.choice(VALUES + PATHS))
+    return b"".join(word + b"\0" for word in words)[: None if random_.randrange(8) else -1]
+
+
+def texts_of(name: str, random_: random.Random) -> list[bytes]:
+    if name == "edit":
+        return [text(random_), script(random_)]
+    return [text(random_), random_.choice(PATHS), random_.choice(VALUES)][: _core._CALLS[name]]
+
+
+def guarded(size: int, random_: random.Random) -> tuple[ctypes.Array, bytes]:
+    filling = random_.randbytes(size + 2 * GUARD)
+    return ctypes.create_string_buffer(filling, len(filling)), filling
+
+
+def one(name: str, random_: random.Random) -> None:
+    """Makes a call with three rooms, and looks at what each says."""
+    flags = random_.choice([0, 0, 1, 2, 3, 4, 2**32 - 1])
+    texts = texts_of(name, random_)
+    needed, status, whole = 0, 0, b""
+    for size in (1 << 12, None, random_.randrange(64)):
+        size = random_.choice([needed, max(needed - 1, 0), random_.randrange(needed + 1)]) if size is None else size
+        block, filling = guarded(size, random_)
+        room = (ctypes.c_char * size).from_buffer(block, GUARD)
+        before = [bytes(it) for it in texts]
+        found, wanted = _core.raw(name, flags, texts, room)
+        left = block.raw
+        assert before == texts
+        assert left[:GUARD] == filling[:GUARD] and left[GUARD + size :] == filling[GUARD + size :], "a write past the room"
+        if found == 0:
+            assert wanted <= size and left[GUARD + wanted : GUARD + size] == filling[GUARD + wanted : GUARD + size]
+            assert not whole or left[GUARD : GUARD + wanted] == whole
+            whole = left[GUARD : GUARD + wanted]
+        else:
+            assert left == filling, "a write without a text"
+            assert (found == 1) == (wanted > 0) and (found != 1 or wanted > size)
+        if size == 1 << 12:
+            needed, status = wanted, found
+        else:
+            assert wanted == needed and (found == status or {found, status} == {0, 1}), (name, flags, texts)
+
+
+def checked(random_: random.Random) -> None:
+    given = text(random_)
+    error = _core.check(random_.choice([0, 1, 2, 3]), given)
+    status, _needed = _core.raw("print", 0, [given], ctypes.create_string_buffer(0))
+    assert error is None or error.line is None or error.span[0] <= error.span[1] <= len(given)
+    assert status != 2 or error is not None
+
+
+def ran(random_: random.Random) -> None:
+    """Runs a command with large rooms and with others, and looks at what each says."""
+    words = random_.choice([[], [b"exact"], [b"strict"], [b"exact", b"strict"]])
+    words = [*words, random_.choice([b"print", b"get", b"set", b"remove", b"\xff", b""]), random_.choice(PATHS), random_.choice(VALUES)]
+    said = b"".join(word + b"\0" for word in words[: random_.randrange(len(words) + 1)])
+    given = text(random_)
+    wanted: tuple = ()
+    for _ in range(3):
+        sizes = [random_.choice([need, max(need - 1, 0), need + 3]) for need in wanted[1:]] if wanted else [1 << 13, 1 << 10]
+        blocks = [guarded(size, random_) for size in sizes]
+        rooms = [(ctypes.c_char * size).from_buffer(block, GUARD) for size, (block, _filling) in zip(sizes, blocks)]
+        told = _core._Sizes()
+        parts = [part for room, size in zip(rooms, sizes) for part in (room, size)]
+        status = _core._LIBRARY.toml_edit_run(said, len(said), given, len(given), *parts, ctypes.byref(told))
+        needs = (told.output, told.errors)
+        fits = all(need <= size for need, size in zip(needs, sizes))
+        assert status in (0, 1, 2, 5) and (status == 5) == (not fits) and (status == 5 or needs[status == 0] == 0), (status, needs)
+        for need, size, (block, filling) in zip(needs, sizes, blocks):
+            left = block.raw
+            written = need if fits else 0
+            assert left[:GUARD] == filling[:GUARD] and left[GUARD + written :] == filling[GUARD + written :], "a write past the text"
+        assert not wanted or needs == wanted[1:]
+        wanted = wanted or (status, *needs)
+
+
+def work(count: int, seed: int, faults: list) -> None:
+    random_ = random.Random(seed)
+    names = list(_core._FUNCTIONS)
+    try:
+        for _ in range(count):
+            one(random_.choice(names), random_)
+            if random_.randrange(8) == 0:
+                checked(random_)
+            if random_.randrange(8) == 0:
+                ran(random_)
+    except BaseException as fault:  # noqa: BLE001
+        faults.append((seed, fault))
+        raise
+
+
+def main() -> int:
+    count = int(sys.argv[1]) if sys.argv[1:] else 1_000_000
+    seed = int(sys.argv[2]) if sys.argv[2:] else 1
+    faults: list = []
+    # Each turn makes three calls.
+    threads = [threading.Thread(target=work, args=(count // 6 + 1, seed + it, faults)) for it in range(2)]
+    for thread in threads:
+        thread.start()
+    for thread in threads:
+        thread.join()
+    print("%d calls in two threads, %d faults: %s" % ((count // 6 + 1) * 6, len(faults), _core.built()))
+    return 1 if faults else 0
+
+
+if __name__ == "__main__":
+    sys.exit(main())

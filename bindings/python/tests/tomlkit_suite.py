@@ -1,0 +1,207 @@
+"""Runs tests of tomlkit through this package, and says which hold.
+
+    python3 -m tests.tomlkit_suite FOLDER [--list]     FOLDER is tomlkit's source, which has `tests`
+
+The tests are those of `test_toml_document.py`, `test_api.py` and `test_toml_file.py`. A module stands for `tomlkit`: what it shares with this
+package is this package's, and all else raises `Absent`. A test that fails is in `tomlkit_differences.txt`, with the reason. Ends with status 1
+if another fails, or one of those holds.
+"""
+
+from __future__ import annotations
+
+import importlib
+import inspect
+import io
+import itertools
+import os
+import re
+import sys
+import tempfile
+import traceback
+import types
+from typing import Any
+
+import toml_edit
+
+FILES = ("test_toml_document", "test_api", "test_toml_file")
+DIFFERENCES = os.path.join(os.path.dirname(os.path.abspath(__file__)), "tomlkit_differences.txt")
+
+
+class Absent(Exception):
+    """Something of tomlkit that this package lacks."""
+
+
+def absent(name: str) -> Any:
+    class Made:
+        def __init__(self, *_words: Any, **_more: Any) -> None:
+            raise Absent(name)
+
+    Made.__name__ = name.rsplit(".", 1)[-1]
+    return Made
+
+
+class Stand(types.ModuleType):
+    """A module that lacks most of what is asked of it."""
+
+    def __getattr__(self, name: str) -> Any:
+        if name.startswith("__"):
+            raise AttributeError(name)
+        made = absent("%s.%s" % (self.__name__, name))
+        setattr(self, name, made)
+        return made
+
+
+class TOMLFile:
+    def __init__(self, path: Any) -> None:
+        self._path = path
+
+    def read(self) -> toml_edit.Document:
+        with open(self._path, encoding="utf-8", newline="") as file:
+            return toml_edit.loads(file.read())
+
+    def write(self, document: Any) -> None:
+        with open(self._path, "w", encoding="utf-8", newline="") as file:
+            file.write(toml_edit.dumps(document))
+
+
+def load(file: Any) -> toml_edit.Document:
+    return toml_edit.loads(file.read())
+
+
+def dump(given: Any, file: Any) -> None:
+    file.write(toml_edit.dumps(given))
+
+
+def stand_in() -> None:
+    """Puts modules in the place of tomlkit's."""
+    named = {name: Stand("tomlkit" + name) for name in ("", ".api", ".exceptions", ".items", ".toml_document", ".toml_file", "._utils")}
+    named.update({name: Stand("tomlkit" + name) for name in (".container", ".parser", ".source", "._types")})
+    for name, made in named.items():
+        sys.modules["tomlkit" + name] = made
+        if name:
+            setattr(named[""], name[1:], made)
+    for made in (named[""], named[".api"]):
+        made.parse = made.loads = toml_edit.loads
+        made.dumps, made.load, made.dump = toml_edit.dumps, load, dump
+        made.document, made.TOMLDocument = toml_edit.Document, toml_edit.Document
+    named[".toml_document"].TOMLDocument = toml_edit.Document
+    named[".toml_file"].TOMLFile = TOMLFile
+    import datetime
+
+    named["._utils"]._utc = datetime.timezone.utc
+    errors = named[".exceptions"]
+    errors.NonExistentKey = KeyError
+    errors.ParseError = errors.TOMLKitError = ValueError
+    for name in "EmptyKeyError EmptyTableNameError InternalParserError InvalidCharInStringError InvalidControlChar".split():
+        setattr(errors, name, toml_edit.TomlError)
+    for name in "InvalidDateError InvalidDateTimeError InvalidNumberError InvalidTimeError MixedArrayTypesError".split():
+        setattr(errors, name, toml_edit.TomlError)
+    for name in "UnexpectedCharError UnexpectedEofError InvalidUnicodeValueError KeyAlreadyPresent".split():
+        setattr(errors, name, toml_edit.TomlError)
+
+
+class Raises:
+    def __init__(self, wanted: Any, match: str | None = None) -> None:
+        self._wanted, self._match = wanted, match
+        self.value: Any = None
+
+    def __enter__(self) -> Raises:
+        return self
+
+    def __exit__(self, kind: Any, value: Any, _trace: Any) -> bool:
+        assert kind is not None, "nothing was raised"
+        self.value = value
+        return issubclass(kind, self._wanted) and (not self._match or bool(re.search(self._match, str(value))))
+
+
+def pytest_stand() -> types.ModuleType:
+    """What these tests use of pytest."""
+    made = types.ModuleType("pytest")
+
+    def parametrize(names: Any, cases: Any, **_more: Any) -> Any:
+        names = [it.strip() for it in names.split(",")] if isinstance(names, str) else list(names)
+
+        def mark(function: Any) -> Any:
+            rows = [dict(zip(names, row if len(names) > 1 else [row])) for row in cases]
+            function.cases = [*getattr(function, "cases", []), rows]
+            return function
+
+        return mark
+
+    made.fixture = lambda function=None, **_more: function if function else (lambda it: it)
+    made.raises = Raises
+    made.param = lambda *row, **_more: row if len(row) > 1 else row[0]
+    made.mark = types.SimpleNamespace(parametrize=parametrize, skipif=lambda *_words, **_more: lambda it: it)
+    return made
+
+
+def fixtures(folder: str, room: str) -> dict:
+    def reader(*inside: str, ending: str) -> Any:
+        def read(name: str) -> str:
+            with open(os.path.join(folder, "tests", "examples", *inside, name + ending), encoding="utf-8") as file:
+                return file.read()
+
+        return read
+
+    return {
+        "example": reader(ending=".toml"),
+        "json_example": reader("json", ending=".json"),
+        "invalid_example": reader("invalid", ending=".toml"),
+        "tmpdir": types.SimpleNamespace(join=lambda name: os.path.join(room, name)),
+        "tmp_path": __import__("pathlib").Path(room),
+    }
+
+
+def tests_of(name: str) -> list[tuple[str, Any, dict]]:
+    """The tests of a file, a row for each of their cases."""
+    found = []
+    for title, function in vars(importlib.import_module("tests." + name)).items():
+        if title.startswith("test_") and inspect.isfunction(function):
+            for at, rows in enumerate(itertools.product(*getattr(function, "cases", []))):
+                words = {key: value for row in rows for key, value in row.items()}
+                found.append(("%s::%s%s" % (name, title, "[%d]" % at if rows else ""), function, words))
+    return found
+
+
+def try_test(function: Any, words: dict, folder: str) -> str:
+    """Runs a test, and returns why it fails, or nothing."""
+    with tempfile.TemporaryDirectory() as room:
+        given = {**fixtures(folder, room), **words}
+        out, sys.stdout = sys.stdout, io.StringIO()
+        try:
+            function(**{name: given[name] for name in inspect.signature(function).parameters})
+            return ""
+        except Absent as lacks:
+            return "lacks %s" % lacks
+        except BaseException as fault:  # noqa: BLE001
+            where = traceback.extract_tb(fault.__traceback__)
+            line = next((it.lineno for it in reversed(where) if "/tests/" in it.filename), 0)
+            return "line %d: %s: %s" % (line, type(fault).__name__, str(fault).split("\n")[0][:80])
+        finally:
+            sys.stdout = out
+
+
+def differences() -> dict:
+    with open(DIFFERENCES, encoding="utf-8") as file:
+        return dict(line.rstrip("\n").split(": ", 1) for line in file if line.strip() and not line.startswith("#"))
+
+
+def main() -> int:
+    folder = os.path.abspath(sys.argv[1])
+    stand_in()
+    sys.modules["pytest"] = pytest_stand()
+    package = types.ModuleType("tests")
+    package.__path__ = [folder + "/tests"]
+    sys.modules["tests"] = package
+    results = {title: try_test(function, words, folder) for name in FILES for title, function, words in tests_of(name)}
+    known = differences() if "--list" not in sys.argv else {}
+    wrong = [title for title, why in results.items() if bool(why) != (title in known)]
+    for title in wrong if "--list" not in sys.argv else results:
+        print("%s: %s" % (title, results[title] or "holds"))
+    held = sum(not why for why in results.values())
+    print("%d of %d tests hold, %d differ for a known reason" % (held, len(results), len(known)))
+    return 1 if wrong and "--list" not in sys.argv else 0
+
+
+if __name__ == "__main__":
+    sys.exit(main())

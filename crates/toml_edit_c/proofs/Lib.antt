@@ -1,0 +1,8 @@
+-- Lemmas on calls.
+pub mod Outcomes
+pub mod Splitting
+pub mod Verbs
+pub mod Editing
+pub mod Ending
+pub mod Items
+pub mod Counted

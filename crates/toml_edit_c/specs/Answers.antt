@@ -1,0 +1,28 @@
+-- What the caller's room holds after a call.
+use Rattle.std.specs.Prelude.{◌≡◌, ◌⊎◌, ℕ, ◌≤◌, ◌<◌, List, ◌++◌, length, drop}
+use Rattle.toml_edit_model.specs.Text.{Text}
+use Rattle.toml_edit_c.specs.declared.answer.Answer.{Answer}
+
+-- the text is at the front of the room, which is else as it was
+abbrev pub IsAtFront : Text → List ℕ → List ℕ → Type 0
+IsAtFront text old new =
+    (length text ≤ length old) × (new ≡ text ++ drop (length text) old)
+
+-- the text does not fit in the room, which is as it was
+abbrev pub IsTooLong : Text → List ℕ → List ℕ → Type 0
+IsTooLong text old new = (length old < length text) × (new ≡ old)
+
+-- The answer says which of these it is, and how many bytes the text has.
+abbrev pub Holds : Text → Answer → List ℕ → List ℕ → Type 0
+Holds text answer old new =
+    (answer.needed ≡ length text)
+    × (((answer.status ≡ 0) × IsAtFront text old new)
+    ⊎ ((answer.status ≡ 1) × IsTooLong text old new))
+
+-- so it is with a text of this property
+abbrev pub Gives : (Text → Type 0) → Answer → List ℕ → List ℕ → Type 0
+Gives Is answer old new = (text : Text) × Is text × Holds text answer old new
+
+-- there is no text, and the room is as it was
+abbrev pub IsUnanswered : Answer → List ℕ → List ℕ → Type 0
+IsUnanswered answer old new = (answer.needed ≡ 0) × (new ≡ old)

@@ -1,0 +1,13 @@
+-- Cited by public contracts.
+pub mod Asks
+pub mod Statuses
+pub mod Answers
+pub mod Made
+pub mod Checks
+pub mod Json
+pub mod Split
+pub mod Scripts
+pub mod Runs
+-- Cited inside this crate alone.
+pub mod Verbs
+pub mod Commands

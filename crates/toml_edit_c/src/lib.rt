@@ -1,0 +1,154 @@
+//! Short calls on TOML texts for programs in C and in languages that call C.
+//!
+//! Each call reads a whole text and gives a text back. The caller lends the room for it, and is
+//! told how many bytes it has: if they do not fit, nothing is written and the call can be made
+//! again with more room. No call keeps anything, so any thread may make it.
+//!
+//! The header `bindings/c/toml_edit.h` says how C declares these functions. A slice is a pointer
+//! and a length there, and an allocator is nothing.
+//!
+//! There is no handle of a parsed document. An export takes no pointer to a type that holds a
+//! `Vec`, as `*mut Tree` of `struct Tree { items: Vec<u64> }`: `cell-in-c`. It takes `&mut Handle`
+//! of a `#[repr(C)]` struct with `at: *mut u8`, `alloc: Global` and a ghost `Tree`, whose
+//! `also_owns` says that a box lies there. What makes such a struct of a `Box<Tree>`, and a box of
+//! it, would be proved by hand.
+#![tactic(auto)]
+
+ghost use Rattle.std.specs.Prelude.{◌≤◌, ◌<◌};
+ghost use Rattle.toml_edit_c.specs.Answers.{Gives, IsUnanswered};
+ghost use Rattle.toml_edit_c.specs.Asks.{ask, get_words, print_words, remove_words, set_words};
+ghost use Rattle.toml_edit_c.specs.Json.{IsJsonBy, StopsJsonWith};
+ghost use Rattle.toml_edit_c.specs.Made.{IsMadeBy, StopsWith};
+ghost use Rattle.toml_edit_c.specs.Scripts.{IsEditedBy, StopsEditWith};
+
+mod answer;
+mod calls;
+pub mod check;
+mod command;
+mod edit;
+mod flags;
+mod get;
+mod json;
+mod read;
+mod read_edit;
+pub mod run;
+mod script;
+mod split;
+mod stop;
+mod verb;
+mod words;
+
+pub use answer::Answer;
+use answer::give;
+use std::alloc::Global;
+
+/// Gives the print of the text.
+///
+/// It is what `tomled print` writes. For the flags and the statuses see `bindings/c/toml_edit.h`.
+#[unsafe(no_mangle)]
+pub extern "C" fn toml_edit_print(alloc: Global, flags: u32, text: &[u8], room: &mut [u8]) -> Answer
+    ensures given { result.status ≤ 1
+        → Gives (IsMadeBy (ask flags print_words) text.now) result room.old room.new }
+    ensures stopped { 1 < result.status → StopsWith (ask flags print_words) text.now result.status }
+    ensures unanswered { 1 < result.status → IsUnanswered result room.old room.new }
+{
+    give(calls::print(alloc, flags, text), room)
+}
+
+/// Gives the text of the item at the path.
+///
+/// It is what `tomled get` writes: a value as it is spelled, the lines of a table, or an array of
+/// tables as an array.
+#[unsafe(no_mangle)]
+pub extern "C" fn toml_edit_get(
+    alloc: Global,
+    flags: u32,
+    text: &[u8],
+    path: &[u8],
+    room: &mut [u8],
+) -> Answer
+    ensures given { result.status ≤ 1
+        → Gives (IsMadeBy (ask flags (get_words path.now)) text.now) result room.old room.new }
+    ensures stopped { 1 < result.status
+        → StopsWith (ask flags (get_words path.now)) text.now result.status }
+    ensures unanswered { 1 < result.status → IsUnanswered result room.old room.new }
+{
+    give(calls::get(alloc, flags, text, path), room)
+}
+
+/// Gives the text with the value at the path.
+///
+/// It is what `tomled set` writes.
+#[unsafe(no_mangle)]
+pub extern "C" fn toml_edit_set(
+    alloc: Global,
+    flags: u32,
+    text: &[u8],
+    path: &[u8],
+    value: &[u8],
+    room: &mut [u8],
+) -> Answer
+    ensures given { result.status ≤ 1
+        → Gives (IsMadeBy (ask flags (set_words path.now value.now)) text.now) result room.old
+        room.new }
+    ensures stopped { 1 < result.status
+        → StopsWith (ask flags (set_words path.now value.now)) text.now result.status }
+    ensures unanswered { 1 < result.status → IsUnanswered result room.old room.new }
+{
+    give(calls::set(alloc, flags, text, path, value), room)
+}
+
+/// Gives the text without the item at the path.
+///
+/// It is what `tomled remove` writes.
+#[unsafe(no_mangle)]
+pub extern "C" fn toml_edit_remove(
+    alloc: Global,
+    flags: u32,
+    text: &[u8],
+    path: &[u8],
+    room: &mut [u8],
+) -> Answer
+    ensures given { result.status ≤ 1
+        → Gives (IsMadeBy (ask flags (remove_words path.now)) text.now) result room.old room.new }
+    ensures stopped { 1 < result.status
+        → StopsWith (ask flags (remove_words path.now)) text.now result.status }
+    ensures unanswered { 1 < result.status → IsUnanswered result room.old room.new }
+{
+    give(calls::remove(alloc, flags, text, path), room)
+}
+
+/// Gives the JSON text of the item at the path. The empty path leads to the root.
+#[unsafe(no_mangle)]
+pub extern "C" fn toml_edit_json(
+    alloc: Global,
+    flags: u32,
+    text: &[u8],
+    path: &[u8],
+    room: &mut [u8],
+) -> Answer
+    ensures given { result.status ≤ 1
+        → Gives (IsJsonBy flags text.now path.now) result room.old room.new }
+    ensures stopped { 1 < result.status → StopsJsonWith flags text.now path.now result.status }
+    ensures unanswered { 1 < result.status → IsUnanswered result room.old room.new }
+{
+    give(json::json(alloc, flags, text, path), room)
+}
+
+/// Gives the text with the edits of the script, which are made one after another or not at all.
+#[unsafe(no_mangle)]
+pub extern "C" fn toml_edit_edit(
+    alloc: Global,
+    flags: u32,
+    text: &[u8],
+    script: &[u8],
+    room: &mut [u8],
+) -> Answer
+    ensures given { result.status ≤ 1
+        → Gives (IsEditedBy flags text.now script.now) result room.old room.new }
+    ensures stopped { 1 < result.status
+        → StopsEditWith flags text.now script.now result.status }
+    ensures unanswered { 1 < result.status → IsUnanswered result room.old room.new }
+{
+    give(script::edit(alloc, flags, text, script), room)
+}
