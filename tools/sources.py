@@ -10,7 +10,7 @@ import re
 
 TOP = os.path.dirname(os.path.dirname(os.path.abspath(__file__)))
 HEAD = re.compile(
-    r"(?P<public>pub(?:\([^)]*\))? )?(?:final |unsafe |async |const (?=fn))*"
+    r"(?P<public>pub(?:\([^)]*\))? )?(?:final |unsafe |async |extern \"C\" |const (?=fn))*"
     r"(?P<kind>ghost|fn|struct|enum|trait|impl|type|const|static|mod|use)\b ?(?P<name>\w+)?"
 )
 HIDING = re.compile(

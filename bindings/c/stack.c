@@ -7,7 +7,7 @@
 
 #include "toml_edit.h"
 
-enum { SAID = 24 * 1024 * 1024, LENT = 32 * 1024 * 1024, PAINT = 0xA5, LIMIT = 80 };
+enum { SAID = 32 * 1024 * 1024, LENT = 48 * 1024 * 1024, PAINT = 0xA5, LIMIT = 80 };
 
 static char text[1 << 16], path[1 << 12], value[1 << 15];
 static uint8_t room[1 << 18];

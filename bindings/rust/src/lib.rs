@@ -15,7 +15,7 @@
 //! element, from 0. A value is spelled as TOML spells it.
 //!
 //! A call takes some 20 KB of stack for most documents, and up to 22 MB for 80 inline tables in one another that each have a path of 80 keys:
-//! a thread that reads texts of others needs a stack of 24 MB.
+//! a thread that reads texts of others needs a stack of 32 MB.
 use std::fmt;
 
 mod sys {
