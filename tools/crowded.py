@@ -5,10 +5,9 @@
     tools/crowded.py test_rows_tables   calls on the root and on a table with a header
     tools/crowded.py test_rows_values   calls on an inline table, and by the trait of both kinds
 
-The index of a table (`crates/toml_edit_slots/src/index.rt`) is a map until too many names of one class begin their search in one region of
-it, and trees from then on. They are counted once the map is so large that a table needs some 90 keys whose number is known before, or some
-150 that are added one by one. So each table here has that many, of which 60 are in one class of one region. The answers are those of a list
-of pairs: what a call of the library does to the pairs, in order, by its documentation.
+The index of a table (`crates/toml_edit_slots/src/index.rt`) is made of chains until one of them has too many names, and of trees from then
+on. So 60 names of each table here are in one chain. The answers are those of a list of pairs: what a call of the library does to the pairs,
+in order, by its documentation.
 
 To compare with the rows that the programs have:
 
@@ -24,20 +23,20 @@ sys.dont_write_bytecode = True
 
 import collisions  # noqa: E402
 
-# The regions of a map of up to 128 groups, and the class.
-BITS = 15 * collisions.REGION | 3 * collisions.CLASS
+# The chain is the same one of 512, and so of fewer.
+BITS = 511
 CROWD, SPARE = 60, 12
 # The numbers of keys that a table of each kind needs, with some room.
 READ, GROWN = 100, 160
 
 
 def prefix(size):
-    """What all names of this size begin with: at most 16 bytes are held by the map itself."""
-    return b"key_of_more_than_16_bytes_"[:size - 8] if size > collisions.SHORT else b"k" * (size - 8)
+    """What all names of this size begin with."""
+    return b"key_of_more_than_16_bytes_"[:size - 8] if size >= collisions.LONG else b"k" * (size - 8)
 
 
 def crowd(size):
-    """Names of one class of one region, and some more of these that no table begins with."""
+    """Names of one chain, and some more of these that no table begins with."""
     names = [name.decode() for name in collisions.chosen(CROWD + SPARE, prefix(size), BITS, {0: CROWD + SPARE})]
     return names[:CROWD], names[CROWD:]
 
@@ -197,7 +196,7 @@ def table_rows():
 def growing_rows():
     """Rows on a table that is added to until its index changes."""
     _, few, _, spare, _ = mixed(8, READ)
-    most = collisions.MOST_ALIKE
+    most = collisions.LONGEST
     first = [name.decode() for name in collisions.ordinary(READ - most, 12)] + few[:most - 4]
     root = Model(first, [], ["as_table_mut"], " ")
     for number, name in enumerate(few[most - 4:most + 4]):

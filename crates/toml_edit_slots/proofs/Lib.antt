@@ -1,6 +1,5 @@
 -- Lemmas of this crate.
-pub mod ShortLaws
-pub mod HashedLaws
+pub mod ChainLaws
 pub mod IndexLaws
 pub mod PlacesLaws
 pub mod NewLaws

@@ -1,14 +1,12 @@
 //! The container that tables store their keys and items in, and the lists of elements of arrays.
 #![tactic(auto)]
 
-mod hashed;
+mod chains;
 mod index;
 pub mod list;
 mod order;
 mod places;
-mod short_name;
 pub mod slots;
-mod tally;
 
 pub use slots::rearrange::Renamed;
 pub use slots::{NoMemory, Refused, Slot, Slots};

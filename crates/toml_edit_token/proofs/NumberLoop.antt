@@ -1,8 +1,10 @@
 -- The loop over the digits of a number, a turn at a time.
-use Rattle.std.proofs.Common.{◌≡◌, ℕ, ◌+◌, ◌*◌, ◌<◌, ◌≤◌, Bool, true, false, cond, ◌==◌, ◌&&◌, List, length, get_or, drop, Option, Some}
-use Rattle.std.proofs.Common.{None, is_some, refl, ap, inl, inr, arith, mul-le-mul_left, le_trans, nat_lt, ◌∙◌, eqb-true}
-use Rattle.std.specs.Char.{is_digit, digit_value}
-use Rattle.std.proofs.lemmas.Bool.{eq-eqb, le-ltb}
+use Rattle.std.proofs.Common.{◌≡◌, ℕ, ◌+◌, ◌-◌, ◌*◌, ◌^◌, ◌<◌, ◌≤◌, Bool, true, false, cond, ◌==◌, ◌&&◌, List, length, get_or, drop, Option, Some}
+use Rattle.std.proofs.Common.{None, is_some, refl, sym, ap, inl, inr, arith, mul-le-mul_left, le_trans, nat_lt, ◌∙◌, eqb-true}
+use Rattle.std.specs.Char.{is_ascii_digit, is_digit, digit_value}
+use Rattle.std.proofs.lemmas.Bool.{eq-eqb, le-ltb, lt-ltb}
+use Rattle.std.proofs.lemmas.Bool.Decides.{nat_tests}
+use Rattle.std.proofs.Math.Nat.{pow-suc, pow-le-pow_right}
 use Rattle.std.proofs.lemmas.List.{drop_more, drop_all}
 use Rattle.toml_edit_laws.specs.reading.Tokens.{digits_at, natural_of, if_below}
 use Rattle.toml_edit_laws.proofs.reading.Steps.{chosen}
@@ -85,3 +87,37 @@ pub below_end : (base limit : ℕ) (after_digit : Bool) (n : ℕ) (whole : List 
     → if_below limit (natural_of base whole) ≡ cond (after_digit && nat_lt n limit) (Some n) None
 below_end base limit true n whole e = rw (← e) refl
 below_end base limit false n whole e = rw (← e) refl
+
+-- ---- decimal digits alone
+
+pub digit-few : (c : ℕ) → is_ascii_digit c ≡ true → c - 48 ≤ 9
+digit-few c is =
+    let high : c ≤ 57 = grind (arith, nat_tests) in
+    omega (arith, high)
+
+-- a turn at a decimal digit
+pub turn_decimal : (n : ℕ) (ds : List ℕ) (i : ℕ) → i < length ds → is_ascii_digit (get_or ds i 0) ≡ true
+    → digits_at 10 (nat_lt 0 i) n (drop i ds)
+    ≡ digits_at 10 (nat_lt 0 (i + 1)) (n * 10 + (get_or ds i 0 - 48)) (drop (i + 1) ds)
+turn_decimal n ds i within is =
+    let c = get_or ds i 0 in
+    let low : 48 ≤ c = grind (arith, nat_tests) in
+    let high : c ≤ 57 = grind (arith, nat_tests) in
+    let value : digit_value c ≡ c - 48 = rw (le-ltb c 48 low, lt-ltb c 58 (omega (arith, high))) refl in
+    let has : is_digit c 10 ≡ true = lt-ltb (digit_value c) 10 (omega (arith, value, low, high)) in
+    turn_digit 10 (nat_lt 0 i) n ds i within has
+    ∙ ap (λ b. digits_at 10 b (n * 10 + digit_value c) (drop (i + 1) ds)) (sym (lt-ltb 0 (i + 1) (omega arith)))
+    ∙ ap (λ v. digits_at 10 (nat_lt 0 (i + 1)) (n * 10 + v) (drop (i + 1) ds)) value
+
+-- behind the last of some decimal digits
+pub end_decimal : (n : ℕ) (ds : List ℕ) (i : ℕ) → length ds ≤ i → 0 < i → digits_at 10 (nat_lt 0 i) n (drop i ds) ≡ Some n
+end_decimal n ds i past some =
+    turn_end 10 (nat_lt 0 i) n ds i past ∙ ap (λ b. cond b (Some n) None) (lt-ltb 0 i some)
+
+pub decimals-more : (v i d : ℕ) → v < 10 ^ i → d ≤ 9 → v * 10 + d < 10 ^ (i + 1)
+decimals-more v i d small few =
+    let one : 10 ^ (i + 1) ≡ 10 ^ i * 10 = ap (λ k. 10 ^ k) (omega arith) ∙ pow-suc 10 i in
+    omega (arith, one, small, few)
+
+pub decimals-fit : (v i n : ℕ) → v < 10 ^ i → i ≤ n → v < 10 ^ n
+decimals-fit v i n small within = omega (arith, small, pow-le-pow_right {n = 10} (omega arith) within)

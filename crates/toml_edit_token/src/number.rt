@@ -1,5 +1,5 @@
 //! Integers, as whole words. (TOML, "Integer".)
-ghost use Rattle.std.specs.Prelude.{◌≡◌, ◌+◌, ◌<◌, ◌≤◌, ◌^◌, is_some, option_map, pos, IfSome};
+ghost use Rattle.std.specs.Prelude.{◌≡◌, ◌+◌, ◌<◌, ◌≤◌, ◌^◌, Some, true, is_some, option_map, pos, IfSome, IsTrue};
 ghost use Rattle.toml_edit_laws.specs.reading.Tokens as spec;
 ghost use Rattle.toml_edit_model.specs.Spelling.{plus, minus, unsigned};
 
@@ -31,6 +31,20 @@ fn leads_with_zero(digits: &[u8]) -> bool
     byte_of(digits, 0) == b'0' && digits.len() > 1
 }
 
+/// Returns `true` if these are decimal digits, without underscores. Most numbers are, and a loop of
+/// no other tests is shorter.
+#[inline(always)]
+fn are_digits(digits: &[u8]) -> bool
+    ensures { IsTrue result → is_some (spec.natural_of 10 digits.now) ≡ true }
+{
+    'digits: for byte in digits {
+        if !byte.is_ascii_digit() {
+            return false;
+        }
+    }
+    !digits.is_empty()
+}
+
 /// Returns `true` if these are decimal digits, without a leading 0.
 #[tactic(auto, unfolding(toml_edit_laws::specs::reading::Tokens::decimal_of))]
 fn is_decimal(digits: &[u8]) -> bool
@@ -38,7 +52,7 @@ fn is_decimal(digits: &[u8]) -> bool
     ensures minus { result ≡ is_some (spec.decimal_of minus digits.now) }
     ensures unsigned { result ≡ is_some (spec.decimal_of unsigned digits.now) }
 {
-    !leads_with_zero(digits) && is_natural(digits, 10)
+    !leads_with_zero(digits) && (are_digits(digits) || is_natural(digits, 10))
 }
 
 /// Returns `true` if a word spells an integer, however large.
@@ -92,6 +106,29 @@ fn natural_number(digits: &[u8], base: u32, limit: u64) -> Option<u64>
     }
 }
 
+/// The most decimal digits of a number that is surely in range.
+const MOST_DIGITS: usize = 18;
+
+/// Returns the number that at most 18 decimal digits write, without underscores. Returns `None` for
+/// any other text.
+#[inline(always)]
+fn short_number(digits: &[u8]) -> Option<u64>
+    ensures value { IfSome result (λ n. spec.natural_of 10 digits.now ≡ Some n) }
+    ensures below { IfSome result (λ n. n < 10 ^ 18) }
+{
+    if digits.is_empty() || digits.len() > MOST_DIGITS {
+        return None;
+    }
+    let mut value = 0u64;
+    'digits: for byte in digits {
+        if !byte.is_ascii_digit() {
+            return None;
+        }
+        value = value * 10 + u64::from(*byte - b'0');
+    }
+    Some(value)
+}
+
 /// Returns the integer that decimal digits write without a minus sign.
 #[tactic(auto, unfolding(toml_edit_laws::specs::reading::Tokens::decimal_of))]
 fn positive_integer(digits: &[u8]) -> Option<i64>
@@ -100,6 +137,9 @@ fn positive_integer(digits: &[u8]) -> Option<i64>
 {
     if leads_with_zero(digits) {
         return None;
+    }
+    if let Some(n) = short_number(digits) {
+        return Some(n as i64);
     }
     let n = natural_number(digits, 10, 1 << 63)?;
     Some(n as i64)
