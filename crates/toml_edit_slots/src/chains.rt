@@ -155,6 +155,17 @@ impl Chains {
         there
     }
 
+    /// Returns `true` if the chain of the name takes no more.
+    pub(crate) fn is_crowded<T>(&self, entries: &[Slot<T>], name: &str) -> bool
+        requires apart { AreApart entries.now }
+        requires chained { IsChained self.now (names entries.now) }
+    {
+        let hash = hash_of(name);
+        let head = self.heads[self.chain_of(hash)];
+        let (_, passed) = self.walk(entries, name, hash, head);
+        passed >= LONGEST
+    }
+
     /// Looks a name up in its chain, whose head is given. Returns its place and how many places were
     /// passed.
     #[inline(always)]

@@ -254,6 +254,10 @@ fn add_name_in<T>(index: &mut Index, alloc: Global, entries: &[Slot<T>], name: &
     ensures ok { OnOk result (HasRoomRenamed index.new name.now (names entries.now)) }
     ensures err { OnErr result (IsIndex index.new (names entries.now)) }
 {
+    if is_crowded(index, entries, name) {
+        *index = Index::Sorted(places_with(alloc, entries, name)?);
+        return Ok(());
+    }
     match index {
         Index::Chained(_) => {}
         Index::Sorted(places) => {
@@ -261,6 +265,17 @@ fn add_name_in<T>(index: &mut Index, alloc: Global, entries: &[Slot<T>], name: &
         }
     }
     Ok(())
+}
+
+/// Returns `true` if the name would be one too many in a chain.
+fn is_crowded<T>(index: &Index, entries: &[Slot<T>], name: &str) -> bool
+    requires apart { AreApart entries.now }
+    requires indexed { IsIndex index.now (names entries.now) }
+{
+    match index {
+        Index::Chained(chains) => chains.is_crowded(entries, name),
+        Index::Sorted(_) => false,
+    }
 }
 
 /// Updates the index after its slots were moved or renamed, or some of them removed. Allocates

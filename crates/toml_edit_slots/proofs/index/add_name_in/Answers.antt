@@ -16,3 +16,12 @@ returns-in_ok-add-in-Sorted-clause-ok g c = λ k.
     (subst (IsIndexOf c.add.new.self) (with_text-new t us c.requires.new) c.in_ok-add-in-Sorted.ensures.ok)
     (omega (arith, length-set us k t, length-append us (t ∷ [])))
     (λ u is. among-set us k u t is)
+
+pub returns-then-is_crowded-clause-ok : goal.returns-then-is_crowded-clause-ok
+returns-then-is_crowded-clause-ok g c = λ k.
+    let us = names c.args.entries.now in
+    let t = c.args.name.now in
+    has_room (Sorted c.in_ok-places_with.field-0) (us ++ t ∷ []) (set us k t)
+    c.in_ok-places_with.ensures
+    (omega (arith, length-set us k t, length-append us (t ∷ [])))
+    (λ u is. among-set us k u t is)
