@@ -49,9 +49,18 @@ struct SlotCount {
 #[inline(never)]
 pub(crate) fn room_for(behind: Behind<'_>) -> usize {
     let Behind { keys, events, .. } = behind;
-    let count = count_slots(events, keys);
+    // Most tables are such lines, before a header of one key.
+    let lines = plain_lines(events);
+    let Some(rest) = events.get(lines.saturating_mul(5)..) else {
+        return lines;
+    };
+    if keys > 0 && opens_short_header(rest) {
+        return lines;
+    }
+    let count = count_slots(rest, keys);
+    let slots = lines.saturating_add(count.slots);
     if count.is_whole {
-        return count.slots;
+        return slots;
     }
     let goes_on = if !count.has_headers {
         block_len(behind.ahead)
@@ -60,7 +69,7 @@ pub(crate) fn room_for(behind: Behind<'_>) -> usize {
     } else {
         0
     };
-    with_share(count.slots, behind, goes_on)
+    with_share(slots, behind, goes_on)
 }
 
 /// Returns the number of slots that the root is to have room for, whose first batch has these
@@ -77,19 +86,34 @@ pub(crate) fn room_for_root(source: &str, events: &[Event], ahead: &str) -> usiz
 /// Returns the number of elements that an array of tables of this name is to have room for after
 /// its first, whose header has these brackets: one for each header of it that follows before any of
 /// another table beside it.
+///
+/// If the array goes on after the batch, it is taken to go on in the same way.
 #[inline(never)]
 pub(crate) fn elements_behind(name: &str, brackets: Span, behind: Behind<'_>) -> usize {
-    let Behind {
-        source,
-        keys,
-        events,
-        ahead,
-    } = behind;
-    let mut elements: usize = 0;
+    let Elements { count, is_whole } = count_elements(name, behind);
+    if is_whole {
+        return count;
+    }
+    let header = part(behind.source.as_bytes(), brackets.start, brackets.end);
+    with_share(count, behind, reach_of(behind.ahead.as_bytes(), header))
+}
+
+/// What a batch of events says of the elements of an array of tables.
+#[derive(Clone, Copy)]
+struct Elements {
+    /// The number of headers that follow.
+    count: usize,
+    /// Whether the header of another table beside it follows.
+    is_whole: bool,
+}
+
+/// Counts the headers of an array of tables of this name.
+fn count_elements(name: &str, behind: Behind<'_>) -> Elements {
+    let mut count: usize = 0;
     let mut depth: usize = 0;
     let mut is_array = false;
     let mut last = Span { start: 0, end: 0 };
-    for event in events {
+    for event in behind.events {
         match event.kind {
             EventKind::HeaderOpen | EventKind::ArrayHeaderOpen => {
                 is_array = matches!(event.kind, EventKind::ArrayHeaderOpen);
@@ -99,38 +123,56 @@ pub(crate) fn elements_behind(name: &str, brackets: Span, behind: Behind<'_>) ->
                 depth = depth.saturating_add(1);
                 last = event.span;
             }
-            EventKind::HeaderClose if depth <= keys => {
-                if !is_array || depth != keys || !is_name(source, last, name) {
-                    return elements;
+            EventKind::HeaderClose if depth <= behind.keys => {
+                if !is_array || depth != behind.keys || !is_name(behind.source, last, name) {
+                    return Elements {
+                        count,
+                        is_whole: true,
+                    };
                 }
-                elements = elements.saturating_add(1);
+                count = count.saturating_add(1);
             }
             _ => {}
         }
     }
-    let header = part(source.as_bytes(), brackets.start, brackets.end);
-    elements.saturating_add(headers_in(ahead.as_bytes(), header))
+    Elements {
+        count,
+        is_whole: false,
+    }
 }
 
-/// Returns how many headers of this spelling, in double brackets, the text goes on with, before any
-/// of a table that is not below it.
+/// How far a text is read on from a header to the next one that is looked at.
+const STEP: usize = 1024;
+
+/// Returns about how far the text goes on with headers of this spelling, in double brackets, and of
+/// tables below it.
 ///
 /// No part of a text is read for many arrays, but for those inside one another.
-fn headers_in(text: &[u8], header: &[u8]) -> usize {
+fn reach_of(text: &[u8], header: &[u8]) -> usize {
     let path = part(header, 2, header.len().saturating_sub(2));
-    let mut headers: usize = 0;
-    for at in memchr_iter(b'[', text) {
-        if !begins_line(text, at) {
-            continue;
-        }
+    let mut reach: usize = 0;
+    'steps: while reach < text.len() {
+        let Some(at) = header_from(text, reach) else {
+            return text.len();
+        };
         let line = part(text, at, text.len());
-        if line.starts_with(header) {
-            headers = headers.saturating_add(1);
-        } else if !is_below(line, path) {
-            return headers;
+        if !line.starts_with(header) && !is_below(line, path) {
+            return at;
+        }
+        reach = reach.max(at).saturating_add(STEP);
+    }
+    text.len()
+}
+
+/// Returns where the first bracket from this place on is that begins a line, after whitespace.
+fn header_from(text: &[u8], from: usize) -> Option<usize> {
+    for ahead in memchr_iter(b'[', part(text, from, text.len())) {
+        let at = from.saturating_add(ahead);
+        if begins_line(text, at) {
+            return Some(at);
         }
     }
-    headers
+    None
 }
 
 /// Returns `true` if the line begins with the header of a table below this path.
@@ -159,6 +201,32 @@ fn begins_line(text: &[u8], at: usize) -> bool {
 fn is_name(source: &str, span: Span, name: &str) -> bool {
     match source.get(span.start..span.end) {
         Some(text) => text == name,
+        None => false,
+    }
+}
+
+/// Returns `true` if these are the events of a line of one key and a scalar.
+fn is_plain_line(events: &[Event]) -> bool {
+    match events {
+        [leading, _, _, value, _] => {
+            matches!(leading.kind, EventKind::Leading) && matches!(value.kind, EventKind::Scalar)
+        }
+        _ => false,
+    }
+}
+
+/// Returns the number of lines of one key and a scalar at the front.
+fn plain_lines(events: &[Event]) -> usize {
+    events
+        .chunks(5)
+        .take_while(|line| is_plain_line(*line))
+        .count()
+}
+
+/// Returns `true` if a header of one key comes first.
+fn opens_short_header(events: &[Event]) -> bool {
+    match events.get(5) {
+        Some(closing) => matches!(closing.kind, EventKind::HeaderClose),
         None => false,
     }
 }
@@ -208,12 +276,7 @@ fn count_slots(events: &[Event], keys: usize) -> SlotCount {
 /// So no part of a text is read for two tables.
 fn block_len(text: &str) -> usize {
     let bytes = text.as_bytes();
-    for at in memchr_iter(b'[', bytes) {
-        if begins_line(bytes, at) {
-            return at;
-        }
-    }
-    bytes.len()
+    header_from(bytes, 0).unwrap_or(bytes.len())
 }
 
 /// Returns the number of slots or elements that are counted in the batch, and so many more as it
