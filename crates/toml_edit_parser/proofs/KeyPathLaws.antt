@@ -44,7 +44,7 @@ key_is own start s name at before after some named spelled left right =
     ∙ ap (λ (r : Raw). with_spelling own s (span_of place s.spelled) (span_of (place - length s.before) s.before) r) right
 
 -- the name is that of the text at a span
-abbrev Told : Text → Span → Text → Type 0
+abbrev pub Told : Text → Span → Text → Type 0
 Told source at name = (k : Text) → SpellsKey k (cut_out source at.start at.end) → name ≡ k
 
 -- what was read of a path

@@ -5,10 +5,12 @@ use Rattle.std.specs.Prelude.{if◌then◌else◌, not, ◌&&◌, option_and_the
 use Rattle.toml_edit_model.specs.Mode.{Mode}
 use Rattle.toml_edit_model.specs.Roles.{Role, ends_path, extends}
 use Rattle.toml_edit_model.specs.Text.{Text}
+use Rattle.toml_edit_model.specs.OwnedForm.{cut_out}
+use Rattle.toml_edit_model.specs.Spelling.{SpellsKey}
 use Rattle.toml_edit_model.specs.Syntax.{Segment, path_text}
 use Rattle.toml_edit_model.specs.Faults.{duplicate_key}
 use Rattle.toml_edit_model.specs.Paths.{Mention, Source, next_start}
-use Rattle.toml_edit_model.specs.Tree.{Decor, unset, Key, Extent, TableFields, Node, nothing, leaf, list, inline, table, tables, Items}
+use Rattle.toml_edit_model.specs.Tree.{Decor, owned, unset, Key, Extent, TableFields, Node, nothing, leaf, list, inline, table, tables, Items}
 use Rattle.toml_edit_model.specs.Tree.{no_items, item, Slots, no_slots, is_value_node}
 use Rattle.toml_edit_model.specs.TreeOf.{spanned_in, key_at, key_extent, made_by_path, header_fields, statement_leaf, brackets_from}
 use Rattle.toml_edit_model.specs.TreeOf.{brackets_to}
@@ -28,12 +30,11 @@ use Rattle.toml_edit_error.specs.Fault.{IfToml}
 use Rattle.toml_edit_error.specs.declared.toml_error.ParseFault.{ParseFault}
 use Rattle.toml_edit_syntax.specs.declared.event.Event.{Event}
 use Rattle.toml_edit_syntax.specs.declared.event.Span.{Span}
-use Rattle.toml_edit_syntax.specs.ValueEvents.{path_events}
 use Rattle.toml_edit_parser.specs.declared.key.PathKey.{PathKey}
 use Rattle.toml_edit_parser.specs.declared.key.KeyPath.{KeyPath}
 use Rattle.toml_edit_parser.specs.PathRead.{IsFirstKey, IsKeyBefore, IsPathFrom, segment_key}
-use Rattle.toml_edit_parser.specs.PairRead.{AddsLast, IsEndOfPath}
-use Rattle.toml_edit_parser.specs.ValueRead.{span_at}
+use Rattle.toml_edit_parser.specs.PairRead.{AddsLast, IsEndOfPath, PathView, key_with, leaf_of, path_of, split_dot}
+use Rattle.toml_edit_parser.specs.ValueRead.{span_at, spanned_raw, split_first}
 use Rattle.toml_edit_tree.specs.Containers.{TableView, TablesView, table_node, tables_node}
 use Rattle.toml_edit_parser.specs.declared.document.path.Kind.{Kind}
 use Rattle.toml_edit_parser.specs.declared.document.path.Kind.TheVariants as kinds
@@ -41,6 +42,7 @@ use Rattle.toml_edit_parser.specs.TableRead.{addition_for, is_line, opened, with
 use Rattle.toml_edit_parser.specs.TableRead.{Goes, IsHeaded, IsItemFor, IsKeyOf, IsPathOf, PutsLast}
 use Rattle.toml_edit_parser.proofs.ReadLaws.{mapped}
 use Rattle.toml_edit_parser.proofs.EntryLaws.{end_of, path_rest}
+use Rattle.toml_edit_parser.proofs.KeyPathLaws.{Told, last-read, name-refused, passed-read}
 
 -- what stands in the way: a mention, and the item there
 abbrev pub Way : Type 0
@@ -180,6 +182,46 @@ step-of mode t s ms path r told f =
     step_parts mode t s f.start f.segments ms r f.ends f.stands f.mentions
     (told (own_leaf mode s) f.segments f.start f.ends f.stands f.read)
 
+-- the name of the first key can't be refused
+pub name-step : (mode : Mode) (t : Text) (e : ParseFault) (s : Source) (ms : List (Mention Source)) (path : KeyPath) (first : Event)
+    (rest : List Event)
+    → Some (first, rest) ≡ split_first path.events.now
+    → ((k : Text) → SpellsKey k (cut_out t first.span.start first.span.end) → IfToml e (λ r. ⊥)) → IsPathOf mode t s ms path
+    → IfToml e (λ r. ⊥)
+name-step mode t e s ms path first rest split told f =
+    name-refused t (own_leaf mode s) f.segments f.start path first rest e
+    (record { are = f.ends; stands = f.stands; at = f.read; split = split }) told
+
+-- a first key without a dot after it
+pub last-step : (mode : Mode) (t : Text) (s : Source) (ms : List (Mention Source)) (path : KeyPath) (first : Event) (rest : List Event)
+    (name : Text) (k : Key)
+    → Some (first, rest) ≡ split_first path.events.now → Told t first.span name
+    → ◌≡◌ {A = Option (Span × PathView)} None (split_dot path rest)
+    → k ≡ key_with name first.span (leaf_of path) (spanned_raw path.before) (owned [])
+    → IsPathOf mode t s ms path → IsStep mode t s ms (record { key = k; span = first.span; rest = None })
+last-step mode t s ms path first rest name k split told none is f =
+    step-of mode t s ms path (record { key = k; span = first.span; rest = None })
+    (λ own p start are stands at. last-read t own p start path first rest name k
+    (record { are = are; stands = stands; at = at; split = split }) told none is) f
+
+-- a first key that the path passes through
+pub passed-step : (mode : Mode) (t : Text) (s : Source) (ms : List (Mention Source)) (path : KeyPath) (first : Event) (rest : List Event)
+    (name : Text) (k : Key) (after : Span) (inside : KeyPath)
+    → Some (first, rest) ≡ split_first path.events.now → Told t first.span name
+    → ◌≡◌ {A = Option (Span × PathView)} (Some (after, path_of inside)) (split_dot path rest)
+    → k ≡ key_with name first.span unset (spanned_raw path.before) (spanned_raw after)
+    → IsPathOf mode t s ms path → IsStep mode t s ms (record { key = k; span = first.span; rest = Some inside })
+passed-step mode t s ms path first rest name k after inside split told dot is f =
+    step-of mode t s ms path (record { key = k; span = first.span; rest = Some inside })
+    (λ own p start are stands at. passed-read t own p start path first rest name k after inside
+    (record { are = are; stands = stands; at = at; split = split }) told dot is) f
+
+-- after the last event there is no dot
+pub no-dot : (path : KeyPath) (rest : List Event) → length rest ≡ 0
+    → ◌≡◌ {A = Option (Span × PathView)} None (split_dot path rest)
+no-dot path [] none = refl
+no-dot path (e ∷ rest) none = absurd (omega (arith, none))
+
 -- ---- one key
 
 -- the last key
@@ -196,24 +238,6 @@ last-here mode t r s (m ∷ n ∷ ms) k a ss new is none f = absurd (let e = sym
 
 pub same_path : (p q : KeyPath) → ◌≡◌ {A = Option KeyPath} (Some p) (Some q) → p ≡ q
 same_path p q e = cc
-
--- what is left of a path has an event
-no-events : (start : ℕ) (p : List Segment) → IsEndOfPath p → length (path_events start p) ≡ 0 → ⊥
-no-events start [] ends none = absurd (let e = ends.some in cc)
-no-events start (g ∷ []) ends none = absurd (omega (arith, none))
-no-events start (g ∷ h ∷ p) ends none = absurd (omega (arith, none))
-
--- a path of one event doesn't go on
-pub single-step : (mode : Mode) (t : Text) (s : Source) (ms : List (Mention Source)) (k : PathKey) (inside : KeyPath) → IsStep mode t s ms k
-    → k.rest ≡ Some inside
-    → length inside.events.now ≡ 0 → ⊥
-single-step mode t s [] k inside is some none = absurd is
-single-step mode t s (m ∷ []) k inside is some none = absurd (let e = sym some ∙ is.1 in cc)
-single-step mode t s (m ∷ n ∷ ms) k inside is some none =
-    let same = same_path is.1.0 inside (sym is.1.1 ∙ some) in
-    let f = is.1.2 in
-    no-events f.start f.segments f.ends (ap (λ (es : List Event). length es) (sym f.read.2) ∙ ap (λ (q : KeyPath). length q.events.now) same
-    ∙ none)
 
 -- a key before the last that is new
 pub new-here : (mode : Mode) {A : Type 0} (t : Text) (r : Result A ParseFault) (s : Source) (ms : List (Mention Source)) (k : PathKey)
@@ -557,10 +581,3 @@ tables-in mode t r kinds.Table n m ms held left last changed line is put h =
     rw put (last-in mode t r a_table m ms held.extent held.items (with_last changed held.items) last changed is refl h)
 tables-in mode t r (kinds.Element brackets) n m ms held left last changed line is put h =
     rw put (last-in mode t r an_element m ms held.extent held.items (with_last changed held.items) last changed is refl h)
-
--- a key that is read is not refused
-pub refused-key : (mode : Mode) (t : Text) (e : ParseFault) (s : Source) (ms : List (Mention Source)) (path : KeyPath)
-    → ((own : Decor) (p : List Segment) (start : ℕ) → IsEndOfPath p → Stands t start (path_text p) → IsPathFrom own start p path
-    → IfToml e (λ r. ⊥))
-    → IsPathOf mode t s ms path → IfToml e (λ r. ⊥)
-refused-key mode t e s ms path told f = told (own_leaf mode s) f.segments f.start f.ends f.stands f.read

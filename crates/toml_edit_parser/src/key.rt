@@ -125,7 +125,6 @@ pub(crate) struct PathKey<'a> {
 /// Splits off the first key of a path.
 ///
 /// Fails if out of memory, or if the events are those of no path, which no text of the grammar has.
-#[inline(always)]
 pub(crate) fn next_key<'a>(
     reader: &Reader<'_>,
     path: KeyPath<'a>,

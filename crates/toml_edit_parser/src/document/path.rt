@@ -18,8 +18,9 @@ ghost use Rattle.toml_edit_parser.specs.TableRead.{AddsPath, IsPathOf, addition_
 use crate::document::block::place_of;
 use crate::document::last_key::put_last;
 use crate::document::room::Behind;
+use crate::events::split_first;
 use crate::fault::{Fault, duplicate_key, malformed, refusal};
-use crate::key::{KeyPath, PathKey, next_key};
+use crate::key::{KeyPath, last_key, passed_key, read_name, split_dot};
 use crate::reader::Reader;
 use crate::slots::{add_last, push_item};
 use toml_edit_error::ParseFault;
@@ -76,12 +77,23 @@ pub(crate) fn add_path(
         (item_view item.old)) ms (slots_view slots.old) (slots_view slots.new) result) }
     ensures refused { Refuses adding.now.reader.now.source.now result }
 {
-    let PathKey { key, span, rest } = next_key(adding.reader, path)?;
-    match rest {
-        None => put_last(adding, key, span, item, slots),
-        Some(inside) => match place_of(slots, key.get()) {
-            None => add_below(adding, key, span, inside, item, slots),
-            Some(at) => add_in_item(adding, span, inside, item, slots.item_mut(at)),
+    let Some((first, rest)) = split_first(path.events) else {
+        return Err(malformed(adding.reader));
+    };
+    let span = first.span;
+    let name = read_name(adding.reader, span)?;
+    // The key is made only where it is put: a result that holds one is copied field by field.
+    match split_dot(path, rest) {
+        None => put_last(adding, last_key(name, span, path), span, item, slots),
+        Some((after, inside)) => match place_of(slots, name.as_str()) {
+            None => {
+                let key = passed_key(name, span, path.before, after);
+                add_below(adding, key, span, inside, item, slots)
+            }
+            Some(at) => {
+                drop(name);
+                add_in_item(adding, span, inside, item, slots.item_mut(at))
+            }
         },
     }
 }
@@ -104,7 +116,10 @@ pub(crate) fn add_value(
         (slots_view slots.old) (slots_view slots.new) result }
     ensures refused { Refuses reader.now.source.now result }
 {
-    if path.events.len() != 1 {
+    let Some((first, rest)) = split_first(path.events) else {
+        return Err(malformed(reader));
+    };
+    if !rest.is_empty() {
         let adding = Adding {
             reader,
             kind: Kind::Line,
@@ -112,11 +127,9 @@ pub(crate) fn add_value(
         };
         return add_path(&adding, path, item, slots);
     }
-    let PathKey { key, span, rest } = next_key(reader, path)?;
-    match rest {
-        None => add_last(reader, key, span, item, slots),
-        Some(_) => Err(malformed(reader)),
-    }
+    let span = first.span;
+    let name = read_name(reader, span)?;
+    add_last(reader, last_key(name, span, path), span, item, slots)
 }
 
 /// Adds an item at the end of the rest of a path, below a new key.

@@ -1,10 +1,10 @@
 -- Each exit of the descent along a path.
-use Rattle.std.proofs.Common.{ℕ, ◌≡◌, ◌-◌, length, refl, ap, sym, ◌∙◌, arith, rules, Some, get_or, set, slice_get, vec_len, inr}
+use Rattle.std.proofs.Common.{ℕ, ◌≡◌, ◌-◌, length, refl, ap, sym, ◌∙◌, arith, rules, Some, get_or, set, slice_get, vec_len, inr, None, string_bytes}
 use Rattle.std.proofs.lemmas.Result.{err_from_is_err_and}
 use Rattle.toml_edit_model.specs.Version.{v1_1}
 use Rattle.toml_edit_model.specs.Faults.{duplicate_key}
 use Rattle.toml_edit_model.specs.Text.{Text}
-use Rattle.toml_edit_model.specs.Tree.{no_slots, table}
+use Rattle.toml_edit_model.specs.Tree.{Key, no_slots, table, unset}
 use Rattle.toml_edit_laws.specs.AddPath.{last_item, path_clash}
 use Rattle.toml_edit_laws.specs.TableClash.{table_way_message}
 use Rattle.toml_edit_slots.specs.Slots.{items_of, place, with_item}
@@ -14,57 +14,106 @@ use Rattle.toml_edit_tree.specs.View.{item_view, items_view, slots_view, table_v
 use Rattle.toml_edit_parser.specs.declared.key.PathKey.{PathKey}
 use Rattle.toml_edit_parser.specs.Faults.{fault_message}
 use Rattle.toml_edit_tree.specs.declared.value.Value.{Value}
+use Rattle.toml_edit_parser.specs.PairRead.{key_with}
 use Rattle.toml_edit_parser.specs.TableRead.{addition_for}
+use Rattle.toml_edit_parser.specs.ValueRead.{spanned_raw}
+use Rattle.toml_edit_parser.proofs.EntryLaws.{some-key}
+use Rattle.toml_edit_parser.proofs.KeyPathLaws.{behind-dot-in}
 use Rattle.toml_edit_parser.proofs.ItemLaws.{last-at, last-set, no-items, tables-set, tables-is, value-node}
-use Rattle.toml_edit_parser.proofs.PathLaws.{below-put, empty-stops, header-in, header-stops, in-passed, in-slots, last-here, line-in}
-use Rattle.toml_edit_parser.proofs.PathLaws.{new-here, nothing-stops, refused-key, step-of, stopped, tables-in, tables-stop}
+use Rattle.toml_edit_parser.proofs.PathLaws.{below-put, empty-stops, header-in, header-stops, in-passed, in-slots, last-here, last-step, line-in}
+use Rattle.toml_edit_parser.proofs.PathLaws.{name-step, new-here, nothing-stops, passed-step, stopped, tables-in, tables-stop}
 use Rattle.toml_edit_parser.proofs.PathLaws.{there-here, value-stops}
 use Rattle.toml_edit_parser.proofs.SlotLaws.{node-none, node-some, pushed-item, pushed-length, pushed-with, with-place}
+use Rattle.toml_edit_parser.proofs.SplitLaws.{first_in}
 use Rattle.toml_edit_parser.proofs.document.path.+path.Goals as goal
 use Rattle.toml_edit_parser.proofs.document.path.+path.Goals.{add_in_table-then-is_line+else-not-is_implicit, add_in_table-else-is_line}
 use Rattle.toml_edit_parser.proofs.ViewLaws.{view-None, view-Value, view-Table}
 use Rattle.toml_edit_parser.proofs.ReadLaws.{mapped}
 
-pub add_path-returns-in_err-key-clause-added : goal.add_path-returns-in_err-key-clause-added
-add_path-returns-in_err-key-clause-added t c =
+pub add_path-returns-in_default-clause-added : goal.add_path-returns-in_default-clause-added
+add_path-returns-in_default-clause-added t c =
+    λ mode s ms head at. some-key at.segments at.start c.args.path.events.now _ at.ends at.read.2 c.in_default.ensures
+
+pub add_path-returns-in_err-name-clause-added : goal.add_path-returns-in_err-name-clause-added
+add_path-returns-in_err-name-clause-added t c =
     λ mode s ms head at.
     let q = err_from_is_err_and c.from_residual.result c.from_residual.ensures.1 in
-    rw (q.1, q.2) (mapped c.in_err-key.field-0.0 (λ r. ⊥) _ (λ r none. absurd none)
-    (refused-key mode c.args.adding.now.reader.now.source.now c.in_err-key.field-0.0 s ms c.args.path c.in_err-key.ensures.key at))
+    rw (q.1, q.2) (mapped c.in_err-name.field-0.0 (λ r. ⊥) _ (λ r none. absurd none)
+    (name-step mode c.args.adding.now.reader.now.source.now c.in_err-name.field-0.0 s ms c.args.path c.in-Some.first c.in-Some.rest.now
+    c.in-Some.ensures c.in_err-name.ensures.name at))
+
+pub add_path-put_last-requires : goal.add_path-put_last-requires
+add_path-put_last-requires t c =
+    (first_in c.args.adding.now.reader.now.source.now c.args.path.events.now c.in-Some.first c.in-Some.rest.now c.in-Some.ensures
+    c.requires).0
 
 pub add_path-returns-in-None-clause-added : goal.add_path-returns-in-None-clause-added
 add_path-returns-in-None-clause-added t c =
     λ mode s ms head at.
-    let k : PathKey = c.in_ok-key.field-0 in
-    last-here mode c.args.adding.now.reader.now.source.now c.put_last.result s ms k (addition_for c.args.adding.now.kind (item_view c.args.item.now))
+    let source = c.args.adding.now.reader.now.source.now in
+    let first = c.in-Some.first in
+    let k : PathKey = record { key = c.last_key.result; span = first.span; rest = None } in
+    last-here mode source c.put_last.result s ms k (addition_for c.args.adding.now.kind (item_view c.args.item.now))
     (slots_view c.args.slots.now) _
-    (step-of mode c.args.adding.now.reader.now.source.now s ms c.args.path k c.in_ok-key.ensures.key at) c.in-None.is
+    (last-step mode source s ms c.args.path first c.in-Some.rest.now (string_bytes c.in_ok-name.name) c.last_key.result c.in-Some.ensures
+    c.in_ok-name.ensures.name c.in-None.ensures c.last_key.ensures.key at) refl
     (λ m is. c.put_last.ensures.put mode s m head is)
+
+pub add_path-add_below-requires : goal.add_path-add_below-requires
+add_path-add_below-requires t c =
+    let source = c.args.adding.now.reader.now.source.now in
+    let first = first_in source c.args.path.events.now c.in-Some.first c.in-Some.rest.now c.in-Some.ensures c.requires in
+    let dot = behind-dot-in source c.args.path c.in-Some-split_dot.after c.in-Some-split_dot.inside c.in-Some.rest.now
+    c.in-Some-split_dot.ensures first.1 in
+    let new = sym (c.in-None-place_of.ensures.place ∙ ap (λ (x : Text). place x c.args.slots.now) (c.as_str.ensures.value
+    ∙ sym (ap (λ (k : Key). k.name) c.passed_key-key.ensures.key))) in
+    (omega (arith, c.decreases, first.2, dot.1), (new, dot.0))
 
 pub add_path-returns-in-None-place_of-clause-added : goal.add_path-returns-in-None-place_of-clause-added
 add_path-returns-in-None-place_of-clause-added t c =
     λ mode s ms head at.
-    let k : PathKey = c.in_ok-key.field-0 in
+    let source = c.args.adding.now.reader.now.source.now in
+    let first = c.in-Some.first in
+    let inside = c.in-Some-split_dot.inside in
+    let k : PathKey = record { key = c.passed_key-key.result; span = first.span; rest = Some inside } in
     let es = c.args.slots.now in
-    new-here mode c.args.adding.now.reader.now.source.now c.add_below.result s ms k c.in-Some.inside
+    new-here mode source c.add_below.result s ms k inside
     (addition_for c.args.adding.now.kind (item_view c.args.item.now)) (slots_view es) _
-    (step-of mode c.args.adding.now.reader.now.source.now s ms c.args.path k c.in_ok-key.ensures.key at) c.in-Some.is
-    (node-none k.key.name es (sym (c.in-None-place_of.ensures.place ∙ ap (λ (x : Text). place x es) c.get.ensures.name)))
+    (passed-step mode source s ms c.args.path first c.in-Some.rest.now (string_bytes c.in_ok-name.name) c.passed_key-key.result
+    c.in-Some-split_dot.after inside c.in-Some.ensures c.in_ok-name.ensures.name c.in-Some-split_dot.ensures c.passed_key-key.ensures.key
+    at) refl
+    (node-none c.passed_key-key.result.name es (sym (c.in-None-place_of.ensures.place ∙ ap (λ (x : Text). place x es) (c.as_str.ensures.value
+    ∙ sym (ap (λ (k : Key). k.name) c.passed_key-key.ensures.key)))))
     (λ q path. c.add_below.ensures.added mode s q head path)
+
+pub add_path-add_in_item-requires : goal.add_path-add_in_item-requires
+add_path-add_in_item-requires t c =
+    let source = c.args.adding.now.reader.now.source.now in
+    let first = first_in source c.args.path.events.now c.in-Some.first c.in-Some.rest.now c.in-Some.ensures c.requires in
+    let dot = behind-dot-in source c.args.path c.in-Some-split_dot.after c.in-Some-split_dot.inside c.in-Some.rest.now
+    c.in-Some-split_dot.ensures first.1 in
+    (omega (arith, c.decreases, first.2, dot.1), (first.0, dot.0))
 
 pub add_path-returns-in-Some-place_of-clause-added : goal.add_path-returns-in-Some-place_of-clause-added
 add_path-returns-in-Some-place_of-clause-added t c =
     λ mode s ms head at.
-    let k : PathKey = c.in_ok-key.field-0 in
+    let source = c.args.adding.now.reader.now.source.now in
+    let first = c.in-Some.first in
+    let name = string_bytes c.in_ok-name.name in
+    let after = c.in-Some-split_dot.after in
+    let inside = c.in-Some-split_dot.inside in
+    let key = key_with name first.span unset (spanned_raw c.args.path.before) (spanned_raw after) in
+    let k : PathKey = record { key = key; span = first.span; rest = Some inside } in
     let es = c.args.slots.now in
-    let here = sym (c.in-Some-place_of.ensures.place ∙ ap (λ (x : Text). place x es) c.get.ensures.name) in
-    there-here mode c.args.adding.now.reader.now.source.now c.add_in_item.result s ms k c.in-Some.inside
+    let here = sym (c.in-Some-place_of.ensures.place ∙ ap (λ (x : Text). place x es) c.as_str.ensures.value) in
+    there-here mode source c.add_in_item.result s ms k inside
     (addition_for c.args.adding.now.kind (item_view c.args.item.now))
     (item_view c.item_mut.result.now) (item_view c.add_in_item.new.holder) (slots_view es) _
-    (step-of mode c.args.adding.now.reader.now.source.now s ms c.args.path k c.in_ok-key.ensures.key at) c.in-Some.is
-    (node-some k.key.name es c.in-Some-place_of.at c.item_mut.result.now here c.item_mut.ensures.item)
-    (with-place k.key.name es c.in-Some-place_of.at c.add_in_item.new.holder here)
-    (λ m q is path. c.add_in_item.ensures.added mode s m q k.key head is path)
+    (passed-step mode source s ms c.args.path first c.in-Some.rest.now name key after inside c.in-Some.ensures c.in_ok-name.ensures.name
+    c.in-Some-split_dot.ensures refl at) refl
+    (node-some name es c.in-Some-place_of.at c.item_mut.result.now here c.item_mut.ensures.item)
+    (with-place name es c.in-Some-place_of.at c.add_in_item.new.holder here)
+    (λ m q is path. c.add_in_item.ensures.added mode s m q key head is path)
 
 -- ---- below a new key
 

@@ -1,42 +1,48 @@
 -- A path of one event is one key; another goes the long way.
-use Rattle.std.proofs.Common.{◌<◌, length, Option, subst, arith}
-use Rattle.std.specs.Prelude.{IfSome}
+use Rattle.std.proofs.Common.{◌∙◌, None, eqb-true, length, refl, string_bytes, sym}
 use Rattle.std.proofs.lemmas.Result.{err_from_is_err_and}
 use Rattle.toml_edit_laws.specs.AddPath.{a_value}
 use Rattle.toml_edit_tree.specs.View.{item_view, slots_view}
 use Rattle.toml_edit_parser.specs.declared.key.PathKey.{PathKey}
-use Rattle.toml_edit_parser.specs.declared.key.KeyPath.{KeyPath}
-use Rattle.toml_edit_parser.specs.ValueRead.{AreIn}
-use Rattle.toml_edit_parser.proofs.PathLaws.{last-here, line-put, refused-key, single-step, step-of}
+use Rattle.toml_edit_parser.proofs.EntryLaws.{some-key}
+use Rattle.toml_edit_parser.proofs.PathLaws.{last-here, last-step, line-put, name-step, no-dot}
+use Rattle.toml_edit_parser.proofs.SplitLaws.{first_in}
 use Rattle.toml_edit_parser.proofs.document.path.add_value.Goals as goal
 use Rattle.toml_edit_parser.proofs.ReadLaws.{mapped}
 
-pub returns-in_err-key-clause-added : goal.returns-in_err-key-clause-added
-returns-in_err-key-clause-added c =
+pub returns-in_default-clause-added : goal.returns-in_default-clause-added
+returns-in_default-clause-added c =
+    λ mode s ms at. some-key at.segments at.start c.args.path.events.now _ at.ends at.read.2 c.in_default.ensures
+
+pub returns-in_err-name-clause-added : goal.returns-in_err-name-clause-added
+returns-in_err-name-clause-added c =
     λ mode s ms at.
     let q = err_from_is_err_and c.from_residual.result c.from_residual.ensures.1 in
-    rw (q.1, q.2) (mapped c.in_err-key.field-0.0 (λ r. ⊥) _ (λ r none. absurd none)
-    (refused-key mode c.args.reader.now.source.now c.in_err-key.field-0.0 s ms c.args.path c.in_err-key.ensures.key at))
+    rw (q.1, q.2) (mapped c.in_err-name.field-0.0 (λ r. ⊥) _ (λ r none. absurd none)
+    (name-step mode c.args.reader.now.source.now c.in_err-name.field-0.0 s ms c.args.path c.in-Some.first c.in-Some.rest.now c.in-Some.ensures
+    c.in_err-name.ensures.name at))
 
-pub returns-in-None-clause-added : goal.returns-in-None-clause-added
-returns-in-None-clause-added c =
+pub add_last-requires : goal.add_last-requires
+add_last-requires c =
+    record {
+      span =
+          (first_in c.args.reader.now.source.now c.args.path.events.now c.in-Some.first c.in-Some.rest.now c.in-Some.ensures c.requires).0;
+    }
+
+pub returns-clause-added : goal.returns-clause-added
+returns-clause-added c =
     λ mode s ms at.
+    let t = c.args.reader.now.source.now in
     let n = item_view c.args.item.now in
     let ss = slots_view c.args.slots.now in
-    let k : PathKey = c.in_ok-key.field-0 in
-    last-here mode c.args.reader.now.source.now c.add_last.result s ms k (a_value n) ss _
-    (step-of mode c.args.reader.now.source.now s ms c.args.path k c.in_ok-key.ensures.key at) c.in-None.is
-    (λ m is. line-put mode c.args.reader.now.source.now c.add_last.result s m k.key k.span n ss _ is c.add_last.ensures.last)
+    let first = c.in-Some.first in
+    let rest = c.in-Some.rest.now in
+    let k : PathKey = record { key = c.last_key.result; span = first.span; rest = None } in
+    last-here mode t c.add_last.result s ms k (a_value n) ss _
+    (last-step mode t s ms c.args.path first rest (string_bytes c.in_ok-name.name) c.last_key.result c.in-Some.ensures
+    c.in_ok-name.ensures.name (no-dot c.args.path rest
+    (eqb-true (length rest) 0 (sym c.is_empty.ensures ∙ c.if-not-is_empty.false))) c.last_key.ensures.key at) refl
+    (λ m is. line-put mode t c.add_last.result s m k.key k.span n ss _ is c.add_last.ensures.last)
 
-pub returns-in-Some-clause-added : goal.returns-in-Some-clause-added
-returns-in-Some-clause-added c =
-    λ mode s ms at.
-    let k : PathKey = c.in_ok-key.field-0 in
-    let whole = length c.args.path.events.now in
-    let fewer = subst (λ (o : Option KeyPath). IfSome o (λ inside. AreIn c.args.reader.now.source.now inside.events.now
-    × (length inside.events.now < whole))) c.in-Some.is c.in_ok-key.ensures.rest in
-    absurd (single-step mode c.args.reader.now.source.now s ms k _ (step-of mode c.args.reader.now.source.now s ms c.args.path k c.in_ok-key.ensures.key at)
-    c.in-Some.is (omega (arith, fewer.1)))
-
-pub returns-then-path-ne1-clause-added : goal.returns-then-path-ne1-clause-added
-returns-then-path-ne1-clause-added c = λ mode s ms at. c.add_path.ensures.added mode s ms tt at
+pub returns-then-not-is_empty-clause-added : goal.returns-then-not-is_empty-clause-added
+returns-then-not-is_empty-clause-added c = λ mode s ms at. c.add_path.ensures.added mode s ms tt at
