@@ -179,6 +179,13 @@ ReadsValue source v start level more (Ok r) = IsRead v start level more (value_v
 ReadsValue source v start level more (Err e) =
     IfToml e (NamesOne source (value_faults v start level))
 
+-- what putting its item in a place returns, where this item is then
+abbrev pub PutsValue : Text → Value → ℕ → ℕ → List Event → Node
+    → Result (Bor (List Event)) ParseFault → Type 0
+PutsValue source v start level more n (Ok r) = IsRead v start level more n r.now
+PutsValue source v start level more n (Err e) =
+    IfToml e (NamesOne source (value_faults v start level))
+
 -- what reading an element does to the items before it, if the text before it begins at this byte
 pub record AddsElement (a : Around) (v : Value) (start level : ℕ) (more : List Event)
     (old new : List Item) (rest : List Event) : Type 0 where

@@ -25,7 +25,7 @@ use crate::key::{
 };
 use crate::reader::Reader;
 use crate::slots::{add_last, push_item};
-use crate::value::read_value;
+use crate::value::read_item;
 use toml_edit_error::ParseFault;
 use toml_edit_key::Key;
 use toml_edit_slots::Slots;
@@ -119,8 +119,8 @@ fn read_pair<'a>(
     if MOST_PATH_EVENTS < frame.path.len() {
         return Err(refusal_of_all(reader));
     }
-    let (value, rest) = read_value(reader, rest)?;
-    let mut item = Item::Value(value);
+    let mut item = Item::None;
+    let rest = read_item(reader, rest, &mut item)?;
     let ended = end_pair(reader, frame, &mut item, rest, slots);
     drop(item);
     ended

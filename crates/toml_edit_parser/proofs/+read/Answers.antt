@@ -8,7 +8,7 @@ use Rattle.toml_edit_error.specs.Fault.{IfToml}
 use Rattle.toml_edit_syntax.specs.declared.event.EventKind.TheVariants.{After, ArrayClose, InlineTableClose}
 use Rattle.toml_edit_syntax.specs.ValueEvents.{event, elements_events, close_events, shortened, value_at_byte}
 use Rattle.toml_edit_parser.specs.ValueRead.{split_close, AddsElement, EndsArray, IsRead, NamesOne, ReadsValue}
-use Rattle.toml_edit_tree.specs.View.{items_view, value_view, slots_view}
+use Rattle.toml_edit_tree.specs.View.{item_view, items_view, value_view, slots_view}
 use Rattle.toml_edit_model.specs.Tree.{Node}
 use Rattle.toml_edit_parser.specs.PairRead.{FrameParts, parts_of}
 use Rattle.toml_edit_parser.proofs.ReadLaws.{head_of, no_event, too_deep, named}
@@ -90,6 +90,51 @@ value::read_value-returns-in_default-kind t c =
       fits = tt;
       rest = tt;
     }
+
+-- ---- a value in a place
+
+pub value::read_item-returns-in_default-clause-value : goal.value::read_item-returns-in_default-clause-value
+value::read_item-returns-in_default-clause-value t c =
+    λ v start level more is stands below e. no_event v start level more c.args.events.now _ below e c.in_default.ensures
+
+pub value::read_item-returns-in_err-put_scalar-in-Scalar-clause-value :
+    goal.value::read_item-returns-in_err-put_scalar-in-Scalar-clause-value
+value::read_item-returns-in_err-put_scalar-in-Scalar-clause-value t c =
+    λ v start level more is stands below e.
+    let first = c.in-Some.first in
+    let rest = c.in-Some.rest.now in
+    let failed = c.in_err-put_scalar-in-Scalar in
+    let head = head_of v start level more c.args.events.now first rest below e c.in-Some.ensures in
+    let p = err_from_is_err_and c.from_residual.result c.from_residual.ensures.1 in
+    rw (p.1, p.2)
+    (scalar_refused c.args.reader.now.source.now v start level more first rest failed.field-0.0 c.in-Scalar.is head is stands failed.ensures.value)
+
+pub value::read_item-returns-in_ok-put_scalar-in-Scalar-clause-value : goal.value::read_item-returns-in_ok-put_scalar-in-Scalar-clause-value
+value::read_item-returns-in_ok-put_scalar-in-Scalar-clause-value t c =
+    λ v start level more is stands below e.
+    let first = c.in-Some.first in
+    let rest = c.in-Some.rest.now in
+    let head = head_of v start level more c.args.events.now first rest below e c.in-Some.ensures in
+    scalar_read c.args.reader.now.source.now v start level more first rest (item_view c.put_scalar.new.item) c.in-Scalar.is head is stands
+    c.in_ok-put_scalar-in-Scalar.ensures.value
+
+pub value::read_list-returns-in_err-value-clause-value : goal.value::read_list-returns-in_err-value-clause-value
+value::read_list-returns-in_err-value-clause-value t c =
+    λ v start level more is stands below e.
+    let p = err_from_is_err_and c.from_residual.result c.from_residual.ensures.1 in
+    rw (p.1, p.2) (c.in_err-value.ensures.value v start level more is stands below e)
+
+pub value::read_list-returns-clause-value : goal.value::read_list-returns-clause-value
+value::read_list-returns-clause-value t c =
+    λ v start level more is stands below e.
+    let P : Node → Type 0 = λ n. IsRead v start level more n c.in_ok-value.rest.now in
+    subst P (sym (ap item_view c.put.ensures ∙ view-Value c.in_ok-value.value))
+    (c.in_ok-value.ensures.value v start level more is stands below e)
+
+pub value::read_list-returns-clause-fits : goal.value::read_list-returns-clause-fits
+value::read_list-returns-clause-fits t c =
+    subst (NodeFits c.args.reader.now.source.now) (sym (ap item_view c.put.ensures ∙ view-Value c.in_ok-value.value))
+    c.in_ok-value.ensures.fits
 
 -- ---- an array
 
@@ -316,14 +361,14 @@ inline_table::read_pair-returns-in_default-clause-pair t c =
     λ f v start level more is value stands below same e. no-frame start f v level _ c.args.leading c.args.events.now _ is.1 same e
     c.in_default.ensures
 
-pub inline_table::read_pair-returns-in_err-value-clause-pair : goal.inline_table::read_pair-returns-in_err-value-clause-pair
-inline_table::read_pair-returns-in_err-value-clause-pair t c =
+pub inline_table::read_pair-returns-in_err-rest-clause-pair : goal.inline_table::read_pair-returns-in_err-rest-clause-pair
+inline_table::read_pair-returns-in_err-rest-clause-pair t c =
     λ f v start level more is value stands below same e.
     let p = err_from_is_err_and c.from_residual.result c.from_residual.ensures.1 in
     let parts = the-frame start f v level _ c.args.leading c.args.events.now (parts_of c.in-Some.frame) c.in-Some.rest.now is.1 same e
     c.in-Some.ensures in
-    rw (p.1, p.2) (value-refused c.args.reader.now.source.now f v start level (slots_view c.args.slots.now) c.in_err-value.field-0.0
-    (c.in_err-value.ensures.value v (value_at_byte start f) level _ value (value-stands c.args.reader.now.source.now start f (value_text v) stands)
+    rw (p.1, p.2) (value-refused c.args.reader.now.source.now f v start level (slots_view c.args.slots.now) c.in_err-rest.field-0.0
+    (c.in_err-rest.ensures.value v (value_at_byte start f) level _ value (value-stands c.args.reader.now.source.now start f (value_text v) stands)
     below parts.1))
 
 pub inline_table::read_pair-returns-then-frame-gt-MOST_PATH_EVENTS-clause-pair :
@@ -344,20 +389,19 @@ inline_table::read_pair-returns-clause-pair t c =
     c.in-Some.ensures in
     let short = short-path f.path (start + length f.leading) (path-some f.path is.1)
     (subst (λ (q : FrameParts). length q.path ≤ 238) parts.0 c.if-frame-gt-MOST_PATH_EVENTS.false) in
-    let h = c.in_ok-value.ensures.value v (value_at_byte start f) level (event After end f.trailing
+    let h = c.in_ok-rest.ensures.value v (value_at_byte start f) level (event After end f.trailing
     ∷ more) value (value-stands s start f (value_text v) stands) below parts.1 in
-    let P : Node → Type 0 = λ n. IsRead v (value_at_byte start f) level (event After end f.trailing ∷ more) n c.in_ok-value.rest.now in
-    pair-read s f v start level more (slots_view c.args.slots.now) (slots_view c.end_pair-ended.new.slots) _ c.in_ok-value.rest.now
-    c.end_pair-ended.result short (subst P (sym (view-Value c.in_ok-value.value)) h)
+    pair-read s f v start level more (slots_view c.args.slots.now) (slots_view c.end_pair-ended.new.slots) _ c.in_ok-rest.rest.now
+    c.end_pair-ended.result short h
     (c.end_pair-ended.ensures.pair f v start end (shortened level more) is (path-stands s start f (value_text v) stands) parts.0 h.rest_is)
 
-pub inline_table::read_pair-read_value-requires : goal.inline_table::read_pair-read_value-requires
-inline_table::read_pair-read_value-requires t c =
+pub inline_table::read_pair-read_item-requires : goal.inline_table::read_pair-read_item-requires
+inline_table::read_pair-read_item-requires t c =
     let parts = frame-in c.args.reader.now.source.now c.args.leading c.args.events.now (parts_of c.in-Some.frame) c.in-Some.rest.now c.in-Some.ensures
     c.requires.spans in
     let at : 4 * length c.args.events.now + 1 ≡ t = c.decreases in
     let fewer = parts.fewer in
-    let less : 4 * length c.in-Some.rest.now < t = omega (arith, at, fewer) in
+    let less : 4 * length c.in-Some.rest.now + 2 < t = omega (arith, at, fewer) in
     (less, parts.others)
 
 pub inline_table::read_pair-end_pair-ended-requires-clause-before_equals : goal.inline_table::read_pair-end_pair-ended-requires-clause-before_equals
@@ -372,17 +416,15 @@ inline_table::read_pair-end_pair-ended-requires-clause-after_equals t c =
 
 pub inline_table::read_pair-returns-clause-fits : goal.inline_table::read_pair-returns-clause-fits
 inline_table::read_pair-returns-clause-fits t c =
-    λ slots.
-    let P : Node → Type 0 = λ n. NodeFits c.args.reader.now.source.now n in
-    c.end_pair-ended.ensures.fits (subst P (sym (view-Value c.in_ok-value.value)) c.in_ok-value.ensures.fits) slots
+    λ slots. c.end_pair-ended.ensures.fits c.in_ok-rest.ensures.fits slots
 
 pub inline_table::read_pair-returns-clause-rest : goal.inline_table::read_pair-returns-clause-rest
 inline_table::read_pair-returns-clause-rest t c =
     let s = c.args.reader.now.source.now in
     let parts = frame-in s c.args.leading c.args.events.now (parts_of c.in-Some.frame) c.in-Some.rest.now c.in-Some.ensures
     c.requires.spans in
-    fewer-still s c.in-Some.rest.now c.in_ok-value.rest.now c.args.events.now c.end_pair-ended.result parts.fewer
-    c.in_ok-value.ensures.rest.1 c.end_pair-ended.ensures.rest
+    fewer-still s c.in-Some.rest.now c.in_ok-rest.rest.now c.args.events.now c.end_pair-ended.result parts.fewer
+    c.in_ok-rest.ensures.rest.1 c.end_pair-ended.ensures.rest
 
 pub inline_table::read_pair-returns-then-frame-gt-MOST_PATH_EVENTS-clause-refused :
     goal.inline_table::read_pair-returns-then-frame-gt-MOST_PATH_EVENTS-clause-refused

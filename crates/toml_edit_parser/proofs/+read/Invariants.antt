@@ -25,6 +25,12 @@ decreases-array::read_elements-elements l = length l.rest
 abbrev pub decreases-value::read_value : goal.decreases-value::read_value
 decreases-value::read_value l = 4 * length l.events.now
 
+abbrev pub decreases-value::read_item : goal.decreases-value::read_item
+decreases-value::read_item l = 4 * length l.events.now + 2
+
+abbrev pub decreases-value::read_list : goal.decreases-value::read_list
+decreases-value::read_list l = 4 * length l.events.now + 1
+
 abbrev pub decreases-array::read_array : goal.decreases-array::read_array
 decreases-array::read_array l = 4 * length l.events.now + 3
 

@@ -1,14 +1,12 @@
 //! The parts of key lines and headers, from their events.
-ghost use Rattle.std.specs.Prelude.{◌≡◌, List, ℕ, IfOk, IfSome};
+ghost use Rattle.std.specs.Prelude.{◌≡◌, List, ℕ, IfOk};
 ghost use Rattle.toml_edit_model.specs.Mode.{exact};
-ghost use Rattle.toml_edit_model.specs.Scalars as scalars;
 ghost use Rattle.toml_edit_model.specs.Scalars.{Scalar};
 ghost use Rattle.toml_edit_model.specs.Spelling.{Spells};
 ghost use Rattle.toml_edit_model.specs.Syntax as syntax;
 ghost use Rattle.toml_edit_model.specs.Syntax.{Frame, Header};
 ghost use Rattle.toml_edit_model.specs.Text.{Text};
 ghost use Rattle.toml_edit_syntax.specs.Events.{IsSpanOf};
-ghost use Rattle.toml_edit_token.specs.Decoded.{IsSpelling};
 ghost use Rattle.toml_edit_repr.specs.Modes.{mode_of};
 ghost use Rattle.toml_edit_parser.specs.StatementParts.{ReadsHeader, ReadsLineParts, ReadsLineValue, suffix_span, IfKeyLineNext, ReadsAnyLineValue, IfLineScalarNext, IfHeaderNext};
 ghost use Rattle.toml_edit_parser.specs.ValueRead.{AreIn, Leaves, LeavesBeside};
@@ -19,12 +17,12 @@ use crate::events::{raw, split_first, split_scalar};
 use crate::fault::{malformed, refusal_of_all, refusal_with};
 use crate::key::{KeyPath, MOST_PATH_EVENTS, path_behind, path_end, split_frame};
 use crate::reader::Reader;
-use crate::value::read_value;
+use crate::value::{integer_of, put, read_value};
 use toml_edit_error::ParseFault;
 use toml_edit_repr::{Decor, Formatted, Mode};
 use toml_edit_syntax::{Event, Span, text_at};
-use toml_edit_token::run::{byte_at, first_byte, is_word};
-use toml_edit_token::{decode_integer, decode_scalar, range_message};
+use toml_edit_token::run::byte_at;
+use toml_edit_token::{decode_scalar, range_message};
 use toml_edit_tree::{Item, Value};
 
 /// The path of a header, where its closing brackets end, and where the text after them is.
@@ -152,19 +150,6 @@ fn read_line_scalar<'a>(
     }
 }
 
-/// Returns the integer that the text spells, if it is one. Looks no further where a quote is first.
-#[inline(always)]
-fn integer_of(text: &str) -> Option<i64>
-    ensures found { IfSome result (λ z. IsSpelling text.now (scalars.integer z)) }
-    ensures only { IfSome result (λ z. (s : Scalar) → Spells s text.now → s ≡ scalars.integer z) }
-{
-    if is_word(first_byte(text)) {
-        decode_integer(text)
-    } else {
-        None
-    }
-}
-
 /// Reads an array or an inline table into the item's place. Returns the rest of the events.
 // Not inlined, so that its locals stay out of the caller's frame.
 #[inline(never)]
@@ -189,14 +174,6 @@ fn read_line_list<'a>(
         raw(suffix(reader.source, reader.mode, end.span)),
     );
     Ok(rest)
-}
-
-/// Puts a value in the place of another, which is dropped. A call, since an assignment in the
-/// caller would be taken apart there for each variant.
-pub(crate) fn put<T: Drop>(place: &mut T, value: T)
-    ensures { place.new ≡ value }
-{
-    *place = value;
 }
 
 /// Reads the header after its opening brackets. Returns its parts and the rest of the events.

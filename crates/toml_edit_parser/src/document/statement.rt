@@ -22,13 +22,14 @@ ghost use Rattle.toml_edit_parser.specs.TableRead.{IsHeaded};
 
 use crate::document::block::swap_block;
 use crate::document::building::Building;
-use crate::document::parts::{put, read_header, read_key_line};
+use crate::document::parts::{read_header, read_key_line};
 use crate::document::path::{Adding, Kind, add_path, add_value};
 use crate::document::room::{Behind, room_for};
 use crate::events::{raw, split_first};
 use crate::fault::{Fault, malformed, refusal};
 use crate::key::{KeyPath, PathName, next_name};
 use crate::reader::Reader;
+use crate::value::put;
 use std::alloc::Global;
 use std::borrow::CowStr;
 use toml_edit_error::ParseFault;
