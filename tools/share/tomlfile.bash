@@ -3,13 +3,14 @@ _tomlfile() {
     local word=${COMP_WORDS[COMP_CWORD]} name= at
     for ((at = 1; at < COMP_CWORD; at++)); do
         case ${COMP_WORDS[at]} in
-            get | has | edit | keys | json | check) name=${COMP_WORDS[at]}; break ;;
+            get | has | edit | keys | json | check | fmt) name=${COMP_WORDS[at]}; break ;;
         esac
     done
     case $name in
-        '') COMPREPLY=($(compgen -W 'strict normal get has edit keys json check --help --version' -- "$word")); return ;;
+        '') COMPREPLY=($(compgen -W 'strict normal get has edit keys json check fmt --help --version' -- "$word")); return ;;
         get) [[ $word == -* ]] && COMPREPLY=($(compgen -W '--raw --lines --default --help' -- "$word")) ;;
         keys) [[ $word == -* ]] && COMPREPLY=($(compgen -W '--all --help' -- "$word")) ;;
+        fmt) [[ $word == -* ]] && COMPREPLY=($(compgen -W '--check --sort --help' -- "$word")) ;;
         edit)
             [[ $word == -* ]] && COMPREPLY=($(compgen -W '--script --dry-run --output --locked --help' -- "$word"))
             if ((COMP_CWORD == at + 2)) || [[ ${COMP_WORDS[COMP_CWORD - 1]} == , ]]; then
@@ -19,7 +20,7 @@ _tomlfile() {
     esac
     case ${COMP_WORDS[COMP_CWORD - 1]} in
         get | has | edit | keys | json | --script | --output) COMPREPLY+=($(compgen -f -- "$word")) ;;
-        *) if [[ $name == check ]]; then COMPREPLY+=($(compgen -f -- "$word"))
+        *) if [[ $name == check || $name == fmt && $word != -* ]]; then COMPREPLY+=($(compgen -f -- "$word"))
            elif [[ $name != has && $name != json && -n $name && $word != -* ]]; then
                COMPREPLY+=($(compgen -W "$(tomlfile keys "${COMP_WORDS[at + 1]}" --all 2> /dev/null)" -- "$word"))
            fi ;;

@@ -78,8 +78,8 @@ leaves_looking old new (Some Mistaken) h = h
 leaves_looking old new (Some Refused) h = h
 
 pub leaves_editing : (c : EditCommand) (old new : Option (List Event)) (why : Option Reason) → StopsEditing c old new why → Leaves old new why
-leaves_editing c old new None h = inr (c, h)
-leaves_editing c old new (Some Failed) h = inr (c, h)
+leaves_editing c old new None h = inr (inl (c, h))
+leaves_editing c old new (Some Failed) h = inr (inl (c, h))
 leaves_editing c old new (Some No) h = h
 leaves_editing c old new (Some Mistaken) h = h
 leaves_editing c old new (Some Refused) h = h

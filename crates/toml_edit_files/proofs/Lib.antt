@@ -3,3 +3,4 @@ pub mod GetLaws
 pub mod EditLaws
 pub mod FolderLaws
 pub mod StopLaws
+pub mod FormatLaws

@@ -6,6 +6,7 @@ pub mod Folders
 pub mod Edited
 pub mod EditFiles
 pub mod Checks
+pub mod FormatFiles
 pub mod Answers
 pub mod Runs
 -- Worked examples: nothing cites them.

@@ -9,9 +9,11 @@ use Rattle.toml_edit_files.specs.Checks.{AreAccepted}
 use Rattle.toml_edit_files.specs.EditFiles.{EditsFile, MayBegin}
 use Rattle.toml_edit_files.specs.Edited.{IsReadFrom}
 use Rattle.toml_edit_files.specs.Folders.{OnlyLooks}
+use Rattle.toml_edit_files.specs.FormatFiles.{FormatsFiles, FormatsSome}
 use Rattle.toml_edit_files.specs.declared.stop.Reason.{Reason}
 use Rattle.toml_edit_files.specs.declared.stop.Reason.TheVariants.{Failed}
 use Rattle.toml_edit_files.specs.declared.words.EditCommand.{EditCommand}
+use Rattle.toml_edit_files.specs.declared.words.Fmt.{Fmt}
 use Rattle.toml_edit_files.specs.declared.words.Question.{Question}
 use Rattle.toml_edit_files.specs.declared.words.Reading.{Reading}
 
@@ -35,13 +37,19 @@ module _ (old new : Option (List Event)) (left : Option Text) (is_yes : Bool) (o
       × (is_yes ≡ true
       → (version : Version) × (names : List Text) × AreAccepted version names old new × (output ≡ []))
 
+  -- files are formatted
+  abbrev pub Formats : Type 0
+  Formats = (reading : Reading) × (c : Fmt) × FormatsFiles reading c old new is_yes output
+
   -- what a command does that is done; a text of help is written without a file
   abbrev pub IsDone : Type 0
-  IsDone = AnswersQuestion ⊎ MakesEdits ⊎ ChecksFiles ⊎ (new ≡ old)
+  IsDone = AnswersQuestion ⊎ MakesEdits ⊎ ChecksFiles ⊎ Formats ⊎ (new ≡ old)
 
 -- what one leaves that is not: nothing is asked of the folder but what its files hold, unless a call
--- fails or memory runs out while an edited text replaces one
+-- fails or memory runs out while an edited or a formatted text replaces one
 abbrev pub Leaves : Option (List Event) → Option (List Event) → Option Reason → Type 0
-Leaves old new None = OnlyLooks old new ⊎ ((c : EditCommand) × MayBegin c old new)
-Leaves old new (Some Failed) = OnlyLooks old new ⊎ ((c : EditCommand) × MayBegin c old new)
+Leaves old new None =
+    OnlyLooks old new ⊎ ((c : EditCommand) × MayBegin c old new) ⊎ FormatsSome old new
+Leaves old new (Some Failed) =
+    OnlyLooks old new ⊎ ((c : EditCommand) × MayBegin c old new) ⊎ FormatsSome old new
 Leaves old new (Some _) = OnlyLooks old new

@@ -120,7 +120,7 @@ fn make(alloc: Global, file: &str, document: &mut DocumentMut, edits: &[Edit]) -
 
 /// Returns the text of a file after its edits, if that is TOML of the version that is asked for and
 /// means what the document shows.
-fn text_after(
+pub fn text_after(
     alloc: Global,
     file: &str,
     before: &str,
@@ -249,7 +249,7 @@ fn is_there(command: &EditCommand<'_>, before: &str, text: &str) -> bool
 }
 
 /// Replaces the text of the file that a name leads to.
-fn put_file<F: Folder>(alloc: Global, folder: &mut F, file: &str, text: &str) -> std::io::Result<()>
+pub fn put_file<F: Folder>(alloc: Global, folder: &mut F, file: &str, text: &str) -> std::io::Result<()>
     ensures ok { OnOk result
         (Replaced file.now text.now (F.history folder.old) (F.history folder.new)) }
     ensures err { OnErr result

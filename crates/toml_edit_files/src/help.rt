@@ -15,6 +15,7 @@ pub enum Topic {
     Keys,
     Json,
     Check,
+    Fmt,
 }
 
 /// Returns the command of this name.
@@ -26,6 +27,7 @@ pub fn topic_of(name: &str) -> Option<Topic> {
         "keys" => Some(Topic::Keys),
         "json" => Some(Topic::Json),
         "check" => Some(Topic::Check),
+        "fmt" => Some(Topic::Fmt),
         _ => None,
     }
 }
@@ -33,7 +35,7 @@ pub fn topic_of(name: &str) -> Option<Topic> {
 /// Returns the usage of a command, as one line.
 pub fn usage(topic: Topic) -> &'static str {
     match topic {
-        Topic::Program => "tomlfile [strict] [normal] get | has | edit | keys | json | check ..",
+        Topic::Program => "tomlfile [strict] [normal] get | has | edit | keys | json | check | fmt ..",
         Topic::Get => "tomlfile get FILE PATH.. [--raw | --lines] [--default TEXT]",
         Topic::Has => "tomlfile has FILE PATH [KIND]",
         Topic::Edit => {
@@ -42,6 +44,7 @@ pub fn usage(topic: Topic) -> &'static str {
         Topic::Keys => "tomlfile keys FILE [PATH] [--all]",
         Topic::Json => "tomlfile json FILE [PATH]",
         Topic::Check => "tomlfile check FILE..",
+        Topic::Fmt => "tomlfile fmt FILE.. [--check] [--sort PATH]..",
     }
 }
 
@@ -60,6 +63,7 @@ fn about(topic: Topic) -> &'static str {
         Topic::Keys => KEYS,
         Topic::Json => JSON,
         Topic::Check => CHECK,
+        Topic::Fmt => FMT,
     }
 }
 
@@ -72,6 +76,7 @@ Reads and edits TOML files, and keeps comments, spacing and spelling.
   keys   lists keys
   json   writes a file as JSON
   check  reports the errors of files
+  fmt    formats files in place
 
 FILE may be -, for standard input and output. A PATH is keys with dots between
 them, as in TOML; in an array the number of an element is a key. With strict,
@@ -149,4 +154,17 @@ Writes FILE:LINE:COLUMN: MESSAGE for each file that is no TOML. The status is 1
 if there is one.
 
   tomlfile check *.toml
+";
+
+const FMT: &str = "\
+Formats each file in place: spaces, empty lines, indentation, and arrays with a
+line for each value where they have a newline or a comment, or are wide. Keys,
+values and comments stay as they are. A file that is no TOML is reported as by
+check, and the status is 1.
+
+  --check      change nothing, and name the files that are not formatted
+  --sort PATH  sort the keys of the table at PATH, if it is there
+
+  tomlfile fmt Cargo.toml --sort dependencies
+  tomlfile fmt --check *.toml
 ";

@@ -5,6 +5,7 @@
 mod check;
 mod edit;
 mod edits;
+mod fmt;
 mod form;
 mod get;
 mod help;

@@ -10,6 +10,7 @@ ghost use Rattle.toml_edit_model.specs.Text.{Text};
 
 use crate::check::check;
 use crate::edit::edit;
+use crate::fmt::fmt;
 use crate::get::{get, has};
 use crate::help::{VERSION, help};
 use crate::json::json;
@@ -42,15 +43,16 @@ struct Done {
 /// # Exit status
 ///
 /// - 0: done, or the answer is yes.
-/// - 1: the answer is no: nothing is at the path, a file is refused by `check`, or no element is
-///   equal.
+/// - 1: the answer is no: nothing is at the path, a file is refused by `check` or `fmt` or is not
+///   formatted, or no element is equal.
 /// - 2: the words are no command, or what they say of the document cannot be done.
 /// - 3: out of memory.
 /// - 4: a file or a stream has failed.
 /// - 5: a file is no UTF-8 or no TOML.
 ///
-/// From 2 on nothing is written but the message to `errors`, and no file has changed; but at 4 a
-/// beginning may be written if the output fails.
+/// From 2 on nothing is written but the message to `errors`, and no file has changed. But at 3 and 4
+/// the files before the one at which `fmt` fails have their new texts, and at 4 a beginning may be
+/// written if the output fails.
 pub fn run<F: Folder, I: Input, O: Output, E: Output>(
     alloc: Global,
     words: &[String],
@@ -142,6 +144,14 @@ fn answer<F: Folder, I: Input>(
                 yes: true,
                 output: edited.output,
                 notes: edited.notes,
+            })
+        }
+        Command::Fmt(command) => {
+            let report = fmt(alloc, folder, input, &command, reading)?;
+            Ok(Done {
+                yes: report.yes,
+                output: report.output,
+                notes: String::new(alloc),
             })
         }
         Command::Ask(question) => ask(alloc, &question, folder, input, reading),

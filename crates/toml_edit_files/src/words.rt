@@ -52,6 +52,7 @@ pub enum Command<'w> {
     Ask(Question<'w>),
     Edit(EditCommand<'w>, Vec<Edit>),
     Check(&'w [String]),
+    Fmt(Fmt<'w>),
 }
 
 /// A command that asks about one file.
@@ -143,6 +144,14 @@ pub struct Json<'w> {
     pub path: Vec<Key>,
 }
 
+/// The operands of `fmt`.
+#[derive(Drop)]
+pub struct Fmt<'w> {
+    pub files: Vec<&'w str>,
+    pub sorts: Vec<Edit>,
+    pub check: bool,
+}
+
 /// Reads the words of a call.
 pub fn request_of<'w>(alloc: Global, words: &'w [String]) -> Result<Request<'w>, Stop> {
     let mut reading = Reading {
@@ -196,6 +205,7 @@ fn command_of<'w>(
             [] => Err(wrong_words(alloc, Topic::Check)),
             _ => Ok(Command::Check(operands)),
         },
+        Topic::Fmt => Ok(Command::Fmt(fmt_of(alloc, operands)?)),
     }
 }
 
@@ -421,6 +431,39 @@ fn json_of<'w>(alloc: Global, words: &'w [String]) -> Result<Json<'w>, Stop> {
     };
     let path = some_path_of(alloc, file, path)?;
     Ok(Json { file, path })
+}
+
+/// Reads the operands of `fmt`.
+fn fmt_of<'w>(alloc: Global, words: &'w [String]) -> Result<Fmt<'w>, Stop> {
+    let mut files = Vec::new(alloc);
+    let mut sorts = Vec::new(alloc);
+    let mut check = false;
+    let mut rest = words;
+    'words: for _ in 0..words.len() {
+        let [word, more @ ..] = rest else {
+            break 'words;
+        };
+        rest = more;
+        match word.as_str() {
+            "--check" => check = true,
+            "--sort" => {
+                let [path, more @ ..] = rest else {
+                    return Err(wrong_words(alloc, Topic::Fmt));
+                };
+                sorts.push(Edit::Sort(path_of(alloc, "--sort", path.as_str())?))?;
+                rest = more;
+            }
+            _ => files.push(word.as_str())?,
+        }
+    }
+    if files.is_empty() {
+        return Err(wrong_words(alloc, Topic::Fmt));
+    }
+    Ok(Fmt {
+        files,
+        sorts,
+        check,
+    })
 }
 
 /// Parses PATH, or returns the empty path, which is that of the root, if there is none.

@@ -1,4 +1,4 @@
-//! `tomlfile [strict] [normal] get | has | edit | keys | json | check ..`
+//! `tomlfile [strict] [normal] get | has | edit | keys | json | check | fmt ..`
 //!
 //! Reads and edits TOML files. `tomlfile --help` has the commands, and the crate `toml_edit_files`
 //! the exit statuses.
