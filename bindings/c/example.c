@@ -1,6 +1,7 @@
-/* Sets the version of a manifest: reads the standard input, and writes the standard output.
+/* Sets the version of a manifest, or formats it: reads the standard input, and writes the standard output.
  *
  *     example VALUE < Cargo.toml > Cargo.toml.new
+ *     example < Cargo.toml > Cargo.toml.new
  */
 #include <stdio.h>
 #include <stdlib.h>
@@ -40,20 +41,29 @@ static void complain(const uint8_t *text, size_t size)
         fprintf(stderr, "%zu:%zu: %.*s\n", place.line, place.column, (int)answer.needed, message);
 }
 
-int main(int count, char **words)
+/* Gives the text with this version, or formatted if there is none. */
+static struct toml_edit_answer change(
+    const uint8_t *text, size_t size, const char *value, uint8_t *room, size_t room_size)
 {
     static const char path[] = "package.version";
+    if (!value)
+        return toml_edit_format(TOML_EDIT_EXACT, text, size, room, room_size);
+    return toml_edit_set(
+        TOML_EDIT_EXACT, text, size, (const uint8_t *)path, strlen(path), (const uint8_t *)value, strlen(value), room,
+        room_size);
+}
+
+int main(int count, char **words)
+{
     size_t size;
-    uint8_t *text = count == 2 ? read_all(stdin, &size) : NULL;
+    uint8_t *text = count <= 2 ? read_all(stdin, &size) : NULL;
     if (!text)
         return 1;
     size_t room_size = size + 16;
     uint8_t *room = malloc(room_size);
     struct toml_edit_answer answer = {.status = TOML_EDIT_OUT_OF_MEMORY};
     while (room) {
-        answer = toml_edit_set(
-            TOML_EDIT_EXACT, text, size, (const uint8_t *)path, strlen(path), (const uint8_t *)words[1],
-            strlen(words[1]), room, room_size);
+        answer = change(text, size, words[1], room, room_size);
         if (answer.status != TOML_EDIT_SHORT)
             break;
         free(room);
@@ -64,7 +74,7 @@ int main(int count, char **words)
     else if (answer.status == TOML_EDIT_REFUSED)
         complain(text, size);
     else
-        fprintf(stderr, "no version was set: status %u\n", (unsigned)answer.status);
+        fprintf(stderr, "nothing was changed: status %u\n", (unsigned)answer.status);
     free(room);
     free(text);
     return answer.status != TOML_EDIT_DONE;

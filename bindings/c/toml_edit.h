@@ -136,6 +136,14 @@ struct toml_edit_answer toml_edit_json(
     uint32_t flags, const uint8_t *text, size_t text_size, const uint8_t *path, size_t path_size,
     uint8_t *room, size_t room_size);
 
+/* Gives the text formatted by the usual rules: spaces, empty lines, indentation, and the lines of
+ * arrays and inline tables. Keys and values keep their spelling and their order, and each comment
+ * stays with what it belongs to. Formatted again, the text stays as it is.
+ *
+ * By TOML_EDIT_EXACT, lines that are made end in CR LF if the first line of the text does. */
+struct toml_edit_answer toml_edit_format(
+    uint32_t flags, const uint8_t *text, size_t text_size, uint8_t *room, size_t room_size);
+
 /* Gives the text with the edits of a script, which are made one after another or not at all.
  *
  * A script has for each edit its word and its operands, each with a zero byte after it, which the

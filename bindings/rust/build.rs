@@ -8,11 +8,7 @@ fn main() {
         None => PathBuf::from(env!("CARGO_MANIFEST_DIR")).join("../out"),
     };
     let archive = folder.join("libtoml_edit.a");
-    assert!(
-        archive.exists(),
-        "no {}: build it by bindings/build",
-        archive.display()
-    );
+    assert!(archive.exists(), "no {}: build it by bindings/build", archive.display());
     println!("cargo:rerun-if-changed={}", archive.display());
     println!("cargo:rustc-link-search=native={}", folder.display());
     println!("cargo:rustc-link-lib=static=toml_edit");

@@ -3,13 +3,15 @@
     LD_PRELOAD=ASAN ASAN_OPTIONS=detect_leaks=0 python3 -m tests.random_calls [COUNT [SEED]]
 
 COUNT is 1,000,000 if it is not named. Texts are parts of documents that were put together, bytes of which some were changed, and bytes that
-are no UTF-8. The room has each size up to what is needed and some bytes more. Two threads make the calls side by side. Behind the room and
-before it are bytes that have to stay, and with the address sanitizer each text is a block of its own.
+are no UTF-8; some have a megabyte, and some 1 TB, as some rooms do. Rooms have each size up to what is needed and some bytes more. Two
+threads make the calls side by side. Behind the room and before it are bytes that have to stay, and with the address sanitizer each text is a
+block of its own.
 """
 
 from __future__ import annotations
 
 import ctypes
+import mmap
 import random
 import sys
 import threading
@@ -22,6 +24,9 @@ PATHS = [b"a", b"a.b", b"t.0", b"x.y", b"l.1.0", b"i.j", b"", b"\xff", b"a..b", 
 VALUES = [b"1", b"'s'", b"[1, 2]", b"{ a = 1 }", b"1979-05-27", b"", b"\xff", b"{ a = 1, }", b"[", b"+inf", b'"""\n"""']
 WORDS = [b"set", b"header", b"remove", b"append", b"insert", b"take", b"rename", b"move", b"sort", b"comment", b"other", b"\xff"]
 GUARD = 16
+# Memory that is there once it is written to.
+HUGE = 1 << 40
+NO_RESERVE = 0x4000
 
 
 def text(random_: random.Random) -> bytes:
@@ -55,12 +60,16 @@ def guarded(size: int, random_: random.Random) -> tuple[ctypes.Array, bytes]:
     return ctypes.create_string_buffer(filling, len(filling)), filling
 
 
-def one(name: str, random_: random.Random) -> None:
-    """Makes a call with three rooms, and looks at what each says."""
+def one(name: str, random_: random.Random) -> int:
+    """Makes a call with three rooms or with each size of a room, and looks at what each says. Returns how many calls were made."""
     flags = random_.choice([0, 0, 1, 2, 3, 4, 2**32 - 1])
     texts = texts_of(name, random_)
     needed, status, whole = 0, 0, b""
-    for size in (1 << 12, None, random_.randrange(64)):
+    sizes = [1 << 12, None, random_.randrange(64)]
+    if random_.randrange(256) == 0:
+        status, needed = _core.raw(name, flags, texts, ctypes.create_string_buffer(0))
+        sizes = [1 << 12, *range(needed + 2)]
+    for size in sizes:
         size = random_.choice([needed, max(needed - 1, 0), random_.randrange(needed + 1)]) if size is None else size
         block, filling = guarded(size, random_)
         room = (ctypes.c_char * size).from_buffer(block, GUARD)
@@ -80,17 +89,50 @@ def one(name: str, random_: random.Random) -> None:
             needed, status = wanted, found
         else:
             assert wanted == needed and (found == status or {found, status} == {0, 1}), (name, flags, texts)
+    return len(sizes)
 
 
-def checked(random_: random.Random) -> None:
+def formatted(random_: random.Random) -> int:
+    """Formats a text twice, and looks whether it means the same and stays."""
+    flags = random_.randrange(4)
+    given = text(random_) if random_.randrange(2000) else text(random_) + b"".join(b"k%d  =  [ %d,2 ] # c\n" % (at, at) for at in range(40000))
+    try:
+        once = _core.call("format", flags, given)
+    except ValueError:
+        return 2
+    assert _core.call("format", flags, once) == once, given
+    assert _core.call("json", flags, once, b"") == _core.call("json", flags, given, b""), given
+    return 4
+
+
+def huge(name: str, space: ctypes.Array, random_: random.Random) -> int:
+    """Makes a call with a text of 1 TB that is no UTF-8, and one with a room of that size."""
+    texts = texts_of(name, random_)
+    largest = random_.randrange(len(texts))
+    space[0] = b"\xff"
+    words = [word for at, it in enumerate(texts) for word in ((space, HUGE) if at == largest else (it, len(it)))]
+    room, filling = guarded(64, random_)
+    answer = _core._FUNCTIONS[name](0, *words, room, 64)
+    assert answer.status > 1 and answer.needed == 0 and room.raw == filling
+    texts = texts_of(name, random_)
+    words = [word for it in texts for word in (it, len(it))]
+    answer = _core._FUNCTIONS[name](0, *words, space, HUGE)
+    small = ctypes.create_string_buffer(answer.needed)
+    assert _core.raw(name, 0, texts, small) == (answer.status, answer.needed)
+    assert answer.status == 0 and space[: answer.needed] == small.raw or answer.status > 1 and space[0] == b"\xff"
+    return 3
+
+
+def checked(random_: random.Random) -> int:
     given = text(random_)
     error = _core.check(random_.choice([0, 1, 2, 3]), given)
     status, _needed = _core.raw("print", 0, [given], ctypes.create_string_buffer(0))
     assert error is None or error.line is None or error.span[0] <= error.span[1] <= len(given)
     assert status != 2 or error is not None
+    return 2
 
 
-def ran(random_: random.Random) -> None:
+def ran(random_: random.Random) -> int:
     """Runs a command with large rooms and with others, and looks at what each says."""
     words = random_.choice([[], [b"exact"], [b"strict"], [b"exact", b"strict"]])
     words = [*words, random_.choice([b"print", b"get", b"set", b"remove", b"\xff", b""]), random_.choice(PATHS), random_.choice(VALUES)]
@@ -113,18 +155,25 @@ def ran(random_: random.Random) -> None:
             assert left[:GUARD] == filling[:GUARD] and left[GUARD + written :] == filling[GUARD + written :], "a write past the text"
         assert not wanted or needs == wanted[1:]
         wanted = wanted or (status, *needs)
+    return 3
 
 
-def work(count: int, seed: int, faults: list) -> None:
+def work(count: int, seed: int, made: list[int], faults: list) -> None:
     random_ = random.Random(seed)
     names = list(_core._FUNCTIONS)
+    space = (ctypes.c_char * HUGE).from_buffer(mmap.mmap(-1, HUGE, flags=mmap.MAP_PRIVATE | mmap.MAP_ANONYMOUS | NO_RESERVE))
     try:
-        for _ in range(count):
-            one(random_.choice(names), random_)
-            if random_.randrange(8) == 0:
-                checked(random_)
-            if random_.randrange(8) == 0:
-                ran(random_)
+        while made[0] < count:
+            made[0] += one(random_.choice(names), random_)
+            other = random_.randrange(32)
+            if other < 4:
+                made[0] += checked(random_)
+            elif other < 8:
+                made[0] += ran(random_)
+            elif other < 10:
+                made[0] += formatted(random_)
+            elif other == 10:
+                made[0] += huge(random_.choice(names), space, random_)
     except BaseException as fault:  # noqa: BLE001
         faults.append((seed, fault))
         raise
@@ -134,13 +183,13 @@ def main() -> int:
     count = int(sys.argv[1]) if sys.argv[1:] else 1_000_000
     seed = int(sys.argv[2]) if sys.argv[2:] else 1
     faults: list = []
-    # Each turn makes three calls.
-    threads = [threading.Thread(target=work, args=(count // 6 + 1, seed + it, faults)) for it in range(2)]
+    made = [[0], [0]]
+    threads = [threading.Thread(target=work, args=(count // 2, seed + it, made[it], faults)) for it in range(2)]
     for thread in threads:
         thread.start()
     for thread in threads:
         thread.join()
-    print("%d calls in two threads, %d faults: %s" % ((count // 6 + 1) * 6, len(faults), _core.built()))
+    print("%d calls in two threads, %d faults: %s" % (made[0][0] + made[1][0], len(faults), _core.built()))
     return 1 if faults else 0
 
 

@@ -169,6 +169,17 @@ class Editing(unittest.TestCase):
         document["b"].sort()
         self.assertEqual(str(document), "[b]\nx = 2 # two\nz = 1 # one\n")
 
+    def test_format(self) -> None:
+        document = toml_edit.loads("b  =  [ 1,2 ]   # two\n\n\n[ t ]\nc=1\n")
+        document.format()
+        self.assertEqual(str(document), "b = [1, 2] # two\n\n[t]\nc = 1\n")
+        document = toml_edit.loads("[a]\r\nb=1\r\n[c]\r\nd=[1,\r\n2]")
+        document.format()
+        self.assertEqual(str(document), "[a]\r\nb = 1\r\n\r\n[c]\r\nd = [\r\n  1,\r\n  2,\r\n]")
+        document = toml_edit.loads("a=[1,\r\n2]\r\n", keep_line_endings=False)
+        document.format()
+        self.assertEqual(str(document), "a = [\n  1,\n  2,\n]\n")
+
     def test_refused_changes_leave_the_text(self) -> None:
         document = toml_edit.loads(MANIFEST)
         with self.assertRaises(ValueError):

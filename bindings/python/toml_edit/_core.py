@@ -55,7 +55,7 @@ class _Place(ctypes.Structure):
 
 _TEXT = (ctypes.c_char_p, ctypes.c_size_t)
 # How many texts each call takes before the room.
-_CALLS = {"print": 1, "get": 2, "set": 3, "remove": 2, "json": 2, "edit": 2}
+_CALLS = {"print": 1, "get": 2, "set": 3, "remove": 2, "json": 2, "edit": 2, "format": 1}
 
 
 def _folder() -> str:

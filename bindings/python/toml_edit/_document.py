@@ -271,6 +271,13 @@ class Document(Table):
         """The text of the document."""
         return self._text.text.decode()
 
+    def format(self) -> None:
+        """Formats the document by the usual rules: spaces, empty lines, indentation, and the lines of arrays.
+
+        Keys, values and comments stay as they are, and in their order.
+        """
+        self._text.change("format")
+
     def __str__(self) -> str:
         return self.as_string()
 

@@ -15,8 +15,5 @@ fn main() {
         let made = set(&text, &words[1], &words[2], Options::default()).expect("a text");
         assert_ne!(made, text);
     }
-    println!(
-        "{}",
-        (unsafe { clock() } - start) as i128 * 1000 / i128::from(count)
-    );
+    println!("{}", (unsafe { clock() } - start) as i128 * 1000 / i128::from(count));
 }

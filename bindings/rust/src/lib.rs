@@ -14,7 +14,7 @@
 //! A path has keys with dots between them, as TOML spells them. In an array, or in an array of tables, a key is the decimal number of an
 //! element, from 0. A value is spelled as TOML spells it.
 //!
-//! A call takes some 20 KB of stack for most documents, and up to 22 MB for 80 inline tables in one another that each have a path of 80 keys:
+//! A call takes some 20 KB of stack for most documents, and up to 31 MB for 80 inline tables in one another that each have a path of 80 keys:
 //! a thread that reads texts of others needs a stack of 32 MB.
 use std::fmt;
 
@@ -34,69 +34,28 @@ mod sys {
         pub column: usize,
     }
 
+    type Text = *const u8;
+    type Room = *mut u8;
+
     unsafe extern "C" {
-        pub fn toml_edit_print(
-            flags: u32,
-            text: *const u8,
-            text_size: usize,
-            room: *mut u8,
-            room_size: usize,
-        ) -> Answer;
-        pub fn toml_edit_get(
-            flags: u32,
-            text: *const u8,
-            text_size: usize,
-            path: *const u8,
-            path_size: usize,
-            room: *mut u8,
-            room_size: usize,
-        ) -> Answer;
+        pub fn toml_edit_print(_: u32, _: Text, _: usize, _: Room, _: usize) -> Answer;
+        pub fn toml_edit_format(_: u32, _: Text, _: usize, _: Room, _: usize) -> Answer;
+        pub fn toml_edit_get(_: u32, _: Text, _: usize, _: Text, _: usize, _: Room, _: usize) -> Answer;
         pub fn toml_edit_set(
-            flags: u32,
-            text: *const u8,
-            text_size: usize,
-            path: *const u8,
-            path_size: usize,
-            value: *const u8,
-            value_size: usize,
-            room: *mut u8,
-            room_size: usize,
+            _: u32,
+            _: Text,
+            _: usize,
+            _: Text,
+            _: usize,
+            _: Text,
+            _: usize,
+            _: Room,
+            _: usize,
         ) -> Answer;
-        pub fn toml_edit_remove(
-            flags: u32,
-            text: *const u8,
-            text_size: usize,
-            path: *const u8,
-            path_size: usize,
-            room: *mut u8,
-            room_size: usize,
-        ) -> Answer;
-        pub fn toml_edit_check(
-            flags: u32,
-            text: *const u8,
-            text_size: usize,
-            place: *mut Place,
-            room: *mut u8,
-            room_size: usize,
-        ) -> Answer;
-        pub fn toml_edit_json(
-            flags: u32,
-            text: *const u8,
-            text_size: usize,
-            path: *const u8,
-            path_size: usize,
-            room: *mut u8,
-            room_size: usize,
-        ) -> Answer;
-        pub fn toml_edit_edit(
-            flags: u32,
-            text: *const u8,
-            text_size: usize,
-            script: *const u8,
-            script_size: usize,
-            room: *mut u8,
-            room_size: usize,
-        ) -> Answer;
+        pub fn toml_edit_remove(_: u32, _: Text, _: usize, _: Text, _: usize, _: Room, _: usize) -> Answer;
+        pub fn toml_edit_json(_: u32, _: Text, _: usize, _: Text, _: usize, _: Room, _: usize) -> Answer;
+        pub fn toml_edit_edit(_: u32, _: Text, _: usize, _: Text, _: usize, _: Room, _: usize) -> Answer;
+        pub fn toml_edit_check(_: u32, _: Text, _: usize, _: &mut Place, _: Room, _: usize) -> Answer;
     }
 }
 
@@ -182,158 +141,127 @@ impl std::error::Error for Error {}
 
 /// Returns the print of a text.
 pub fn print(text: &str, options: Options) -> Result<String, Error> {
-    // SAFETY: each slice is valid for the call, and the room overlaps none.
-    given(text, options, text.len(), |room, size| unsafe {
-        sys::toml_edit_print(options.flags(), text.as_ptr(), text.len(), room, size)
-    })
+    given(Call::Print, text, options)
+}
+
+/// Returns the text formatted by the usual rules: spaces, empty lines, indentation, and the lines of arrays and inline tables. Keys, values
+/// and comments stay as they are, and in their order.
+pub fn format(text: &str, options: Options) -> Result<String, Error> {
+    given(Call::Format, text, options)
 }
 
 /// Returns the item at a path: a value as it is spelled and a newline, the lines of a table, or an array of tables as an array.
 pub fn get(text: &str, path: &str, options: Options) -> Result<String, Error> {
-    // SAFETY: as in `print`.
-    given(text, options, 64, |room, size| unsafe {
-        sys::toml_edit_get(
-            options.flags(),
-            text.as_ptr(),
-            text.len(),
-            path.as_ptr(),
-            path.len(),
-            room,
-            size,
-        )
-    })
+    given(Call::Get(path), text, options)
 }
 
 /// Returns the text with a value at a path. Every statement but that of the path stays as it was.
 pub fn set(text: &str, path: &str, value: &str, options: Options) -> Result<String, Error> {
-    let guess = text.len() + path.len() + value.len() + 16;
-    // SAFETY: as in `print`.
-    given(text, options, guess, |room, size| unsafe {
-        let (path, value) = (path.as_bytes(), value.as_bytes());
-        sys::toml_edit_set(
-            options.flags(),
-            text.as_ptr(),
-            text.len(),
-            path.as_ptr(),
-            path.len(),
-            value.as_ptr(),
-            value.len(),
-            room,
-            size,
-        )
-    })
+    given(Call::Set(path, value), text, options)
 }
 
 /// Returns the text without the item at a path. Every statement but those of the item stays as it was.
 pub fn remove(text: &str, path: &str, options: Options) -> Result<String, Error> {
-    // SAFETY: as in `print`.
-    given(text, options, text.len(), |room, size| unsafe {
-        sys::toml_edit_remove(
-            options.flags(),
-            text.as_ptr(),
-            text.len(),
-            path.as_ptr(),
-            path.len(),
-            room,
-            size,
-        )
-    })
+    given(Call::Remove(path), text, options)
 }
 
 /// Returns the item at a path as JSON, on one line. The empty path leads to the whole document.
 pub fn json(text: &str, path: &str, options: Options) -> Result<String, Error> {
-    // SAFETY: as in `print`.
-    given(text, options, 2 * text.len() + 16, |room, size| unsafe {
-        sys::toml_edit_json(
-            options.flags(),
-            text.as_ptr(),
-            text.len(),
-            path.as_ptr(),
-            path.len(),
-            room,
-            size,
-        )
-    })
+    given(Call::Json(path), text, options)
 }
 
 /// Returns the text with edits, which are made one after another or not at all. The words are those of the edits, as
 /// `["set", "a.b", "1", "sort", ""]`: `toml_edit.h` has them.
 pub fn edit(text: &str, words: &[&str], options: Options) -> Result<String, Error> {
-    let mut script = String::new();
-    for word in words {
-        if word.contains('\0') {
-            return Err(Error::BadScript);
-        }
-        script.push_str(word);
-        script.push('\0');
+    if words.iter().any(|word| word.contains('\0')) {
+        return Err(Error::BadScript);
     }
-    let guess = text.len() + script.len() + 16;
-    // SAFETY: as in `print`.
-    given(text, options, guess, |room, size| unsafe {
-        sys::toml_edit_edit(
-            options.flags(),
-            text.as_ptr(),
-            text.len(),
-            script.as_ptr(),
-            script.len(),
-            room,
-            size,
-        )
-    })
+    let script: String = words.iter().flat_map(|word| [*word, "\0"]).collect();
+    given(Call::Edit(&script), text, options)
 }
 
 /// Checks a text, and returns why it is refused.
 pub fn check(text: &str, options: Options) -> Result<(), Error> {
     let mut place = sys::Place::default();
-    let mut room = vec![0; 200];
-    loop {
-        // SAFETY: as in `print`; the place is one.
-        let answer = unsafe {
-            let (to, size) = (room.as_mut_ptr(), room.len());
-            sys::toml_edit_check(
-                options.flags(),
-                text.as_ptr(),
-                text.len(),
-                &mut place,
-                to,
-                size,
-            )
-        };
-        match answer.status {
-            0 => return Ok(()),
-            2 if answer.needed > room.len() => room.resize(answer.needed, 0),
-            2 => {
-                room.truncate(answer.needed);
-                let is_some = place.line > 0;
-                return Err(Error::Refused(Refusal {
-                    message: String::from_utf8_lossy(&room).into_owned(),
-                    span: is_some.then_some(place.start..place.end),
-                    line_column: is_some.then_some((place.line, place.column)),
-                }));
+    // SAFETY: as in `Call::made`; the place is one.
+    let (status, message) = asked(200, |room| unsafe {
+        let (to, size) = (room.as_mut_ptr(), room.len());
+        sys::toml_edit_check(options.flags(), text.as_ptr(), text.len(), &mut place, to, size)
+    });
+    match status {
+        0 => Ok(()),
+        2 => {
+            let is_some = place.line > 0;
+            Err(Error::Refused(Refusal {
+                message: String::from_utf8_lossy(&message).into_owned(),
+                span: is_some.then_some(place.start..place.end),
+                line_column: is_some.then_some((place.line, place.column)),
+            }))
+        }
+        _ => Err(Error::OutOfMemory),
+    }
+}
+
+/// A call on a text, with its other texts.
+#[derive(Clone, Copy)]
+enum Call<'a> {
+    Print,
+    Format,
+    Get(&'a str),
+    Set(&'a str, &'a str),
+    Remove(&'a str),
+    Json(&'a str),
+    Edit(&'a str),
+}
+
+impl Call<'_> {
+    /// Makes the call with this room.
+    fn made(self, text: &str, options: Options, room: &mut [u8]) -> sys::Answer {
+        let flags = options.flags();
+        let (text, len) = (text.as_ptr(), text.len());
+        let (to, size) = (room.as_mut_ptr(), room.len());
+        // SAFETY: each pointer and its length are of a slice that is lent for the call, and the room overlaps no text.
+        unsafe {
+            match self {
+                Call::Print => sys::toml_edit_print(flags, text, len, to, size),
+                Call::Format => sys::toml_edit_format(flags, text, len, to, size),
+                Call::Get(path) => sys::toml_edit_get(flags, text, len, path.as_ptr(), path.len(), to, size),
+                Call::Set(path, value) => sys::toml_edit_set(
+                    flags,
+                    text,
+                    len,
+                    path.as_ptr(),
+                    path.len(),
+                    value.as_ptr(),
+                    value.len(),
+                    to,
+                    size,
+                ),
+                Call::Remove(path) => sys::toml_edit_remove(flags, text, len, path.as_ptr(), path.len(), to, size),
+                Call::Json(path) => sys::toml_edit_json(flags, text, len, path.as_ptr(), path.len(), to, size),
+                Call::Edit(script) => sys::toml_edit_edit(flags, text, len, script.as_ptr(), script.len(), to, size),
             }
-            _ => return Err(Error::OutOfMemory),
+        }
+    }
+
+    /// Returns how many bytes the text may have that it gives.
+    fn guess(self, text: &str) -> usize {
+        match self {
+            Call::Print | Call::Remove(_) => text.len(),
+            Call::Format => text.len() + text.len() / 8,
+            Call::Get(_) => 64,
+            Call::Set(path, value) => text.len() + path.len() + value.len() + 16,
+            Call::Json(_) => 2 * text.len() + 16,
+            Call::Edit(script) => text.len() + script.len() + 16,
         }
     }
 }
 
-/// Makes a call with as much room as it needs.
-fn given(
-    text: &str,
-    options: Options,
-    guess: usize,
-    call: impl Fn(*mut u8, usize) -> sys::Answer,
-) -> Result<String, Error> {
-    let mut room = vec![0; guess];
-    let mut answer = call(room.as_mut_ptr(), room.len());
-    if answer.status == 1 {
-        room.resize(answer.needed, 0);
-        answer = call(room.as_mut_ptr(), room.len());
-    }
-    match answer.status {
-        0 => {
-            room.truncate(answer.needed);
-            Ok(String::from_utf8(room).expect("the library writes UTF-8"))
-        }
+/// Returns the text that a call gives.
+fn given(call: Call, text: &str, options: Options) -> Result<String, Error> {
+    let (status, made) = asked(call.guess(text), |room| call.made(text, options, room));
+    match status {
+        0 => Ok(String::from_utf8(made).expect("the library writes UTF-8")),
         2 => Err(check(text, options).expect_err("the text was refused")),
         4 => Err(Error::BadPath),
         5 => Err(Error::BadValue),
@@ -346,4 +274,16 @@ fn given(
         14 => Err(Error::BadComment),
         _ => Err(Error::OutOfMemory),
     }
+}
+
+/// Makes a call with as much room as it needs, and returns its status and the text that it gives.
+fn asked(guess: usize, mut call: impl FnMut(&mut [u8]) -> sys::Answer) -> (u32, Vec<u8>) {
+    let mut room = vec![0; guess];
+    let mut answer = call(&mut room);
+    if answer.needed > room.len() {
+        room.resize(answer.needed, 0);
+        answer = call(&mut room);
+    }
+    room.truncate(answer.needed);
+    (answer.status, room)
 }

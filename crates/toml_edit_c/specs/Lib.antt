@@ -5,6 +5,7 @@ pub mod Answers
 pub mod Made
 pub mod Checks
 pub mod Json
+pub mod Formats
 pub mod Split
 pub mod Scripts
 pub mod Runs

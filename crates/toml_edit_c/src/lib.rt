@@ -17,6 +17,7 @@
 ghost use Rattle.std.specs.Prelude.{◌≤◌, ◌<◌};
 ghost use Rattle.toml_edit_c.specs.Answers.{Gives, IsUnanswered};
 ghost use Rattle.toml_edit_c.specs.Asks.{ask, get_words, print_words, remove_words, set_words};
+ghost use Rattle.toml_edit_c.specs.Formats.{IsFormattedBy, StopsFormatWith};
 ghost use Rattle.toml_edit_c.specs.Json.{IsJsonBy, StopsJsonWith};
 ghost use Rattle.toml_edit_c.specs.Made.{IsMadeBy, StopsWith};
 ghost use Rattle.toml_edit_c.specs.Scripts.{IsEditedBy, StopsEditWith};
@@ -27,6 +28,7 @@ pub mod check;
 mod command;
 mod edit;
 mod flags;
+mod format;
 mod get;
 mod json;
 mod read;
@@ -133,6 +135,25 @@ pub extern "C" fn toml_edit_json(
     ensures unanswered { 1 < result.status → IsUnanswered result room.old room.new }
 {
     give(json::json(alloc, flags, text, path), room)
+}
+
+/// Gives the text formatted by the default rules.
+///
+/// It means the same, and has the same comments in the same order, each with what it belongs to.
+/// Where line endings are kept, lines that are made end as the first line of the text does.
+#[unsafe(no_mangle)]
+pub extern "C" fn toml_edit_format(
+    alloc: Global,
+    flags: u32,
+    text: &[u8],
+    room: &mut [u8],
+) -> Answer
+    ensures given { result.status ≤ 1
+        → Gives (IsFormattedBy flags text.now) result room.old room.new }
+    ensures stopped { 1 < result.status → StopsFormatWith flags text.now result.status }
+    ensures unanswered { 1 < result.status → IsUnanswered result room.old room.new }
+{
+    give(format::format(alloc, flags, text), room)
 }
 
 /// Gives the text with the edits of the script, which are made one after another or not at all.

@@ -1,5 +1,6 @@
 -- Cited by contracts.
 pub mod RulesView
+pub mod Newlines
 pub mod LinesView
 pub mod KindView
 pub mod WidthView

@@ -1,4 +1,7 @@
 //! The rules of a formatter.
+ghost use Rattle.std.specs.Prelude.{◌≡◌, false};
+ghost use Rattle.toml_edit_fmt.specs.Newlines.{returns_after, rules_for};
+ghost use Rattle.toml_edit_fmt.specs.RulesView.{rules_of};
 
 /// How far lines and headers are indented.
 #[derive(Clone, Copy, Debug, PartialEq, Eq)]
@@ -38,6 +41,34 @@ pub struct Rules {
     pub inline_tables: bool,
     /// New lines end in CR LF, where line endings are kept.
     pub returns: bool,
+}
+
+impl Rules {
+    /// Returns the default rules for a text: where line endings are kept, new lines end as its first
+    /// line does.
+    pub fn for_text(text: &[u8], is_exact: bool) -> Rules
+        ensures { rules_of result ≡ rules_for is_exact text.now }
+    {
+        let mut rules = Rules::default();
+        rules.returns = is_exact && first_line_has_return(text);
+        rules
+    }
+}
+
+/// Returns `true` if the first line of a text ends in CR LF.
+fn first_line_has_return(text: &[u8]) -> bool
+    ensures { result ≡ returns_after false text.now }
+{
+    let mut rest = text;
+    let mut after_return = false;
+    'bytes: while let [byte, more @ ..] = rest {
+        if *byte == b'\n' {
+            return after_return;
+        }
+        after_return = *byte == b'\r';
+        rest = more;
+    }
+    false
 }
 
 /// Makes the rules that are usual: all are on, lines are not indented, and new lines end in LF.
