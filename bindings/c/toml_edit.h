@@ -176,7 +176,7 @@ enum {
     TOML_EDIT_RUN_DONE = 0,
     /* The input is not TOML: why is in the room for the errors, and there is no output. */
     TOML_EDIT_RUN_REFUSED = 1,
-    /* The words are no command, or it cannot be done: likewise. */
+    /* The words are no command, whatever the input is, or it cannot be done: likewise. */
     TOML_EDIT_RUN_MISTAKEN = 2,
     /* Memory ran out. Nothing was written. */
     TOML_EDIT_RUN_OUT_OF_MEMORY = 3,
@@ -185,7 +185,8 @@ enum {
 };
 
 /* Runs the program `tomled` with these words on an input, and gives its output, its errors and its
- * exit status. Each word has a zero byte after it, which the last may lack. */
+ * exit status. Each word has a zero byte after it, which the last may lack. Words, a path or a value
+ * that are none are told of before an input that is refused. */
 uint32_t toml_edit_run(
     const uint8_t *words, size_t words_size, const uint8_t *input, size_t input_size,
     uint8_t *output, size_t output_size, uint8_t *errors, size_t errors_size,

@@ -287,3 +287,8 @@ fn asked(guess: usize, mut call: impl FnMut(&mut [u8]) -> sys::Answer) -> (u32, 
     room.truncate(answer.needed);
     (answer.status, room)
 }
+
+/// The page of the bindings, whose session is a test.
+#[cfg(doctest)]
+#[doc = include_str!("../../README.md")]
+struct Page;

@@ -1,10 +1,10 @@
 -- How a command ends.
-use Rattle.std.proofs.Common.{◌≡◌, refl, sym, ap, subst, ◌∙◌, List, [], ◌∷◌, length, Option, None, Some, map, String, Global, string_bytes, IsUtf8, IfSome, IfErr, Result, Ok, Err, inl, inr, arith}
+use Rattle.std.proofs.Common.{◌≡◌, ◌≤◌, ◌<◌, refl, sym, ap, subst, ◌∙◌, List, [], ◌∷◌, length, Option, None, Some, map, String, Global, string_bytes, IsUtf8, IfSome, IfErr, Result, Ok, Err, inl, inr, arith}
 use Rattle.std.proofs.lemmas.Str.{IsUtf8-string_bytes}
 use Rattle.std.proofs.lemmas.Grind.{common_steps}
 use Rattle.toml_edit_model.specs.Text.{Text}
 use Rattle.toml_edit_model.specs.Version.{Version}
-use Rattle.toml_edit_command.specs.Words.{Action, Request, Says, TakesPath}
+use Rattle.toml_edit_command.specs.Words.{Action, Request, Says, SaysAction, TakesPath}
 use Rattle.toml_edit_command.specs.Written.{Held}
 use Rattle.toml_edit_command.specs.Mistakes.{InTree, InWords, IsMistaken}
 use Rattle.toml_edit_command.specs.Run.{Does, IsExcerptOf, IsNotAccepted, IsRefused, Tells, TellsFault, TellsRefusal}
@@ -14,6 +14,7 @@ use Rattle.toml_edit_parser.specs.declared.options.ParseOptions.{ParseOptions}
 use Rattle.toml_edit_c.specs.Commands.{StopsCommand, mistake_for, mistake_of, request_by}
 use Rattle.toml_edit_c.specs.Made.{IsMade, MayStopReading, StopsAction, StopsCall, StopsInWords, StopsMaking}
 use Rattle.toml_edit_c.specs.Runs.{filled}
+use Rattle.toml_edit_c.specs.Statuses.{status_of}
 use Rattle.toml_edit_c.specs.declared.command.Miss.{Miss}
 use Rattle.toml_edit_c.specs.declared.command.Miss.TheVariants.{Words, Call}
 use Rattle.toml_edit_c.specs.declared.stop.Stop.{Stop}
@@ -130,6 +131,28 @@ module _ (options : ParseOptions) (words : List (String Global)) (input : Text) 
         | inl words ↦ inl (in-words stop m is words)
         | inr (a, said, action) ↦ in-action a said stop m is action
       ]
+
+-- ---- words come first
+
+late : (q : Request) (stop : Stop) → StopsInWords q stop → 3 < status_of stop
+late q stop why =
+    elim why [
+      | inl (path, takes, may) ↦
+          elim may [
+            | inl memory ↦ subst (λ s. 3 < status_of s) (sym memory) (omega arith)
+            | inr (bad, none) ↦ subst (λ s. 3 < status_of s) (sym bad) (omega arith)
+          ]
+      | inr (path, value, names, set, spelled, may) ↦
+          elim may [
+            | inl memory ↦ subst (λ s. 3 < status_of s) (sym memory) (omega arith)
+            | inr (bad, none) ↦ subst (λ s. 3 < status_of s) (sym bad) (omega arith)
+          ]
+    ]
+
+-- where an input is refused, the words were right
+pub right-words : (q : Request) (input : Text) (stop : Stop) → status_of stop ≤ 3 → StopsCall (Some q) input stop → SaysAction q
+right-words q input stop low why =
+    elim why [ inl words ↦ absurd (omega (arith, late q stop words, low)) | inr (a, said, action) ↦ (a, said) ]
 
 -- ---- what a command does
 

@@ -6,3 +6,4 @@ pub mod Editing
 pub mod Ending
 pub mod Items
 pub mod Counted
+pub mod Formatting

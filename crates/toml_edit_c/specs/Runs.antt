@@ -1,7 +1,7 @@
 -- What a run of a command gives.
 use Rattle.std.specs.Prelude.{◌≡◌, ◌⊎◌, ◌<◌, ℕ, List, [], length, Some, false, IsUtf8}
 use Rattle.toml_edit_model.specs.Text.{Text}
-use Rattle.toml_edit_command.specs.Words.{Request, asked}
+use Rattle.toml_edit_command.specs.Words.{Request, SaysAction, asked}
 use Rattle.toml_edit_command.specs.Run.{OutputChange, Does, TellsMistake, TellsRefusal}
 use Rattle.toml_edit_c.specs.Answers.{IsAtFront}
 use Rattle.toml_edit_c.specs.Split.{words_in}
@@ -15,11 +15,12 @@ AreWords bytes ws = (IsUtf8 bytes × (ws ≡ words_in bytes)) ⊎ ((¬ (IsUtf8 b
 abbrev pub filled : Text → OutputChange
 filled x = record { old = Some []; new = Some x; failed = false }
 
--- The command ends with this status on this input, and these are its output and its errors.
+-- The command ends with this status on this input, and these are its output and its errors. Words
+-- that are none are not told of a refused input, but that they are mistaken.
 abbrev pub Ends : Request → Text → ℕ → Text → Text → Type 0
 Ends q input status out err =
     ((status ≡ 0) × Does q (Some input) (filled out) × (err ≡ []))
-    ⊎ ((status ≡ 1) × TellsRefusal q (Some input) (filled err) × (out ≡ []))
+    ⊎ ((status ≡ 1) × SaysAction q × TellsRefusal q (Some input) (filled err) × (out ≡ []))
     ⊎ ((status ≡ 2) × TellsMistake q (Some input) (filled err) × (out ≡ []))
 
 -- so it is for the command that the words say

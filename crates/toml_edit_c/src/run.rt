@@ -23,7 +23,8 @@ const SHORT: u32 = 5;
 
 /// Runs a command of `tomled` on the input, and gives what it writes to its output and its errors.
 ///
-/// Each word ends at a zero byte, or at the end of the words.
+/// Each word ends at a zero byte, or at the end of the words. Mistaken words come before a refused
+/// input: the status is 1 only if they say what to do.
 #[unsafe(no_mangle)]
 pub extern "C" fn toml_edit_run(
     alloc: Global,

@@ -2,7 +2,7 @@
 use Rattle.std.proofs.Common.{◌≡◌, ◌≤◌, [], Some, arith, inl, inr, refl, string_bytes}
 use Rattle.toml_edit_command.specs.Mistakes.{mistake_line}
 use Rattle.toml_edit_command.specs.Run.{TellsRefusal}
-use Rattle.toml_edit_command.specs.Words.{Request}
+use Rattle.toml_edit_command.specs.Words.{Request, SaysAction}
 use Rattle.toml_edit_command.specs.declared.error.CommandError.{CommandError}
 use Rattle.toml_edit_parser.specs.Options.{version_of}
 use Rattle.toml_edit_c.specs.Commands.{mistake_for, request_by}
@@ -13,11 +13,12 @@ use Rattle.toml_edit_c.proofs.command.told.Goals as goal
 pub returns-in-Call-Refused : goal.returns-in-Call-Refused
 returns-in-Call-Refused c =
     let q = request_by c.args.options c.args.words.now in let input = c.args.input.now in
+    let says : SaysAction q = ? in
     some-weaker c.refused.result
     (λ e. (e.status ≡ 1) × (string_bytes e.output ≡ [])
     × ((r : Request) → r.version ≡ version_of c.args.options → TellsRefusal r (Some input) (filled (string_bytes e.errors))))
     (λ e. (e.status ≤ 2) × Ends q input e.status (string_bytes e.output) (string_bytes e.errors))
-    (λ e is. (omega (arith, is.0), inr (inl (is.0, is.2 q refl, is.1)))) c.refused.ensures
+    (λ e is. (omega (arith, is.0), inr (inl (is.0, says, is.2 q refl, is.1)))) c.refused.ensures
 
 pub returns-in_default : goal.returns-in_default
 returns-in_default c =
