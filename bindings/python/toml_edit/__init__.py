@@ -6,6 +6,9 @@
 >>> print(toml_edit.dumps(document), end="")
 [package]
 version = "2.0"  # ours
+>>> document.format()
+>>> document.as_string()
+'[package]\\nversion = "2.0" # ours\\n'
 
 The work is done by a library in Rattle whose calls are proved; this package puts a mapping over them. A document is
 its text: each change makes a new text by one call, and the values are read once for each text.

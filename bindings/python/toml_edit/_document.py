@@ -69,7 +69,7 @@ def _plain(text: _Text, path: tuple[Key, ...]) -> Any:
 
 
 def _own(given: Any) -> Any:
-    return given.unwrap() if isinstance(given, (Table, Array)) else given
+    return given.unwrap() if isinstance(given, _View) else given
 
 
 def _put(text: _Text, path: tuple[Key, ...], given: Any) -> None:
@@ -122,21 +122,39 @@ def _lines(path: tuple[Key, ...], given: Any) -> list[bytes]:
     return [b"header", _spelling.path(path), _spelling.value(given).encode()]
 
 
-class Table(MutableMapping):
-    """A table of a document, as a mapping of keys to values.
-
-    A table and an array in it are views: what is changed in them changes the document. Other values are Python's.
-    """
+class _View:
+    """A table or an array of a document. What is changed in it changes the document."""
 
     def __init__(self, text: _Text, path: tuple[Key, ...]) -> None:
         self._text = text
         self._path = path
 
-    def _children(self) -> dict:
+    def _found(self, kind: type) -> Any:
+        """What is there now. Raises `KeyError` if it is of another kind."""
         found = self._text.at(self._path)
-        if not isinstance(found, dict):
+        if not isinstance(found, kind):
             raise KeyError(".".join(map(str, self._path)))
         return found
+
+    def __eq__(self, other: object) -> bool:
+        return self.unwrap() == _own(other)
+
+    def __repr__(self) -> str:
+        return repr(self.unwrap())
+
+    def unwrap(self) -> Any:
+        """A copy as a plain dictionary or list."""
+        return _plain(self._text, self._path)
+
+
+class Table(_View, MutableMapping):
+    """A table of a document, as a mapping of keys to values.
+
+    A table and an array in it are views: what is changed in them changes the document. Other values are Python's.
+    """
+
+    def _children(self) -> dict:
+        return self._found(dict)
 
     def __getitem__(self, key: str) -> Any:
         if key not in self._children():
@@ -161,16 +179,6 @@ class Table(MutableMapping):
 
     def __contains__(self, key: object) -> bool:
         return key in self._children()
-
-    def __eq__(self, other: object) -> bool:
-        return self.unwrap() == (other.unwrap() if isinstance(other, Table) else other)
-
-    def __repr__(self) -> str:
-        return repr(self.unwrap())
-
-    def unwrap(self) -> dict:
-        """A copy as a plain dictionary."""
-        return _plain(self._text, self._path)
 
     def pop(self, key: str, *default: Any) -> Any:
         """Removes a key, and returns a copy of its value, or the default if the key is missing."""
@@ -198,18 +206,11 @@ class Table(MutableMapping):
         self._text.edit(b"sort", _spelling.path(self._path))
 
 
-class Array(MutableSequence):
+class Array(_View, MutableSequence):
     """An array of a document, or an array of tables, whose elements can be changed and removed but not added."""
 
-    def __init__(self, text: _Text, path: tuple[Key, ...]) -> None:
-        self._text = text
-        self._path = path
-
     def _items(self) -> list:
-        found = self._text.at(self._path)
-        if not isinstance(found, list):
-            raise KeyError(".".join(map(str, self._path)))
-        return found
+        return self._found(list)
 
     def _place(self, at: int) -> int:
         count = len(self._items())
@@ -236,12 +237,6 @@ class Array(MutableSequence):
     def __len__(self) -> int:
         return len(self._items())
 
-    def __eq__(self, other: object) -> bool:
-        return self.unwrap() == (other.unwrap() if isinstance(other, Array) else other)
-
-    def __repr__(self) -> str:
-        return repr(self.unwrap())
-
     def insert(self, at: int, value: Any) -> None:
         """Inserts a value before an element, on a line of its own where the others have one."""
         count = len(self)
@@ -253,10 +248,6 @@ class Array(MutableSequence):
         value = _own(self[at])
         del self[at]
         return value
-
-    def unwrap(self) -> list:
-        """A copy as a plain list."""
-        return _plain(self._text, self._path)
 
 
 class Document(Table):
