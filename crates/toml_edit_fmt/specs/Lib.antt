@@ -9,3 +9,5 @@ pub mod ArrayParts
 pub mod TableParts
 pub mod StartParts
 pub mod Promises
+-- Worked examples: nothing cites them.
+pub mod examples

@@ -1,0 +1,2 @@
+-- Worked texts, and how lines end that are made for them.
+pub mod Newlines
