@@ -48,7 +48,7 @@ def place(rt, crates):
         return {crate.name for crate in crates if not crate.is_program and crate.is_built()}
     kept, had = rt.Kept(crates), set()
     for crate in crates:
-        if crate.is_program or any(below.name not in had for below in crate.below()):
+        if crate.is_program or crate.is_static or any(below.name not in had for below in crate.below()):
             continue
         key = kept.key(crate)
         if not os.path.isdir(kept.place(crate, False, key)):
