@@ -192,7 +192,8 @@ fn told(
         (string_bytes e.output) (string_bytes e.errors)) }
 {
     match miss {
-        Miss::Call(Stop::Refused | Stop::NotUtf8) => refused(alloc, options, input),
+        Miss::Call(Stop::Refused) => refused(alloc, options, input),
+        Miss::Call(Stop::NotUtf8) => refused(alloc, options, input),
         _ => mistaken(alloc, miss),
     }
 }

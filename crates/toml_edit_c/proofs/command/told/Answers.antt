@@ -1,24 +1,35 @@
 -- The message is about the mistake or the fault.
-use Rattle.std.proofs.Common.{◌≡◌, ◌≤◌, [], Some, arith, inl, inr, refl, string_bytes}
+use Rattle.std.proofs.Common.{◌≡◌, ◌≤◌, [], Some, arith, inl, inr, refl, string_bytes, subst}
 use Rattle.toml_edit_command.specs.Mistakes.{mistake_line}
 use Rattle.toml_edit_command.specs.Run.{TellsRefusal}
-use Rattle.toml_edit_command.specs.Words.{Request, SaysAction}
+use Rattle.toml_edit_command.specs.Words.{Request}
 use Rattle.toml_edit_command.specs.declared.error.CommandError.{CommandError}
 use Rattle.toml_edit_parser.specs.Options.{version_of}
-use Rattle.toml_edit_c.specs.Commands.{mistake_for, request_by}
+use Rattle.toml_edit_c.specs.Commands.{StopsCommand, mistake_for, request_by}
 use Rattle.toml_edit_c.specs.Runs.{Ends, filled}
-use Rattle.toml_edit_c.proofs.Ending.{mistaken-by, some-weaker, tells}
+use Rattle.toml_edit_c.specs.declared.stop.Stop.TheVariants.{Refused, NotUtf8}
+use Rattle.toml_edit_c.proofs.Ending.{mistaken-by, right-words, some-weaker, tells}
 use Rattle.toml_edit_c.proofs.command.told.Goals as goal
 
 pub returns-in-Call-Refused : goal.returns-in-Call-Refused
 returns-in-Call-Refused c =
     let q = request_by c.args.options c.args.words.now in let input = c.args.input.now in
-    let says : SaysAction q = ? in
+    let says = right-words q input Refused (omega arith) (subst (StopsCommand q input) c.in-Call-Refused.is c.requires) in
     some-weaker c.refused.result
     (λ e. (e.status ≡ 1) × (string_bytes e.output ≡ [])
     × ((r : Request) → r.version ≡ version_of c.args.options → TellsRefusal r (Some input) (filled (string_bytes e.errors))))
     (λ e. (e.status ≤ 2) × Ends q input e.status (string_bytes e.output) (string_bytes e.errors))
     (λ e is. (omega (arith, is.0), inr (inl (is.0, says, is.2 q refl, is.1)))) c.refused.ensures
+
+pub returns-in-Call-NotUtf8 : goal.returns-in-Call-NotUtf8
+returns-in-Call-NotUtf8 c =
+    let q = request_by c.args.options c.args.words.now in let input = c.args.input.now in
+    let says = right-words q input NotUtf8 (omega arith) (subst (StopsCommand q input) c.in-Call-NotUtf8.is c.requires) in
+    some-weaker c.refused-in-Call-NotUtf8.result
+    (λ e. (e.status ≡ 1) × (string_bytes e.output ≡ [])
+    × ((r : Request) → r.version ≡ version_of c.args.options → TellsRefusal r (Some input) (filled (string_bytes e.errors))))
+    (λ e. (e.status ≤ 2) × Ends q input e.status (string_bytes e.output) (string_bytes e.errors))
+    (λ e is. (omega (arith, is.0), inr (inl (is.0, says, is.2 q refl, is.1)))) c.refused-in-Call-NotUtf8.ensures
 
 pub returns-in_default : goal.returns-in_default
 returns-in_default c =
