@@ -24,7 +24,11 @@ use Rattle.toml_edit_fmt_laws.specs.Formatted.{line_by_line, has_broken_elements
 use Rattle.toml_edit_fmt_laws.specs.Formatted.{laid_comma, before_part, after_part, before_bracket, inner_indent, inner_room, last_after}
 use Rattle.toml_edit_fmt_laws.specs.Formatted.{last_trailing, laid_segment, laid_path, beside_equals, laid_frame, laid_value, laid_elements}
 use Rattle.toml_edit_fmt_laws.specs.Formatted.{laid_pairs, used_before, keys_below, laid_statement, laid_statements, laid_document}
-use Rattle.toml_edit_fmt_laws.proofs.PlaceLaws.{white-spaces, gap-again, gap-comments, comma-again, leading-again, header-again, rest-again}
+use Rattle.toml_edit_fmt_laws.proofs.SpacedRows.{white-spaces}
+use Rattle.toml_edit_fmt_laws.proofs.GapLaws.{gap-again, gap-comments, comma-again}
+use Rattle.toml_edit_fmt_laws.proofs.LeadingLaws.{leading-again}
+use Rattle.toml_edit_fmt_laws.proofs.HeaderLaws.{header-again}
+use Rattle.toml_edit_fmt_laws.proofs.LineRests.{rest-again}
 
 -- ---- layouts
 

@@ -18,7 +18,7 @@ use Rattle.toml_edit_fmt_laws.proofs.Rows.{Row, row_text, IsRow, IsBody, body_te
 use Rattle.toml_edit_fmt_laws.proofs.Rows.{lines-any, lines-rows, whole-rows, is_none_body, empty-row, moved, indented-rows}
 use Rattle.toml_edit_fmt_laws.proofs.Rows.{all-moved, row_bodies, bodies-rows, bodies-moved, first_comment-part, words-part}
 use Rattle.toml_edit_fmt_laws.proofs.Rows.{line_words-part, unbroken-part, lean_row, lean-rows, all-lean, moved-lean}
-use Rattle.toml_edit_fmt_laws.proofs.PlaceLaws.{spaced_rows, bodies-spaced, laid-again, laid-rows, joined-rows, spaced-none, spaced-lean}
+use Rattle.toml_edit_fmt_laws.proofs.SpacedRows.{spaced_rows, bodies-spaced, laid-again, laid-rows, joined-rows, spaced-none, spaced-lean}
 
 -- rows, and after the last newline white space and perhaps a comment
 pub record Closing (t : Text) : Type 0 where

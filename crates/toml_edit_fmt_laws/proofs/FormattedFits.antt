@@ -31,7 +31,10 @@ use Rattle.toml_edit_fmt_laws.specs.TreeLaws.{LaysOut, FormattedLaysOut, Formatt
 use Rattle.toml_edit_fmt_laws.proofs.Accepts.{all-limits}
 use Rattle.toml_edit_fmt_laws.proofs.Ends.{final-trivia, final-none}
 use Rattle.toml_edit_fmt_laws.proofs.LaidSuits.{BlockSuits}
-use Rattle.toml_edit_fmt_laws.proofs.PrintsLaid.{Parts, parts, head_of_block, table_blocks, in_order, started-statements, formatted-tables, statements-laid, prints_laid}
+use Rattle.toml_edit_fmt_laws.proofs.LaidStatements.{table_blocks, in_order}
+use Rattle.toml_edit_fmt_laws.proofs.FittingParts.{Parts, parts}
+use Rattle.toml_edit_fmt_laws.proofs.StartedStatements.{head_of_block, started-statements, formatted-tables, statements-laid}
+use Rattle.toml_edit_fmt_laws.proofs.PrintsLaid.{prints_laid}
 use Rattle.toml_edit_fmt_laws.proofs.Sides.{side-is}
 use Rattle.toml_edit_fmt_laws.proofs.TreeMeans.{stays-sound}
 use Rattle.toml_edit_fmt_laws.proofs.TreePrints.{formatted_prints}

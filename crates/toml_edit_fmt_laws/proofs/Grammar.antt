@@ -19,7 +19,10 @@ use Rattle.toml_edit_fmt_laws.specs.Formatted.{after_part, before_bracket, inner
 use Rattle.toml_edit_fmt_laws.specs.Formatted.{laid_path, beside_equals, laid_frame, laid_value, laid_elements, laid_pairs, used_before}
 use Rattle.toml_edit_fmt_laws.specs.Formatted.{keys_below, laid_statement, laid_statements}
 use Rattle.toml_edit_fmt_laws.proofs.Rows.{white-whole}
-use Rattle.toml_edit_fmt_laws.proofs.PlaceLaws.{gap-whole, comma-whole, leading-whole, header-whole, rest-end}
+use Rattle.toml_edit_fmt_laws.proofs.GapLaws.{gap-whole, comma-whole}
+use Rattle.toml_edit_fmt_laws.proofs.LeadingLaws.{leading-whole}
+use Rattle.toml_edit_fmt_laws.proofs.HeaderLaws.{header-whole}
+use Rattle.toml_edit_fmt_laws.proofs.LineRests.{rest-end}
 use Rattle.toml_edit_fmt_laws.proofs.Ends.{final-trivia, final-none}
 use Rattle.toml_edit_fmt_laws.proofs.Again.{white-deeper, white-inner, white-line, has-laid, has-laid-pairs, last-whole, last-pair-whole}
 

@@ -25,7 +25,7 @@ use Rattle.toml_edit_fmt_laws.proofs.LaidKeys.{dot_key, laid_keys, laid_keys-end
 use Rattle.toml_edit_fmt_laws.proofs.LaidKeys.{segments-width}
 use Rattle.toml_edit_fmt_laws.proofs.LaidParts.{value-laid}
 use Rattle.toml_edit_fmt_laws.proofs.LaidValues.{frame-is, LineFits, node-decor}
-use Rattle.toml_edit_fmt_laws.proofs.PlaceLaws.{white-spaces}
+use Rattle.toml_edit_fmt_laws.proofs.SpacedRows.{white-spaces}
 use Rattle.toml_edit_fmt_laws.proofs.Sides.{whole-side, side-is, leading-side, equals-side, rest-side, RestShown}
 use Rattle.toml_edit_laws.proofs.common.Each.{each-append}
 use Rattle.toml_edit_model.specs.Trivia.{is_blank}

@@ -35,7 +35,7 @@ use Rattle.toml_edit_fmt_laws.proofs.Closings.{array-closed, inline-closed}
 use Rattle.toml_edit_fmt_laws.proofs.LaidKeys.{dot_key, laid_keys, laid_keys-end, laid_keys-clear, laid_keys-leaf, segments-laid}
 use Rattle.toml_edit_fmt_laws.proofs.LaidValues.{deeper-white, inner-white, default-white, node-decor, frame-is, layout-alike, LineFits, lines_last}
 use Rattle.toml_edit_fmt_laws.proofs.LaidValues.{has-values, items-are, broken-items, broken-pairs, broken-slots, items-last, lines-last, pair-last}
-use Rattle.toml_edit_fmt_laws.proofs.PlaceLaws.{gap-white, comma-white}
+use Rattle.toml_edit_fmt_laws.proofs.GapLaws.{gap-white, comma-white}
 use Rattle.toml_edit_fmt_laws.proofs.Rows.{white-whole}
 use Rattle.toml_edit_fmt_laws.proofs.Sides.{whole-side, side-shown, side-broken, shown-gap, shown-comma, shown-comments, equals-side}
 

@@ -32,7 +32,10 @@ use Rattle.toml_edit_fmt_laws.proofs.LaidBlocks.{clear-append, LaidBlock, BlockF
 use Rattle.toml_edit_fmt_laws.proofs.LaidLines.{laid_row, RowFits, line_leaf, indent-white}
 use Rattle.toml_edit_fmt_laws.proofs.LaidParts.{last-whole, pair-whole}
 use Rattle.toml_edit_fmt_laws.proofs.LaidValues.{deeper-white, inner-white, default-white, node-decor}
-use Rattle.toml_edit_fmt_laws.proofs.PlaceLaws.{gap-whole, comma-whole, leading-whole, header-whole, ending, rest-form, rest-is_row, rest_row}
+use Rattle.toml_edit_fmt_laws.proofs.GapLaws.{gap-whole, comma-whole}
+use Rattle.toml_edit_fmt_laws.proofs.LeadingLaws.{leading-whole}
+use Rattle.toml_edit_fmt_laws.proofs.HeaderLaws.{header-whole}
+use Rattle.toml_edit_fmt_laws.proofs.LineRests.{ending, rest-form, rest-is_row, rest_row}
 use Rattle.toml_edit_fmt_laws.proofs.Rows.{white-whole, part-end}
 use Rattle.toml_edit_fmt_laws.proofs.Started.{start_block}
 use Rattle.toml_edit_laws.proofs.locality.Blocks.{Block, is_headed}

@@ -32,7 +32,7 @@ use Rattle.toml_edit_fmt_laws.specs.FormattedTree.{last_pair_text}
 use Rattle.toml_edit_fmt_laws.specs.FormattedTree.{formatted_value}
 use Rattle.toml_edit_fmt_laws.proofs.Closings.{width-after, width-pairs}
 use Rattle.toml_edit_fmt_laws.proofs.LaidKeys.{keys_before, before-more, segments-width}
-use Rattle.toml_edit_fmt_laws.proofs.PlaceLaws.{white-spaces}
+use Rattle.toml_edit_fmt_laws.proofs.SpacedRows.{white-spaces}
 use Rattle.toml_edit_fmt_laws.proofs.Sides.{side-shown, side-broken}
 
 pub deeper-white : (r : Rules) (i : Text) → IsWhiteSpace i → IsWhiteSpace (deeper r i)

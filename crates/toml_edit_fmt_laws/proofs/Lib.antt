@@ -1,6 +1,10 @@
 mod Spacing
 mod Rows
-mod PlaceLaws
+mod SpacedRows
+mod GapLaws
+mod LeadingLaws
+mod HeaderLaws
+mod LineRests
 mod Ends
 mod Means
 mod Accepts
@@ -22,6 +26,10 @@ mod LaidLines
 mod LaidBlocks
 mod Firsts
 mod Started
+mod LaidStatements
+mod LaidStart
+mod FittingParts
+mod StartedStatements
 mod PrintsLaid
 mod ReadDecors
 mod TreePrints

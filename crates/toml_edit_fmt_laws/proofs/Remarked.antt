@@ -24,7 +24,10 @@ use Rattle.toml_edit_fmt_laws.specs.Remarks.{statement_remarks, remarks_from}
 use Rattle.toml_edit_fmt_laws.specs.Promises.{KeepsRemarks}
 use Rattle.toml_edit_fmt_laws.proofs.Ends.{final-comments}
 use Rattle.toml_edit_fmt_laws.proofs.Rows.{Row, IsRow, rows_text, row_text, Rows, view, broken-row}
-use Rattle.toml_edit_fmt_laws.proofs.PlaceLaws.{gap-first, gap-below, first-lines, below-lines, comma-comments, leading-comments, header-comments, rest-comments}
+use Rattle.toml_edit_fmt_laws.proofs.GapLaws.{gap-first, gap-below, first-lines, below-lines, comma-comments}
+use Rattle.toml_edit_fmt_laws.proofs.LeadingLaws.{leading-comments}
+use Rattle.toml_edit_fmt_laws.proofs.HeaderLaws.{header-comments}
+use Rattle.toml_edit_fmt_laws.proofs.LineRests.{rest-comments}
 use Rattle.toml_edit_fmt_laws.proofs.Again.{not-split, white-deeper, white-inner, white-line}
 
 -- ---- trivia without a newline has no comments

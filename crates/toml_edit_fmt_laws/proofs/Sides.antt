@@ -23,8 +23,10 @@ use Rattle.toml_edit_fmt_laws.specs.FormattedTree.{equals_side, dot_side, moves_
 use Rattle.toml_edit_fmt_laws.proofs.Off.{joined-lines}
 use Rattle.toml_edit_fmt_laws.proofs.Rows.{Row, IsRow, line_part, part-end, part-feed, not_feed, body_text, comments-returns, broken-returns, words-white, is_dark}
 use Rattle.toml_edit_fmt_laws.proofs.Rows.{first_comment-part, first_line-part, before-all}
-use Rattle.toml_edit_fmt_laws.proofs.PlaceLaws.{gap-returns, comma-returns, leading-returns, header-returns, ending, rest-form, rest-is_row, rest_row}
-use Rattle.toml_edit_fmt_laws.proofs.PlaceLaws.{spaced-any}
+use Rattle.toml_edit_fmt_laws.proofs.GapLaws.{gap-returns, comma-returns}
+use Rattle.toml_edit_fmt_laws.proofs.LeadingLaws.{leading-returns, spaced-any}
+use Rattle.toml_edit_fmt_laws.proofs.HeaderLaws.{header-returns}
+use Rattle.toml_edit_fmt_laws.proofs.LineRests.{ending, rest-form, rest-is_row, rest_row}
 use Rattle.toml_edit_fmt_laws.proofs.Ends.{final-returns}
 
 -- ---- sides as they are

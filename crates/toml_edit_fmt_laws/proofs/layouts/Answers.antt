@@ -1,6 +1,7 @@
 -- What is laid out at each place.
-use Rattle.toml_edit_fmt_laws.proofs.PlaceLaws.{leading-whole, leading-again, leading-comments, header-whole, header-again, header-comments}
-use Rattle.toml_edit_fmt_laws.proofs.PlaceLaws.{gap-whole, gap-again, gap-comments, comma-whole, comma-again, comma-comments}
+use Rattle.toml_edit_fmt_laws.proofs.GapLaws.{gap-whole, gap-again, gap-comments, comma-whole, comma-again, comma-comments}
+use Rattle.toml_edit_fmt_laws.proofs.LeadingLaws.{leading-whole, leading-again, leading-comments}
+use Rattle.toml_edit_fmt_laws.proofs.HeaderLaws.{header-whole, header-again, header-comments}
 use Rattle.toml_edit_fmt_laws.proofs.layouts.Goals as goal
 
 pub returns : goal.returns
