@@ -65,26 +65,26 @@ closed rs w o h g k =
     by_body None k = inl refl
 
 -- the last line as a row without its newline
-abbrev last_row : Text → Option Text → Row
+abbrev pub last_row : Text → Option Text → Row
 last_row w o = record { white = w; body = o; end = lf }
 
-comment-some : (w b : Text) → is_empty (w ++ comment b) ≡ false
+pub comment-some : (w b : Text) → is_empty (w ++ comment b) ≡ false
 comment-some [] b = refl
 comment-some (c ∷ w) b = refl
 
 module _ (r : Rules) where
   -- whether empty rows at the end go
-  end_flag : Indentation → Text → Option Text → Bool
+  pub end_flag : Indentation → Text → Option Text → Bool
   end_flag as_it_is w o = is_none o && is_empty w
   end_flag flush w o = is_none o
   end_flag by_depth w o = is_none o
 
-  abbrev final_white : Indentation → Text → Text
+  abbrev pub final_white : Indentation → Text → Text
   final_white as_it_is w = w
   final_white flush w = []
   final_white by_depth w = []
 
-  abbrev final_rows : Indentation → Bool → Bool → List Row → List Row
+  abbrev pub final_rows : Indentation → Bool → Bool → List Row → List Row
   final_rows as_it_is s e rs = spaced_rows r s e rs
   final_rows flush s e rs = map (moved []) (spaced_rows r s e rs)
   final_rows by_depth s e rs = map (moved []) (spaced_rows r s e rs)
@@ -128,7 +128,7 @@ module _ (r : Rules) where
       (append-nil (indented [] y)
       ∙ ap (λ x. (if is_empty x then [] else []) ++ words y) said ∙ words-part z g)
 
-  final-form : (k : Indentation) (s : Bool) (rs : List Row) (w : Text) (o : Option Text)
+  pub final-form : (k : Indentation) (s : Bool) (rs : List Row) (w : Text) (o : Option Text)
       → AllByRecursion IsRow rs → IsWhiteSpace w → IsBody o
       → final_as k r s (rows_text rs (w ++ body_text o))
       ≡ rows_text (final_rows k s (end_flag k w o) rs) (final_white k w ++ body_text o)
@@ -154,12 +154,12 @@ module _ (r : Rules) where
       ∙ laid-rows r s true [] rs w h g ∙ sym (append-nil (flat_map row_text (map (moved []) (spaced_rows r s true rs))))
   final-form by_depth s rs w (Some b) h g k = open-form s rs w b h (g, k)
 
-  all-final : (k : Indentation) (s e : Bool) (rs : List Row) → AllByRecursion IsRow rs → AllByRecursion IsRow (final_rows k s e rs)
+  pub all-final : (k : Indentation) (s e : Bool) (rs : List Row) → AllByRecursion IsRow rs → AllByRecursion IsRow (final_rows k s e rs)
   all-final as_it_is s e rs h = all-spaced is_none_body IsRow r s e rs h
   all-final flush s e rs h = all-moved [] (spaced_rows r s e rs) refl (all-spaced is_none_body IsRow r s e rs h)
   all-final by_depth s e rs h = all-moved [] (spaced_rows r s e rs) refl (all-spaced is_none_body IsRow r s e rs h)
 
-  white-final : (k : Indentation) (w : Text) → IsWhiteSpace w → IsWhiteSpace (final_white k w)
+  pub white-final : (k : Indentation) (w : Text) → IsWhiteSpace w → IsWhiteSpace (final_white k w)
   white-final as_it_is w h = h
   white-final flush w h = refl
   white-final by_depth w h = refl

@@ -12,6 +12,9 @@ mod Again
 mod Grammar
 mod Remarked
 mod Off
+mod PlacedAll
+mod PlacesKept
+mod LinesKept
 mod Shown
 mod Tags
 mod Settled

@@ -7,7 +7,7 @@ use Rattle.toml_edit_model.specs.Print.{one_space}
 use Rattle.toml_edit_model.specs.Syntax.{Segment, Frame, Value, scalar, array, inline_table, Elements, no_elements, element, Pairs, no_pairs, pair}
 use Rattle.toml_edit_model.specs.Syntax.{Statement, key_line, header, has_elements, has_pairs}
 use Rattle.toml_edit_model.specs.Text.{Text, line_feed, one, joined, is_empty}
-use Rattle.toml_edit_fmt_laws.specs.Rules.{Rules, line_indent, header_indent, made_newline}
+use Rattle.toml_edit_fmt_laws.specs.Rules.{as_it_is, Rules, line_indent, header_indent, made_newline}
 use Rattle.toml_edit_fmt_laws.specs.Laying.{squeezed, trimmed, is_empty_line, spaced, has_empty_line, leading_as, leading, header_leading}
 use Rattle.toml_edit_fmt_laws.specs.Laying.{final_as, final_text, rest_after, line_rest}
 use Rattle.toml_edit_fmt_laws.specs.Formatted.{untouched, layout_by, array_layout, inline_layout, has_broken_elements, has_broken_pairs}
@@ -30,37 +30,53 @@ joined-lines (c ∷ t) =
           ∙ ap (λ u. c ∷ u) (joined-lines t)
     ]
 
-module _ (r : Rules) (off : IsOff r) where
+-- ---- rule by rule
+
+module _ (r : Rules) (empty : r.empty_lines ≡ false) (lines_stay : r.indentation ≡ as_it_is) where
   spaced-off : (s e : Bool) (ls : List Text) → spaced r s e ls ≡ ls
   spaced-off s e ls =
       ap (λ b. if b then (if e then trimmed is_empty_line (squeezed is_empty_line (not s) ls)
-      else squeezed is_empty_line (not s) ls) else ls) off.empty_lines
+      else squeezed is_empty_line (not s) ls) else ls) empty
 
-  leading-off : (s : Bool) (i t : Text) → leading r s i t ≡ t
+  pub leading-off : (s : Bool) (i t : Text) → leading r s i t ≡ t
   leading-off s i t =
-      ap (λ k. leading_as k r s i t) off.indentation ∙ ap joined (spaced-off s false (lines t)) ∙ joined-lines t
+      ap (λ k. leading_as k r s i t) lines_stay ∙ ap joined (spaced-off s false (lines t)) ∙ joined-lines t
 
-  header-off : (s : Bool) (i t : Text) → header_leading r s i t ≡ t
+  pub header-off : (s : Bool) (i t : Text) → header_leading r s i t ≡ t
   header-off s i t =
       ap (λ b. if b && not (s || has_empty_line (leading r s i t)) then made_newline r ++ leading r s i t else leading r s i t)
-      off.empty_lines
+      empty
       ∙ leading-off s i t
 
-  final-off : (s : Bool) (t : Text) → final_text r s t ≡ t
-  final-off s t = ap (λ k. final_as k r s t) off.indentation ∙ ap joined (spaced-off s true (lines t)) ∙ joined-lines t
+  pub final-off : (s : Bool) (t : Text) → final_text r s t ≡ t
+  final-off s t = ap (λ k. final_as k r s t) lines_stay ∙ ap joined (spaced-off s true (lines t)) ∙ joined-lines t
 
-  rest-off : (t : Text) → line_rest r t ≡ t
-  rest-off t = ap (λ n. rest_after n t) off.before_comment
+module _ (r : Rules) where
+  pub rest-off : r.before_comment ≡ None → (t : Text) → line_rest r t ≡ t
+  rest-off off t = ap (λ n. rest_after n t) off
 
-  segment-off : (s : Segment) → laid_segment r s ≡ s
-  segment-off s = ap (λ b. if b then record s { before = []; after = [] } else s) off.dots
+  pub equals-off : r.equals ≡ false → (t : Text) → beside_equals r t ≡ t
+  equals-off off t = ap (λ b. if b then one_space else t) off
 
+  pub dots-off : r.dots ≡ false → (t : Text) → (if r.dots then [] else t) ≡ t
+  dots-off off t = ap (λ b. if b then [] else t) off
+
+  pub segment-off : r.dots ≡ false → (s : Segment) → laid_segment r s ≡ s
+  segment-off off s = ap (λ b. if b then record s { before = []; after = [] } else s) off
+
+  pub array-off : r.arrays ≡ false → (room : Option ℕ) (es : Elements) (t : Text) → array_layout r room es t ≡ untouched
+  array-off off room es t =
+      ap (λ b. layout_by b (has_elements es) (has_broken_elements es || is_too_wide r room (2 + elements_width es)) t) off
+
+  pub inline-off : r.inline_tables ≡ false → (ps : Pairs) (t : Text) → inline_layout r ps t ≡ untouched
+  inline-off off ps t = ap (λ b. layout_by b (has_pairs ps) (has_broken_pairs ps) t) off
+
+-- ---- no rule
+
+module _ (r : Rules) (off : IsOff r) where
   path-off : (p : List Segment) → laid_path r p ≡ p
   path-off [] = refl
-  path-off (s ∷ p) = ap (λ t. t ∷ laid_path r p) (segment-off s) ∙ ap (λ q. s ∷ q) (path-off p)
-
-  equals-off : (t : Text) → beside_equals r t ≡ t
-  equals-off t = ap (λ b. if b then one_space else t) off.equals
+  path-off (s ∷ p) = ap (λ t. t ∷ laid_path r p) (segment-off r off.dots s) ∙ ap (λ q. s ∷ q) (path-off p)
 
   frame-off : (f : Frame) (b a : Text) → b ≡ f.leading → a ≡ f.trailing → laid_frame r b a f ≡ f
   frame-off f b a e g =
@@ -76,26 +92,19 @@ module _ (r : Rules) (off : IsOff r) where
         before_equals = beside_equals r f.before_equals;
         after_equals = beside_equals r f.after_equals;
       }) (path-off f.path)
-      ∙ ap (λ u. record f { before_equals = u; after_equals = beside_equals r f.after_equals }) (equals-off f.before_equals)
-      ∙ ap (λ u. record f { after_equals = u }) (equals-off f.after_equals)
-
-  array-off : (room : Option ℕ) (es : Elements) (t : Text) → array_layout r room es t ≡ untouched
-  array-off room es t =
-      ap (λ b. layout_by b (has_elements es) (has_broken_elements es || is_too_wide r room (2 + elements_width es)) t) off.arrays
-
-  inline-off : (ps : Pairs) (t : Text) → inline_layout r ps t ≡ untouched
-  inline-off ps t = ap (λ b. layout_by b (has_pairs ps) (has_broken_pairs ps) t) off.inline_tables
+      ∙ ap (λ u. record f { before_equals = u; after_equals = beside_equals r f.after_equals }) (equals-off r off.equals f.before_equals)
+      ∙ ap (λ u. record f { after_equals = u }) (equals-off r off.equals f.after_equals)
 
   mutual
     value-off : (i : Text) (room : Option ℕ) (v : Value) → laid_value r i room v ≡ v
     value-off i room (scalar s t) = refl
     value-off i room (array es comma t) =
         ap (λ l. array (laid_elements r l i comma true es) (laid_comma l (has_elements es) comma)
-        (before_bracket r l (has_elements es) i (last_after comma es) t)) (array-off room es t)
+        (before_bracket r l (has_elements es) i (last_after comma es) t)) (array-off r off.arrays room es t)
         ∙ ap (λ xs. array xs comma t) (elements-off i comma true es)
     value-off i room (inline_table ps comma t) =
         ap (λ l. inline_table (laid_pairs r l i comma true ps) (laid_comma l (has_pairs ps) comma)
-        (before_bracket r l (has_pairs ps) i (last_trailing comma ps) t)) (inline-off ps t)
+        (before_bracket r l (has_pairs ps) i (last_trailing comma ps) t)) (inline-off r off.inline_tables ps t)
         ∙ ap (λ xs. inline_table xs comma t) (pairs-off i comma true ps)
 
     elements-off : (i : Text) (comma first : Bool) (es : Elements) → laid_elements r untouched i comma first es ≡ es
@@ -111,14 +120,11 @@ module _ (r : Rules) (off : IsOff r) where
         ∙ ap (λ x. pair f x (laid_pairs r untouched i comma false ps)) (value-off i None v)
         ∙ ap (pair f v) (pairs-off i comma false ps)
 
-  dots-off : (t : Text) → (if r.dots then [] else t) ≡ t
-  dots-off t = ap (λ b. if b then [] else t) off.dots
-
   statement-off : (s : Bool) (keys : ℕ) (st : Statement) → laid_statement r s keys st ≡ st
   statement-off s keys (key_line f v end) =
       let i = line_indent r keys in
       ap (λ g. key_line g (laid_value r i (Some (used_before i f)) v) end)
-      (frame-off f (leading r s i f.leading) (line_rest r f.trailing) (leading-off s i f.leading) (rest-off f.trailing))
+      (frame-off f (leading r s i f.leading) (line_rest r f.trailing) (leading-off r off.empty_lines off.indentation s i f.leading) (rest-off r off.before_comment f.trailing))
       ∙ ap (λ x. key_line f x end) (value-off i (Some (used_before i f)) v)
   statement-off s keys (header x end) =
       let i = header_indent r (length x.path) in
@@ -129,20 +135,20 @@ module _ (r : Rules) (off : IsOff r) where
         path = laid_path r x.path;
         closing = if r.dots then [] else x.closing;
         trailing = line_rest r x.trailing;
-      }) end) (header-off s i x.leading)
+      }) end) (header-off r off.empty_lines off.indentation s i x.leading)
       ∙ ap (λ u. header (record x {
         opening = u;
         path = laid_path r x.path;
         closing = if r.dots then [] else x.closing;
         trailing = line_rest r x.trailing;
-      }) end) (dots-off x.opening)
+      }) end) (dots-off r off.dots x.opening)
       ∙ ap (λ u. header (record x {
         path = u;
         closing = if r.dots then [] else x.closing;
         trailing = line_rest r x.trailing;
       }) end) (path-off x.path)
-      ∙ ap (λ u. header (record x { closing = u; trailing = line_rest r x.trailing }) end) (dots-off x.closing)
-      ∙ ap (λ u. header (record x { trailing = u }) end) (rest-off x.trailing)
+      ∙ ap (λ u. header (record x { closing = u; trailing = line_rest r x.trailing }) end) (dots-off r off.dots x.closing)
+      ∙ ap (λ u. header (record x { trailing = u }) end) (rest-off r off.before_comment x.trailing)
 
   statements-off : (s : Bool) (keys : ℕ) (ss : List Statement) → laid_statements r s keys ss ≡ ss
   statements-off s keys [] = refl
@@ -153,4 +159,4 @@ module _ (r : Rules) (off : IsOff r) where
 pub off_changes_nothing : OffChangesNothing
 off_changes_nothing r off d =
     ap (λ ss. record d { statements = ss; final = final_text r (is_empty d.statements) d.final }) (statements-off r off true 0 d.statements)
-    ∙ ap (λ t. record d { final = t }) (final-off r off (is_empty d.statements) d.final)
+    ∙ ap (λ t. record d { final = t }) (final-off r off.empty_lines off.indentation (is_empty d.statements) d.final)

@@ -17,12 +17,14 @@ use Rattle.toml_edit_laws.proofs.print_meaning.ReparseLaws.{prints-mean-what-is-
 use Rattle.toml_edit_laws.proofs.print_of_read.PrintOfRead.{open-end-final, printed_normal}
 use Rattle.toml_edit_fmt_laws.specs.Formatted.{laid_document}
 use Rattle.toml_edit_fmt_laws.specs.FormattedTree.{formatted}
+use Rattle.toml_edit_fmt_laws.specs.Places.{KeepsPlaces}
 use Rattle.toml_edit_fmt_laws.specs.Promises.{IsFormattedText}
 use Rattle.toml_edit_fmt_laws.specs.Remarks.{remarks}
 use Rattle.toml_edit_fmt_laws.specs.TreeLaws.{FormattedPrints, ReadLaysOut, ReadMayBeOpen, FormattedTextPrints}
 use Rattle.toml_edit_fmt_laws.proofs.Accepts.{accepted_alike}
 use Rattle.toml_edit_fmt_laws.proofs.Again.{formatted_again}
 use Rattle.toml_edit_fmt_laws.proofs.Grammar.{stays_document}
+use Rattle.toml_edit_fmt_laws.proofs.LinesKept.{formatted_keeps_places}
 use Rattle.toml_edit_fmt_laws.proofs.Means.{means_the_same}
 use Rattle.toml_edit_fmt_laws.proofs.PrintsLaid.{prints_laid}
 use Rattle.toml_edit_fmt_laws.proofs.ReadDecors.{read-lays_out}
@@ -41,6 +43,7 @@ formatted_prints mode r newlines o t fits lays ends =
       );
       means = subst (λ fs. SameFacts fs (shown_meaning t)) (sym (ap meaning e ∙ means_the_same r d)) (prints-mean-what-is-shown mode o t fits);
       comments = ap remarks e ∙ keeps_remarks r d cut.0;
+      places = subst (KeepsPlaces r d) (sym e) (formatted_keeps_places r d cut.0);
       again = ap (laid_document r) e ∙ formatted_again r d cut.0 ∙ sym e;
     }
 
@@ -62,6 +65,7 @@ formatted_text_prints mode r newlines text d h t is =
       document = whole;
       text = said;
       comments = keeps_remarks r (normal_in mode d) in_grammar;
+      places = formatted_keeps_places r (normal_in mode d) in_grammar;
       form = form;
       again = λ f u cut tree.
           let cut_too : IsCut f (document_text e) = subst (IsCut f) said cut in

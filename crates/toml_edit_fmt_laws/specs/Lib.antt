@@ -5,6 +5,7 @@ pub mod Formatted
 pub mod Remarks
 pub mod Promises
 pub mod FormattedTree
+pub mod Places
 pub mod TreeLaws
 -- Worked examples: nothing cites them.
 pub mod examples

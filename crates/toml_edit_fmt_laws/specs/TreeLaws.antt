@@ -17,6 +17,7 @@ use Rattle.toml_edit_laws.specs.AcceptedPrints.{IsFitting}
 use Rattle.toml_edit_fmt_laws.specs.Rules.{Rules}
 use Rattle.toml_edit_fmt_laws.specs.Formatted.{laid_document}
 use Rattle.toml_edit_fmt_laws.specs.FormattedTree.{formatted}
+use Rattle.toml_edit_fmt_laws.specs.Places.{KeepsPlaces}
 use Rattle.toml_edit_fmt_laws.specs.Promises.{ShowsNewlines, IsFormattedText}
 use Rattle.toml_edit_fmt_laws.specs.Remarks.{remarks}
 
@@ -75,6 +76,8 @@ pub record PrintsFormatted (mode : Mode) (r : Rules) (is_open : Bool) (t : Tree)
   pub means : SameFacts (meaning (document_in mode is_open (formatted r t))) (shown_meaning t)
   -- the comments are those of the print, each with what it belongs to
   pub comments : remarks (document_in mode is_open (formatted r t)) ≡ remarks (document_in mode is_open t)
+  -- places stay that no rule asked for is about
+  pub places : KeepsPlaces r (document_in mode is_open t) (document_in mode is_open (formatted r t))
   -- laid out again it stays
   pub again : laid_document r (document_in mode is_open (formatted r t)) ≡ document_in mode is_open (formatted r t)
 
@@ -107,6 +110,8 @@ pub record PrintsFormattedText (mode : Mode) (r : Rules) (d : Document) (t : Tre
   -- belongs to
   pub form : IsFormattedText mode r d (laid_document r (normal_in mode d))
   pub comments : remarks (laid_document r (normal_in mode d)) ≡ remarks (normal_in mode d)
+  -- places stay that no rule asked for is about
+  pub places : KeepsPlaces r (normal_in mode d) (laid_document r (normal_in mode d))
   -- read and formatted again it stays, byte for byte
   pub again : (e : Document) (u : Tree) → IsCut e (formatted_text mode r d t) → IsTreeOf (owned_in mode) e u
       → formatted_text mode r e u ≡ formatted_text mode r d t

@@ -1,4 +1,5 @@
--- Worked layouts of places, of documents with their comments, and of trees.
+-- Worked layouts of places, of documents with their comments, of trees, and of what rules leave.
 pub mod Places
 pub mod Documents
 pub mod Trees
+pub mod PlacedTexts
