@@ -15,6 +15,7 @@ mod Off
 mod PlacedAll
 mod PlacesKept
 mod LinesKept
+mod OneLine
 mod Shown
 mod Tags
 mod Settled

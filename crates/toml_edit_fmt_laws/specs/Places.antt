@@ -1,13 +1,14 @@
 -- The places of a document: which rules are about each, and what stays there.
-use Rattle.std.specs.Prelude.{◌≡◌, Bool, true, false, not, List, [], ◌∷◌, ◌++◌, codes, filter, flat_map, map, is_none}
+use Rattle.std.specs.Prelude.{◌≡◌, ℕ, Bool, true, false, not, ◌&&◌, List, [], ◌∷◌, ◌++◌, codes, filter, flat_map, map, Option, None, is_none}
+use Rattle.std.specs.List.{list_all}
 use Rattle.toml_edit_model.specs.Comments.{lines, words}
 use Rattle.toml_edit_model.specs.Syntax.{Segment, Frame, Value, scalar, array, inline_table, Elements, no_elements, element, Pairs}
-use Rattle.toml_edit_model.specs.Syntax.{no_pairs, pair, Header, Statement, key_line, header, Document, IsDocument, has_elements, has_pairs}
+use Rattle.toml_edit_model.specs.Syntax.{no_pairs, pair, Header, Statement, key_line, header, Document, IsDocument, IsValue, has_elements, has_pairs}
 use Rattle.toml_edit_model.specs.Syntax.{comma_text, opening_brackets, closing_brackets, mark_text, document_text}
 use Rattle.toml_edit_model.specs.Text.{Text, one, joined}
 use Rattle.toml_edit_fmt_laws.specs.Rules.{Rules, as_it_is}
-use Rattle.toml_edit_fmt_laws.specs.Laying.{is_empty_line}
-use Rattle.toml_edit_fmt_laws.specs.Formatted.{laid_document}
+use Rattle.toml_edit_fmt_laws.specs.Laying.{is_broken, is_empty_line}
+use Rattle.toml_edit_fmt_laws.specs.Formatted.{laid_value, laid_document}
 use Rattle.toml_edit_fmt_laws.specs.FormattedTree.{lays_lines}
 
 -- ---- the texts of a document, each with its place
@@ -158,3 +159,20 @@ pub record KeepsPlaces (r : Rules) (old new : Document) : Type 0 where
 -- So it is of a formatted document.
 abbrev pub FormattedKeepsPlaces : Type 0
 FormattedKeepsPlaces = (r : Rules) (d : Document) → IsDocument d → KeepsPlaces r d (laid_document r d)
+
+-- ---- lines of values
+
+abbrev pub is_inside : Place → Bool
+is_inside in_arrays = true
+is_inside in_inline_tables = true
+is_inside _ = false
+
+-- No line ends between the brackets of the value.
+abbrev pub is_on_one_line : Value → Bool
+is_on_one_line v = list_all (λ p. not (is_inside p.place && is_broken p.text)) (value_texts v)
+
+-- It stays so where there is no greatest width.
+abbrev pub StaysOnOneLine : Type 0
+StaysOnOneLine =
+    (r : Rules) → r.width ≡ None → (indent : Text) (room : Option ℕ) (v : Value) → IsValue v
+    → is_on_one_line v ≡ true → is_on_one_line (laid_value r indent room v) ≡ true

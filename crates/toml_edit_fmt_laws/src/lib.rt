@@ -3,7 +3,7 @@
 #![tactic(auto)]
 
 ghost use Rattle.toml_edit_fmt_laws.specs.TreeLaws.{FormattedFits, FormattedLaysOut, FormattedPrints, FormattedTextPrints, FormattedTwice, PrintsLaid, ReadLaysOut, ReadMayBeOpen, ShowsTheSame, StaysMade};
-ghost use Rattle.toml_edit_fmt_laws.specs.Places.{FormattedKeepsPlaces, PlacedTextsAreAll};
+ghost use Rattle.toml_edit_fmt_laws.specs.Places.{FormattedKeepsPlaces, PlacedTextsAreAll, StaysOnOneLine};
 ghost use Rattle.toml_edit_fmt_laws.specs.Promises.{AcceptedAlike, FormattedAgain, FormattedTextAgain, KeepsRemarks, MeansTheSame, OffChangesNothing, PlacesAreLaid, StaysDocument, StaysSettled};
 
 /// A formatted document means what the document means, and is accepted where that is. It has the
@@ -26,10 +26,12 @@ pub fn layouts()
 /// Keys and values of a formatted document are spelled as they were, whatever the rules, and at
 /// places that no rule asked for is about its text stays. Without the rule for empty lines, no line
 /// before a statement or at the end comes or goes. Without indentation, each that is not empty keeps
-/// its white space. Such places make up the whole text.
+/// its white space. With no greatest width, a value on one line stays on one line. Such places make
+/// up the whole text.
 pub fn formatted_places()
     ensures whole { PlacedTextsAreAll }
     ensures kept { FormattedKeepsPlaces }
+    ensures one_line { StaysOnOneLine }
 {}
 
 /// What is formatted of the normal form of an accepted text is accepted, means the same and is

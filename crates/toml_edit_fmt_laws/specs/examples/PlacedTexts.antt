@@ -1,13 +1,13 @@
 -- A worked document with its placed texts, and what rules leave of them.
 use Rattle.std.specs.Prelude.{◌≡◌, refl, pos, true, false, [], ◌∷◌, codes, map}
-use Rattle.toml_edit_model.specs.Scalars.{integer}
+use Rattle.toml_edit_model.specs.Scalars.{integer, string}
 use Rattle.toml_edit_model.specs.Syntax.{Segment, Value, scalar, array, no_elements, element, key_line, header, Document, document_text}
 use Rattle.toml_edit_model.specs.Text.{Text, newline}
 use Rattle.toml_edit_fmt_laws.specs.Rules.{flush, default_rules, no_rules}
 use Rattle.toml_edit_fmt_laws.specs.Formatted.{laid_document}
 use Rattle.toml_edit_fmt_laws.specs.Places.{Place, punctuation, key_spelling, value_spelling, at_equals, at_dots, before_statements, after_statements}
 use Rattle.toml_edit_fmt_laws.specs.Places.{line_ends, in_arrays, in_inline_tables, PlacedText, placed_texts, is_left}
-use Rattle.toml_edit_fmt_laws.specs.Places.{key_spellings, value_spellings, leading_texts, unindented, full_lines}
+use Rattle.toml_edit_fmt_laws.specs.Places.{key_spellings, value_spellings, leading_texts, unindented, full_lines, is_on_one_line}
 
 abbrev key_part : Text → Text → Text → Segment
 key_part before k after = record { before = before; key = k; spelled = k; after = after }
@@ -133,3 +133,21 @@ moved_texts = refl
 -- one goes, and none is moved
 spaced_texts : leading_texts (laid_document (record no_rules { empty_lines = true }) read) ≡ codes "# a\n " ∷ codes "\n " ∷ codes " " ∷ []
 spaced_texts = refl
+
+-- ---- lines of values
+
+abbrev array_with : Text → Value → Value
+array_with after v = array (element (record { before = []; after = after }) v no_elements) false []
+
+one_line : is_on_one_line (array_with (codes " ") one_value) ≡ true
+one_line = refl
+
+two_lines : is_on_one_line (array_with newline one_value) ≡ false
+two_lines = refl
+
+inner_lines : is_on_one_line (array_with [] (array_with newline one_value)) ≡ false
+inner_lines = refl
+
+-- lines of a string are none between brackets
+string_lines : is_on_one_line (array_with [] (scalar (string newline) (codes "'''\n\n'''"))) ≡ true
+string_lines = refl
