@@ -12,6 +12,7 @@ use Rattle.toml_edit_laws.specs.AcceptedPrints.{IsFitting}
 use Rattle.toml_edit.specs.DocumentView.{IsPrintedAs, mode_owned, open_owned, print_of, tree_owned}
 use Rattle.toml_edit.specs.declared.document.DocumentMut.{DocumentMut}
 use Rattle.toml_edit_fmt_laws.specs.FormattedTree.{formatted}
+use Rattle.toml_edit_fmt_laws.specs.Places.{KeepsPlaces}
 use Rattle.toml_edit_fmt_laws.specs.Remarks.{remarks}
 use Rattle.toml_edit_fmt_laws.specs.Rules.{Rules}
 use Rattle.toml_edit_fmt_laws.specs.TreeLaws.{FormattedFits, FormattedPrints, FormattedTwice, PrintsFormatted, ReadLaysOut, ReadMayBeOpen, ShowsTheSame}
@@ -53,6 +54,7 @@ module _ (r : Rules) (old new : DocumentMut) (tree : tree_owned new ≡ formatte
         accepted = subst (λ s. AcceptedAs s (printed new)) (sym texts) accepted;
         means = subst (λ d. SameFacts (meaning d) (shown_meaning t)) (sym documents) p.means;
         comments = ap remarks documents ∙ p.comments;
+        places = subst (KeepsPlaces r (printed old)) (sym documents) p.places;
         again = twice ∙ again m r newlines o t may.fitting may.lays_out may.ends ∙ sym documents;
       }
 

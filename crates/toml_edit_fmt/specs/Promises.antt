@@ -15,6 +15,7 @@ use Rattle.toml_edit.specs.DocumentView.{mode_owned, open_owned, print_of, tree_
 use Rattle.toml_edit.specs.Documents.{IsOwnedReadingIn}
 use Rattle.toml_edit.specs.declared.document.DocumentMut.{DocumentMut}
 use Rattle.toml_edit_fmt_laws.specs.FormattedTree.{formatted}
+use Rattle.toml_edit_fmt_laws.specs.Places.{KeepsPlaces}
 use Rattle.toml_edit_fmt_laws.specs.Promises.{ShowsNewlines}
 use Rattle.toml_edit_fmt_laws.specs.Remarks.{remarks}
 use Rattle.toml_edit_fmt_laws.specs.Rules.{Rules}
@@ -45,6 +46,8 @@ pub record IsFormatted (r : Rules) (old new : DocumentMut) : Type 0 where
   pub means : SameFacts (meaning (printed new)) (shown_meaning (tree_owned old))
   -- the comments are those of the old print, in the same order, each with what it belongs to
   pub comments : remarks (printed new) ≡ remarks (printed old)
+  -- keys and values are spelled as they were, and places stay that no rule asked for is about
+  pub places : KeepsPlaces r (printed old) (printed new)
   -- formatted again it prints the same
   pub again : document_in (mode_owned new) (open_owned new) (formatted r (tree_owned new)) ≡ printed new
 

@@ -4,5 +4,6 @@
 //! alone.
 
 pub use toml_edit_fmt_laws::{
-    formatted, formatted_prints, formatted_reads, formatted_texts, formatted_trees, layouts,
+    formatted, formatted_places, formatted_prints, formatted_reads, formatted_texts,
+    formatted_trees, layouts,
 };

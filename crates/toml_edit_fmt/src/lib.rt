@@ -36,8 +36,9 @@ use toml_edit_repr::{Mem, RawString};
 /// Returns the document formatted by the rules.
 ///
 /// It means the same. A document that was read fits again, has the same comments in the same order,
-/// each with what it belongs to, and formatted again it stays. So does an edited one that may be
-/// formatted, as [`readings`] says of those that were read. Other promises are [`laws`].
+/// each with what it belongs to, and formatted again it stays. Keys and values are spelled as they
+/// were, and the text stays at places that no rule asked for is about. So it is of an edited one that
+/// may be formatted, as [`readings`] says of those that were read. Other promises are [`laws`].
 ///
 /// # Errors
 ///
