@@ -1,12 +1,12 @@
 -- What edits leave of the printed statements of a steady tree: those at paths that they don't name.
-use Rattle.std.specs.Prelude.{◌≡◌, ◌⊎◌, true, false, List, [], ◌∷◌, ◌++◌, map, string_bytes, None, Some, Ok, Result, Err}
+use Rattle.std.specs.Prelude.{◌≡◌, ◌⊎◌, true, false, List, [], ◌∷◌, ◌++◌, map, string_bytes, IsPermutation, None, Some, Ok, Result, Err}
 use Rattle.toml_edit_model.specs.Fits.{FitsIn, is_steady_in}
 use Rattle.toml_edit_model.specs.HeaderOrder.{Visit}
 use Rattle.toml_edit_model.specs.Keys.{names}
 use Rattle.toml_edit_model.specs.Lists.{slot_list}
 use Rattle.toml_edit_model.specs.Mode.{Mode}
 use Rattle.toml_edit_model.specs.Paths.{Path, to_key}
-use Rattle.toml_edit_model.specs.Print.{lines_of}
+use Rattle.toml_edit_model.specs.Print.{lines_of, printed}
 use Rattle.toml_edit_model.specs.Slots.{lookup_slot}
 use Rattle.toml_edit_model.specs.Text.{Text, is_empty, one}
 use Rattle.toml_edit_model.specs.Tree.{ArrayFields, IsWellMade, Items, Key, Node, SlotsAreWellMade, Tree, is_value_node, list}
@@ -50,6 +50,18 @@ where_done go (Err f) = []
 abbrev pub places_of : List Edit → Tree → List Path
 places_of [] t = []
 places_of (e ∷ es) t = map (place_of t) (paths_of e) ++ where_done (places_of es) (effect e t)
+
+-- ---- which edits are sorts
+
+-- a sort of a table that its path names
+abbrev pub IsSort : Edit → Tree → Type 0
+IsSort (edits.Sort path) t = (v : Visit) × NamesTable t (names path.items) v
+IsSort _ t = ⊥
+
+-- so is each of edits, in the tree that those before it left
+abbrev pub AreSorts : List Edit → Tree → Type 0
+AreSorts [] t = Unit {0}
+AreSorts (e ∷ es) t = IsSort e t × ((u : Tree) → effect e t ≡ Ok u → AreSorts es u)
 
 -- ---- which edits leave a steady tree
 
@@ -119,10 +131,12 @@ module _ (mode : Mode) where
   -- ---- what they leave
 
   -- All statements stay, byte for byte and in their order, but those at the places of the edits, and
-  -- below them. After harmless edits a tree that fitted fits.
+  -- below them. After harmless edits a tree that fitted fits. After sorts of tables all statements
+  -- are there, in another order.
   pub record StayElsewhere (es : List Edit) (t u : Tree) (local : AreLocal es t) : Type 0 where
     pub stays : StaysButAt mode (places_of es t) t u
     pub fits : FitsIn mode t → AreHarmless es t local → FitsIn mode u
+    pub sorts : AreSorts es t → IsPermutation (printed mode t) (printed mode u)
 
   -- So it is where such edits are made in a steady tree.
   abbrev pub OthersStay : List Edit → Tree → Tree → Type 0

@@ -14,7 +14,8 @@ pub fn lines_stay()
 
 /// Edits that are made in a steady tree, one after another, leave all statements as they were, byte
 /// for byte and in their order, but those at the places of the edits, and below them. The tree is
-/// steady again, and after harmless edits one that fitted fits.
+/// steady again, and after harmless edits one that fitted fits. After sorts of tables it prints the
+/// same statements, in another order.
 ///
 /// A value is put where one is, in one, or under a new key of the root, of a table with a printed
 /// header or of one that has lines. A key is moved below its own table, or with a value to such a

@@ -1,11 +1,13 @@
 -- What each edit leaves, and edits one after another.
 use Rattle.std.proofs.Common.{◌≡◌, sym, ◌∙◌, ap, subst, true, List, [], ◌∷◌, ◌++◌, take, Option, Some, None}
-use Rattle.std.specs.Prelude.{Err, Ok, OnOk, Result, length, map, option_map, string_bytes}
+use Rattle.std.specs.Prelude.{Err, IsPermutation, Ok, OnOk, Result, length, map, option_map, string_bytes}
 use Rattle.std.specs.Option.{ok_or}
+use Rattle.std.proofs.lemmas.List.Sorted.{IsPermutation-refl, IsPermutation-trans}
 use Rattle.toml_edit_model.specs.Fits.{FitsIn, is_steady_in}
 use Rattle.toml_edit_model.specs.Keys.{names}
 use Rattle.toml_edit_model.specs.Mode.{Mode}
 use Rattle.toml_edit_model.specs.Paths.{Path}
+use Rattle.toml_edit_model.specs.Print.{printed}
 use Rattle.toml_edit_model.specs.Text.{Text}
 use Rattle.toml_edit_model.specs.Tree.{IsWellMade, ItemsAreWellMade, Node, SlotsAreWellMade, Tree}
 use Rattle.toml_edit_edit_laws.specs.Commands.{set_at}
@@ -19,7 +21,7 @@ use Rattle.toml_edit_tree.specs.View.{value_view}
 use Rattle.toml_edit_script.specs.Effects as effects
 use Rattle.toml_edit_script.specs.Effects.{array_set, first_same, in_order, inserted_before, on_table, place_up_to, renamed, slots_renamed, values_of, with_comment}
 use Rattle.toml_edit_script.specs.Lists.{Applies, applied, effect, made_of}
-use Rattle.toml_edit_script.specs.OthersStay.{AppliedStay, IsLocal, OthersStay, paths_of, places_of, where_done}
+use Rattle.toml_edit_script.specs.OthersStay.{AppliedStay, IsLocal, IsSort, OthersStay, paths_of, places_of, where_done}
 use Rattle.toml_edit_script.specs.Places.{place_of}
 use Rattle.toml_edit_script.specs.Outcomes.{Makes, and_then}
 use Rattle.toml_edit_script.specs.declared.edit.Edit.{Edit}
@@ -36,7 +38,7 @@ use Rattle.toml_edit_script.proofs.staying.Fitting.{one-fits}
 use Rattle.toml_edit_script.proofs.staying.Effects.{at-end-was, last-is, was-changed, was-commented, was-sorted}
 use Rattle.toml_edit_script.proofs.staying.Removals.{line-removal-stays}
 use Rattle.toml_edit_script.proofs.staying.Sets.{header-stays, set-stays}
-use Rattle.toml_edit_script.proofs.staying.Sorting.{sorted-stays}
+use Rattle.toml_edit_script.proofs.staying.Sorting.{sort-rearranges, sorted-stays}
 
 -- ---- arrays
 
@@ -109,12 +111,18 @@ module _ (mode : Mode) (t u : Tree) (made : SlotsAreWellMade t.slots) (steady : 
       commented-stays mode t u (names path.items) x.old x.new (effects.body_of (string_bytes text)) made steady x.there
       (was-commented (string_bytes text) x.old x.new x.goes) x.put
 
+  -- a sort of a table
+  one-sorts : (e : Edit) → IsSort e t → effect e t ≡ Ok u → IsPermutation (printed mode t) (printed mode u)
+  one-sorts (edits.Sort path) sort h = sort-rearranges mode t u (names path.items) sort.0 made steady sort.1 h
+  one-sorts _ sort h = absurd sort
+
 pub applied-stay : (mode : Mode) → AppliedStay mode
 applied-stay mode [] t u h made steady local =
     let same : t ≡ u = let e : ◌≡◌ {A = Result Tree EditFault} (Ok t) (Ok u) = h in cc in
     record {
       stays = subst (StaysButAt mode [] t) same (nothing_changes mode t made steady);
       fits = λ fits harmless. subst (λ (x : Tree). FitsIn mode x) same fits;
+      sorts = λ sorts. subst (λ (x : Tree). IsPermutation (printed mode t) (printed mode x)) same (IsPermutation-refl (printed mode t));
     }
 applied-stay mode (e ∷ es) t u h made steady local =
     let x = went (applied es) (effect e t) u h in
@@ -127,6 +135,9 @@ applied-stay mode (e ∷ es) t u h made steady local =
           (one_after_another mode ps (places_of es w) t w u s rest.stays);
       fits = λ fits harmless.
           rest.fits (one-fits mode t w made steady e local.0 x.1 fits harmless.0) (harmless.1 w x.1);
+      sorts = λ sorts.
+          IsPermutation-trans (printed mode t) (printed mode w) (printed mode u) (one-sorts mode t w made steady e sorts.0 x.1)
+          (rest.sorts (sorts.1 w x.1));
     }
 
 -- ---- where they are made

@@ -1,6 +1,7 @@
--- A table in order of its keys: a list of moves.
-use Rattle.std.proofs.Common.{◌≡◌, refl, sym, ◌∙◌, ap, subst, ℕ, Bool, true, false, List, [], ◌∷◌, ◌++◌, append_assoc, append-nil, length, Some, inl, inr}
-use Rattle.std.specs.Prelude.{◌⊎◌, if◌then◌else◌, not}
+-- A table in order of its keys: a list of moves. All statements stay but those below it, which are in another order.
+use Rattle.std.proofs.Common.{◌≡◌, refl, sym, ◌∙◌, ap, subst, ℕ, Bool, true, false, List, [], ◌∷◌, ◌++◌, append_assoc, append-nil, length, Option, Some, None, inl, inr}
+use Rattle.std.specs.Prelude.{◌⊎◌, if◌then◌else◌, not, IsPermutation, Ok}
+use Rattle.std.proofs.lemmas.List.Sorted.{IsPermutation-filter_both, IsPermutation-refl, IsPermutation-sym, IsPermutation-trans}
 use Rattle.toml_edit_model.specs.Mode.{Mode}
 use Rattle.toml_edit_model.specs.Fits.{is_steady_in}
 use Rattle.toml_edit_model.specs.HeaderOrder.{Visit, visit_of}
@@ -12,8 +13,8 @@ use Rattle.toml_edit_model.specs.Slots.{Slot, changed, keyed, lookup_slot, on_it
 use Rattle.toml_edit_model.specs.Sorting.{sorted_item, sorted_slots}
 use Rattle.toml_edit_model.specs.Text.{Text}
 use Rattle.toml_edit_model.specs.Tree.{IsWellMade, Key, Node, Slots, SlotsAreWellMade, TableFields, Tree, inline, leaf, list, no_slots, nothing, slot, table, tables}
-use Rattle.toml_edit_laws.specs.Locality.{Leads, Turn, along, edited, into_element, into_table, is_at_or_below, root_visit}
-use Rattle.toml_edit_laws.proofs.common.PathLaws.{front-more, front-through, is_front}
+use Rattle.toml_edit_laws.specs.Locality.{Leads, Turn, along, edited, into_element, into_table, is_at_or_below, outside, root_visit}
+use Rattle.toml_edit_laws.proofs.common.PathLaws.{front-more, front-refl, front-through, is_front}
 use Rattle.toml_edit_laws.proofs.common.Tests.{if-false}
 use Rattle.toml_edit_laws.proofs.locality.Slots.{HaveOtherKeys, slot_list-from, slots_from-list, slots_under}
 use Rattle.toml_edit_laws.proofs.locality.Sound.{leads-made}
@@ -21,10 +22,16 @@ use Rattle.toml_edit_laws.proofs.locality.Twice.{edited-twice, leads-edited, wit
 use Rattle.toml_edit_laws.proofs.locality.Under.{front-is}
 use Rattle.toml_edit_edit_laws.specs.Commands.{done, item_at, root_item}
 use Rattle.toml_edit_edit_laws.specs.CommandLaws.{NamesTable}
+use Rattle.toml_edit_edit_laws.specs.Placing.{inside}
 use Rattle.toml_edit_edit_laws.specs.Staying.{StaysButAt}
+use Rattle.toml_edit_edit_laws.proofs.commands.Going.{item-along}
 use Rattle.toml_edit_edit_laws.proofs.path_calls.Staying.{move_stays}
+use Rattle.toml_edit_edit_laws.proofs.placing.Inside.{moved_inside}
+use Rattle.toml_edit_edit_laws.proofs.placing.Moving.{moved_others}
 use Rattle.toml_edit_edit_laws.proofs.renaming.Along.{edited-same, edited-stays}
-use Rattle.toml_edit_paths.specs.Calls.{replaced_at}
+use Rattle.toml_edit_paths.specs.Calls.{item_inside, replaced_at}
+use Rattle.toml_edit_script.specs.Effects.{in_order, sorted}
+use Rattle.toml_edit_script.proofs.staying.Effects.{WasChanged, was-changed, was-sorted}
 use Rattle.toml_edit_script.proofs.staying.Words.{IsSorted, SortedStays, StaysAt}
 use Rattle.toml_edit_script.proofs.staying.Below.{below-made}
 use Rattle.toml_edit_script.proofs.staying.Comments.{apart, made-so, within-at}
@@ -62,23 +69,46 @@ along-join (into_element k i ∷ way) more g =
     ap (λ h. along (into_element k i ∷ []) h) (along-join way more g)
 
 module _ (mode : Mode) (q : Path) where
-  abbrev Stays : Tree → Tree → Type 0
-  Stays t u = StaysButAt mode (q ∷ []) t u
+  record Stays (t u : Tree) : Type 0 where
+    others : StaysButAt mode (q ∷ []) t u
+    same : IsPermutation (printed mode t) (printed mode u)
 
   then-stays : (t u w : Tree) → Stays t u → Stays u w → Stays t w
-  then-stays t u w a b =
-      made-so mode (q ∷ []) t w (b.others ∙ a.others) (b.steady.0 ∙ a.steady.0, b.steady.1 ∙ a.steady.1, b.steady.2) b.made
+  then-stays t u w x y =
+      let a = x.others in
+      let b = y.others in
+      record {
+        others = made-so mode (q ∷ []) t w (b.others ∙ a.others) (b.steady.0 ∙ a.steady.0, b.steady.1 ∙ a.steady.1, b.steady.2) b.made;
+        same = IsPermutation-trans (printed mode t) (printed mode u) (printed mode w) x.same y.same;
+      }
 
   same-stays : (t u : Tree) → SlotsAreWellMade t.slots → is_steady_in mode t ≡ true → u ≡ t → Stays t u
-  same-stays t u made steady is = subst (Stays t) (sym is) (made-so mode (q ∷ []) t t refl (refl, refl, steady) made)
+  same-stays t u made steady is =
+      subst (Stays t) (sym is)
+      (record { others = made-so mode (q ∷ []) t t refl (refl, refl, steady) made; same = IsPermutation-refl (printed mode t) })
+
+  -- the statements inside and outside stay in their order
+  rearranged : (p : Path) (t u : Tree) → inside mode p u ≡ inside mode p t → outside mode p u ≡ outside mode p t
+      → IsPermutation (printed mode t) (printed mode u)
+  rearranged p t u h g =
+      let both : Tree → List Printed = λ w. inside mode p w ++ outside mode p w in
+      let split : (w : Tree) → IsPermutation (printed mode w) (both w) =
+      λ w. IsPermutation-filter_both (λ (s : Printed). is_at_or_below p s.path) (λ s. not (is_at_or_below p s.path)) (λ s. refl) (printed mode w) in
+      IsPermutation-trans (printed mode t) (both t) (printed mode u) (split t)
+      (subst (λ xs. IsPermutation xs (printed mode u)) (ap (λ xs. xs ++ outside mode p u) h ∙ ap (λ xs. inside mode p t ++ xs) g)
+      (IsPermutation-sym (printed mode u) (both u) (split u)))
 
   moved-in : (t : Tree) (way : List Turn) (v : Visit) (k : Text) (i : ℕ) (s : Slot Node) → SlotsAreWellMade t.slots
       → is_steady_in mode t ≡ true → Leads way (root_visit t) v → lookup_slot k (slot_list v.slots) ≡ Some s → is_front q v.path ≡ true
       → Stays t (edited way (moved_slot k i) t)
   moved-in t way v k i s made steady leads there front =
       let p : Path = to_key v.path s.key.name in
-      wider mode q p t (edited way (moved_slot k i) t) (front-through q v.path p front (front-more v.path (at_key s.key.name ∷ [])))
-      (move_stays mode t way v k i s made steady leads there)
+      let u : Tree = edited way (moved_slot k i) t in
+      record {
+        others = wider mode q p t u (front-through q v.path p front (front-more v.path (at_key s.key.name ∷ [])))
+            (move_stays mode t way v k i s made steady leads there);
+        same = rearranged p t u (moved_inside mode t way v k i s made steady leads there) (moved_others mode t way v k i s made steady leads there).0;
+      }
 
   -- slots that are moved to the end one after another
   reach : (ys es end : List (Slot Node)) (t : Tree) (way : List Turn) (v : Visit) → SlotsAreWellMade t.slots → is_steady_in mode t ≡ true
@@ -101,7 +131,7 @@ module _ (mode : Mode) (q : Path) where
       let left : slot_list (slots_under g v.slots) ≡ (a ++ b) ++ (end ++ (y ∷ [])) =
       slot_list-from (g (slot_list v.slots)) ∙ ap g here ∙ moved-last a y c others ∙ simp append_assoc in
       let more : Stays t1 (edited way (λ _. (end ++ (y ∷ [])) ++ ys) t1) =
-      reach ys (a ++ b) (end ++ (y ∷ [])) t1 way (with_slots g v) one.made one.steady.2 (leads-edited way g (root_visit t) v leads) front left rest in
+      reach ys (a ++ b) (end ++ (y ∷ [])) t1 way (with_slots g v) one.others.made one.others.steady.2 (leads-edited way g (root_visit t) v leads) front left rest in
       let last : edited way (λ _. (end ++ (y ∷ [])) ++ ys) t1 ≡ edited way (λ _. end ++ (y ∷ ys)) t =
       edited-twice way (λ _. (end ++ (y ∷ [])) ++ ys) g (λ _. end ++ (y ∷ ys)) (λ _. append_assoc end (y ∷ []) ys) t in
       then-stays t t1 (edited way (λ _. end ++ (y ∷ ys)) t) one (subst (Stays t1) last more)
@@ -114,7 +144,7 @@ module _ (mode : Mode) (q : Path) where
         let g : List (Slot Node) → List (Slot Node) = λ _. deep enters ss in
         let t1 : Tree = edited way g t in
         let r : Stays t1 (edited way (λ _. [] ++ sorted_slots enters ss) t1) =
-        reach (sorted_slots enters ss) (deep enters ss) [] t1 way (with_slots g v) d.made d.steady.2 (leads-edited way g (root_visit t) v leads) front
+        reach (sorted_slots enters ss) (deep enters ss) [] t1 way (with_slots g v) d.others.made d.others.steady.2 (leads-edited way g (root_visit t) v leads) front
         (slot_list-from (deep enters ss) ∙ sym (append-nil (deep enters ss))) (picks-sorted enters ss) in
         then-stays t t1 (edited way (λ _. sorted_slots enters ss) t) d
         (subst (Stays t1) (edited-twice way (λ _. [] ++ sorted_slots enters ss) g (λ _. sorted_slots enters ss) (λ _. refl) t) r)
@@ -179,7 +209,7 @@ module _ (mode : Mode) (q : Path) where
         let t1 : Tree = edited way g t in
         let one : Stays t t1 = deep-item n k a (slot_list ss) t way v made steady leads front h in
         let more : Stays t1 (edited way (λ _. (a ++ (x ∷ [])) ++ deep is_dotted_table ss) t1) =
-        deep-slots ss (a ++ (x ∷ [])) t1 way (with_slots g v) one.made one.steady.2 (leads-edited way g (root_visit t) v leads) front
+        deep-slots ss (a ++ (x ∷ [])) t1 way (with_slots g v) one.others.made one.others.steady.2 (leads-edited way g (root_visit t) v leads) front
         (slot_list-from (a ++ (x ∷ slot_list ss)) ∙ sym (append_assoc a (x ∷ []) (slot_list ss))) in
         let last : edited way (λ _. (a ++ (x ∷ [])) ++ deep is_dotted_table ss) t1 ≡ edited way (λ _. a ++ (x ∷ deep is_dotted_table ss)) t =
         edited-twice way (λ _. (a ++ (x ∷ [])) ++ deep is_dotted_table ss) g (λ _. a ++ (x ∷ deep is_dotted_table ss))
@@ -206,7 +236,7 @@ module _ (mode : Mode) (t u : Tree) (k : Text) (rest : List Text) (made : SlotsA
       let front : is_front x.place v.path ≡ true = sym (front-is x.place v.path) ∙ x.above in
       subst (λ (q : Path). StaysButAt mode (q ∷ []) t u) (sym x.is)
       (subst (StaysButAt mode (x.place ∷ []) t) (sym is)
-      (finish mode x.place is_dotted_table ss t way v leads front (deep-slots mode x.place ss [] t way v made steady leads front (ap slot_list x.slots))))
+      (finish mode x.place is_dotted_table ss t way v leads front (deep-slots mode x.place ss [] t way v made steady leads front (ap slot_list x.slots))).others)
   in-table f ss w put (inr x) =
       within-at mode t u path (x u (table f (slots_from (sorted_slots is_dotted_table ss))) (made-sorted is_dotted_table ss w) put)
 
@@ -226,3 +256,24 @@ pub sorted-stays : (mode : Mode) → SortedStays mode
 sorted-stays mode t u [] n m made steady there is put = absurd cc
 sorted-stays mode t u (k ∷ rest) n m made steady there is put =
     by_node mode t u k rest made steady n m (below-made (k ∷ rest) (root_item t) n made there) there is put
+
+pub sort-rearranges : (mode : Mode) (t u : Tree) (path : List Text) (v : Visit) → SlotsAreWellMade t.slots → is_steady_in mode t ≡ true
+    → NamesTable t path v → sorted path t ≡ Ok u → IsPermutation (printed mode t) (printed mode u)
+sort-rearranges mode t u path v made steady named h = by_path path refl (was-changed in_order path t u (item_inside path (root_item t)) h)
+  where
+    old-is : (n : Node) → ◌≡◌ {A = Option Node} (Some (table v.fields v.slots)) (Some n) → n ≡ table v.fields v.slots
+    old-is n e = cc
+
+    by_path : (p : List Text) → path ≡ p → WasChanged in_order p t u (item_inside p (root_item t)) → IsPermutation (printed mode t) (printed mode u)
+    by_path [] e x = absurd (let there : ◌≡◌ {A = Option Node} None (Some x.old) = x.there in cc)
+    by_path (k ∷ rest) e x =
+        let on : NamesTable t (k ∷ rest) v = subst (λ p. NamesTable t p v) e named in
+        let zs : List (Slot Node) = sorted_slots is_dotted_table v.slots in
+        let old : x.old ≡ table v.fields v.slots = old-is x.old (sym (item-along on.way (k ∷ rest) (root_visit t) v on.goes on.leads) ∙ x.there) in
+        let new : IsSorted (table v.fields v.slots) x.new = subst (λ n. IsSorted n x.new) old (was-sorted x.old x.new x.goes) in
+        let is : u ≡ edited on.way (λ _. zs) t =
+        table-left t u (k ∷ rest) v (λ _. zs) made on (ap (λ m. replaced_at (k ∷ rest) m t) (sym new) ∙ x.put) in
+        let front : is_front v.path v.path ≡ true = front-refl v.path in
+        subst (λ w. IsPermutation (printed mode t) (printed mode w)) (sym is)
+        (finish mode v.path is_dotted_table v.slots t on.way v on.leads front
+        (deep-slots mode v.path v.slots [] t on.way v made steady on.leads front refl)).same

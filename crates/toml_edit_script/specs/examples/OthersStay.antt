@@ -1,6 +1,6 @@
--- Worked places for values, paths of edits, and edits that are harmless or not.
+-- Worked places for values, paths of edits, and edits that are sorts, or harmless, or not.
 use Rattle.std.specs.Prelude.{◌≡◌, refl, true, false, [], ◌∷◌, codes, Some, Vec}
-use Rattle.std.proofs.Common.{inl, subst}
+use Rattle.std.proofs.Common.{inl, subst, sym}
 use Rattle.std.specs.declared.alloc.Global.{Global}
 use Rattle.toml_edit_model.specs.Conversions.{new_table}
 use Rattle.toml_edit_model.specs.HeaderOrder.{Visit, visit_of}
@@ -14,7 +14,7 @@ use Rattle.toml_edit_laws.specs.Locality as locality
 use Rattle.toml_edit_laws.specs.Locality.{is_plain_value}
 use Rattle.toml_edit_edit_laws.specs.Commands.{item_at}
 use Rattle.toml_edit_edit_laws.specs.CommandLaws.{NamesTable}
-use Rattle.toml_edit_script.specs.OthersStay.{HasPlace, IsHarmless, IsHarmlessAt, IsLocal, MayMove, at_new_key, beside, in_value, into_table, paths_of, places_of}
+use Rattle.toml_edit_script.specs.OthersStay.{HasPlace, IsHarmless, IsHarmlessAt, IsLocal, IsSort, MayMove, at_new_key, beside, in_value, into_table, paths_of, places_of}
 use Rattle.toml_edit_script.specs.Places.{place_of}
 use Rattle.toml_edit_script.specs.declared.edit.Edit.TheVariants as edits
 
@@ -121,3 +121,11 @@ removal_is_local path = tt
 
 order_may_harm : (path : Vec Key Global) → IsHarmless plain (edits.Sort path) small tt → ⊥
 order_may_harm path h = h
+
+-- ---- sorts
+
+x_is_sorted : (path : Vec Key Global) → names path.items ≡ x ∷ [] → IsSort (edits.Sort path) small
+x_is_sorted path is = (visit_x, subst (λ p. NamesTable small p visit_x) (sym is) x_is_named)
+
+removal_is_no_sort : (path : Vec Key Global) → IsSort (edits.Remove path) small → ⊥
+removal_is_no_sort path h = h
