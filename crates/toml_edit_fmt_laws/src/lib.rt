@@ -51,7 +51,8 @@ pub fn formatted_trees()
 
 /// The print of a formatted tree is the print of the tree, laid out. If the tree fits, it is
 /// accepted, means what the tree shows, and has the same comments in the same order, each with what
-/// it belongs to. Formatted again the tree prints the same.
+/// it belongs to; and its places stay that no rule asked for is about. Formatted again the tree
+/// prints the same.
 pub fn formatted_prints()
     ensures laid { PrintsLaid }
     ensures prints { FormattedPrints }
