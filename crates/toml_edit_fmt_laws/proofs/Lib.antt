@@ -39,3 +39,6 @@ mod ReadDecors
 mod TreePrints
 mod LaidSuits
 mod FormattedFits
+mod BaredKeys
+mod BaredPrints
+mod BaredFits

@@ -25,7 +25,7 @@ use Rattle.toml_edit_fmt_laws.specs.TreeLaws.{ShowsTheSame, StaysMade}
 -- ---- a tree without what formatting writes
 
 abbrev mutual
-  bare : Node → Node
+  pub bare : Node → Node
   bare (leaf s spelling d) = leaf s spelling unset
   bare (list f xs) = list (record f { decor = unset; comma = false; trailing = owned [] }) (bare_items xs)
   bare (inline f ss) = inline (record f { decor = unset; comma = false; trailing = owned [] }) (bare_slots ss)
@@ -33,11 +33,11 @@ abbrev mutual
   bare (tables e xs) = tables e (bare_items xs)
   bare nothing = nothing
 
-  bare_items : Items → Items
+  pub bare_items : Items → Items
   bare_items no_items = no_items
   bare_items (item n xs) = item (bare n) (bare_items xs)
 
-  bare_slots : Slots → Slots
+  pub bare_slots : Slots → Slots
   bare_slots no_slots = no_slots
   bare_slots (slot k n ss) = slot (record k { leaf = unset; dotted = unset }) (bare n) (bare_slots ss)
 
@@ -423,7 +423,7 @@ module _ (r : Rules) where
       by_test true true (Some place) = slots-headed place 0 ss (record { seen = root_place f; is_over = false })
       by_test true false o = slots-started ss
 
-  formatted-bare : (t : Tree) → bare_slots (formatted r t).slots ≡ bare_slots t.slots
+  pub formatted-bare : (t : Tree) → bare_slots (formatted r t).slots ≡ bare_slots t.slots
   formatted-bare t = started-bare t.root (formatted_slots r 0 0 0 t.slots) ∙ slots-bare 0 0 0 t.slots
 
 pub shows_the_same : ShowsTheSame

@@ -7,5 +7,6 @@ pub mod Promises
 pub mod FormattedTree
 pub mod Places
 pub mod TreeLaws
+pub mod BareKeys
 -- Worked examples: nothing cites them.
 pub mod examples

@@ -2,6 +2,7 @@
 //! formatter does to a document, and `proofs/` the lemmas.
 #![tactic(auto)]
 
+ghost use Rattle.toml_edit_fmt_laws.specs.BareKeys.{BaredFits, BaredLaysOut, BaredRemarks, BaredShowsTheSame, BaredStaysMade, BaredTwice, FormattedStaysBared, PrintsBared};
 ghost use Rattle.toml_edit_fmt_laws.specs.TreeLaws.{FormattedFits, FormattedLaysOut, FormattedPrints, FormattedTextPrints, FormattedTwice, PrintsLaid, ReadLaysOut, ReadMayBeOpen, ShowsTheSame, StaysMade};
 ghost use Rattle.toml_edit_fmt_laws.specs.Places.{FormattedKeepsPlaces, PlacedTextsAreAll, StaysOnOneLine};
 ghost use Rattle.toml_edit_fmt_laws.specs.Promises.{AcceptedAlike, FormattedAgain, FormattedTextAgain, KeepsRemarks, MeansTheSame, OffChangesNothing, PlacesAreLaid, StaysDocument, StaysSettled};
@@ -65,4 +66,18 @@ pub fn formatted_reads()
     ensures lays_out { ReadLaysOut }
     ensures ends { ReadMayBeOpen }
     ensures prints { FormattedTextPrints }
+{}
+
+/// A tree with bare keys prints what the tree prints, with bare keys: the same comments, each with
+/// what it belongs to. It shows the same, is as well made, and fits where the tree fits. Its keys
+/// stay bare, also in the formatted tree.
+pub fn bared_trees()
+    ensures prints { PrintsBared }
+    ensures comments { BaredRemarks }
+    ensures means { BaredShowsTheSame }
+    ensures made { BaredStaysMade }
+    ensures fits { BaredFits }
+    ensures lays_out { BaredLaysOut }
+    ensures twice { BaredTwice }
+    ensures formatted { FormattedStaysBared }
 {}
