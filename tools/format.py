@@ -19,7 +19,7 @@ import unproved
 PROGRAM = "test_formats"
 # Words of the program that are tried with each text.
 WORDS = [[], ["exact"], ["exact", "returns"], ["by-depth", "four"], ["narrow"], ["no-equals"], ["no-dots"], ["no-comments"], ["no-empty-lines"],
-         ["no-indentation"], ["no-arrays"], ["no-inline-tables"], ["no-empty-lines", "no-indentation", "exact"], ["no-width"]]
+         ["no-indentation"], ["no-arrays"], ["no-inline-tables"], ["no-empty-lines", "no-indentation", "exact"], ["no-width"], ["bare-keys"], ["bare-keys", "no-dots", "exact"]]
 OFF = ["no-equals", "no-dots", "no-comments", "no-empty-lines", "no-indentation", "no-arrays", "no-width", "no-inline-tables"]
 # What each rule is about: the words, a text, and the formatted text.
 CASES = [
@@ -56,6 +56,14 @@ CASES = [
     ([], "[[a]]\nb=1\n[[a]]\n", "[[a]]\nb = 1\n\n[[a]]\n"),
     ([], "\n# one\na.b=1\na.c=2\n", "# one\na.b = 1\na.c = 2\n"),
     ([], "\n\n[a.b]\n[a]\nx=1\n", "[a.b]\n\n[a]\nx = 1\n"),
+    ([], '"a"=1\n', '"a" = 1\n'),
+    (["bare-keys"], '"a"=1\n', "a = 1\n"),
+    (["bare-keys"], "# one\n'b-c' . d = 1 # two\n", "# one\nb-c.d = 1 # two\n"),
+    (["bare-keys"], '["x"."y z"]\n"\\u0061"=1\n', '[x."y z"]\na = 1\n'),
+    (["bare-keys"], "a = [ { \"p\" = 1, 'q'.r = { 's' = 2 } } ]\n[[ 'b' ]]\n", "a = [{ p = 1, q.r = { s = 2 } }]\n\n[[b]]\n"),
+    (["bare-keys"], '"" = 1\n"a.b" = 1\n"é" = 1\n', '"" = 1\n"a.b" = 1\n"é" = 1\n'),
+    (["bare-keys", *OFF], "\n[ 'a' . b ]#c\n\"c\"=1\n", "\n[ a . b ]#c\nc=1\n"),
+    (["narrow", "bare-keys"], '"name" = [1, 2, 3, 4]\n', "name = [1, 2, 3, 4]\n"),
     (OFF, "\n a=1 \n\n\n[ t ]#c\n b = [ 1,\n2]\n c={ d=1 }\n\n", "\n a=1 \n\n\n[ t ]#c\n b = [ 1,\n2]\n c={ d=1 }\n\n"),
 ]
 

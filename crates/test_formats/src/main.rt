@@ -24,6 +24,7 @@ fn change(rules: &mut Rules, word: &str) {
         "no-inline-tables" => rules.inline_tables = false,
         "four" => rules.unit = 4,
         "returns" => rules.returns = true,
+        "bare-keys" => rules.keys = true,
         _ => {}
     }
 }

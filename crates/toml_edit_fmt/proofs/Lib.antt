@@ -15,3 +15,4 @@ pub mod StartSteps
 pub mod ValueKind
 pub mod RootLaws
 pub mod PromiseLaws
+pub mod BareLaws

@@ -1,5 +1,5 @@
 -- What formatting promises of a document.
-use Rattle.std.specs.Prelude.{◌≡◌, Bool}
+use Rattle.std.specs.Prelude.{◌≡◌, Bool, if◌then◌else◌}
 use Rattle.toml_edit_model.specs.Accepted.{AcceptedAs}
 use Rattle.toml_edit_model.specs.Fits.{FitsIn}
 use Rattle.toml_edit_model.specs.Meaning.{SameFacts, meaning}
@@ -14,12 +14,13 @@ use Rattle.toml_edit_laws.specs.AcceptedPrints.{IsFitting}
 use Rattle.toml_edit.specs.DocumentView.{mode_owned, open_owned, print_of, tree_owned}
 use Rattle.toml_edit.specs.Documents.{IsOwnedReadingIn}
 use Rattle.toml_edit.specs.declared.document.DocumentMut.{DocumentMut}
-use Rattle.toml_edit_fmt_laws.specs.FormattedTree.{formatted}
+use Rattle.toml_edit_fmt_laws.specs.BareKeys.{bared_document}
 use Rattle.toml_edit_fmt_laws.specs.Places.{KeepsPlaces}
 use Rattle.toml_edit_fmt_laws.specs.Promises.{ShowsNewlines}
 use Rattle.toml_edit_fmt_laws.specs.Remarks.{remarks}
-use Rattle.toml_edit_fmt_laws.specs.Rules.{Rules}
 use Rattle.toml_edit_fmt_laws.specs.TreeLaws.{LaysOut, MayBeOpen}
+use Rattle.toml_edit_fmt.specs.declared.rules.Rules.{Rules}
+use Rattle.toml_edit_fmt.specs.RulesView.{formatted_by, rules_of}
 
 -- The tree fits and is laid out as its print is, and nothing follows the statements where the end is
 -- open.
@@ -38,6 +39,10 @@ ReadMayBeFormatted =
 abbrev pub printed : DocumentMut → Document
 printed d = document_in (mode_owned d) (open_owned d) (tree_owned d)
 
+-- the keys of a document as the rules ask for them
+abbrev pub asked_document : Rules → Document → Document
+asked_document r d = if r.keys then bared_document d else d
+
 -- The new document is the old one, formatted.
 pub record IsFormatted (r : Rules) (old new : DocumentMut) : Type 0 where
   -- it fits, so its print is accepted, and means what the old document shows
@@ -46,13 +51,14 @@ pub record IsFormatted (r : Rules) (old new : DocumentMut) : Type 0 where
   pub means : SameFacts (meaning (printed new)) (shown_meaning (tree_owned old))
   -- the comments are those of the old print, in the same order, each with what it belongs to
   pub comments : remarks (printed new) ≡ remarks (printed old)
-  -- keys and values are spelled as they were, and places stay that no rule asked for is about
-  pub places : KeepsPlaces r (printed old) (printed new)
+  -- keys and values are spelled as they were, or keys are bare where that is asked for, and places
+  -- stay that no rule asked for is about
+  pub places : KeepsPlaces (rules_of r) (asked_document r (printed old)) (printed new)
   -- formatted again it prints the same
-  pub again : document_in (mode_owned new) (open_owned new) (formatted r (tree_owned new)) ≡ printed new
+  pub again : document_in (mode_owned new) (open_owned new) (formatted_by r (tree_owned new)) ≡ printed new
 
 -- So it is of each document that may be formatted, with newlines that its mode shows.
 abbrev pub Formats : Rules → DocumentMut → DocumentMut → Type 0
 Formats r old new =
-    MayBeFormatted (mode_owned old) (open_owned old) (tree_owned old) → ShowsNewlines (mode_owned old) r
+    MayBeFormatted (mode_owned old) (open_owned old) (tree_owned old) → ShowsNewlines (mode_owned old) (rules_of r)
     → IsFormatted r old new

@@ -4,6 +4,6 @@
 //! alone.
 
 pub use toml_edit_fmt_laws::{
-    formatted, formatted_places, formatted_prints, formatted_reads, formatted_texts,
+    bared_trees, formatted, formatted_places, formatted_prints, formatted_reads, formatted_texts,
     formatted_trees, layouts,
 };

@@ -2,10 +2,12 @@
 //! value.
 //!
 //! A formatted document means the same, and has the same comments in the same order, each with what
-//! it belongs to. Keys and values keep their spelling and their order.
+//! it belongs to. Keys and values keep their order, values their spelling, and keys theirs unless they
+//! are to be bare.
 #![tactic(auto)]
 
 mod array;
+mod bare;
 mod first;
 mod inline;
 mod keys;
@@ -24,13 +26,13 @@ ghost use Rattle.std.specs.Prelude.{◌≡◌, IfOk, OnOk};
 ghost use Rattle.toml_edit.specs.DocumentView.{IsPrintedAs, tree_owned};
 ghost use Rattle.toml_edit_fmt_laws.specs.FormattedTree.{formatted};
 ghost use Rattle.toml_edit_fmt.specs.Promises.{Formats, ReadMayBeFormatted};
-ghost use Rattle.toml_edit_fmt.specs.RulesView.{rules_of};
+ghost use Rattle.toml_edit_fmt.specs.RulesView.{asked_keys, formatted_by, rules_of};
 ghost use Rattle.toml_edit_model.specs.Shown.{shown_meaning};
 
 pub use rules::{Indentation, Rules};
 use std::alloc::Global;
 use toml_edit::DocumentMut;
-use toml_edit_fmt_laws::{formatted_prints, formatted_reads, formatted_trees};
+use toml_edit_fmt_laws::{bared_trees, formatted_prints, formatted_reads, formatted_trees};
 use toml_edit_repr::{Mem, RawString};
 
 /// Returns the document formatted by the rules.
@@ -45,12 +47,13 @@ use toml_edit_repr::{Mem, RawString};
 /// Returns an `AllocError` if out of memory, and the document is dropped.
 pub fn format(alloc: Global, document: DocumentMut, rules: &Rules) -> Mem<DocumentMut>
     ensures tree { IfOk result
-        (λ d. tree_owned d ≡ formatted (rules_of rules.now) (tree_owned document)) }
+        (λ d. tree_owned d ≡ formatted_by rules.now (tree_owned document)) }
     ensures printed { IfOk result (λ d. IsPrintedAs d document) }
     ensures means { IfOk result
         (λ d. shown_meaning (tree_owned d) ≡ shown_meaning (tree_owned document)) }
-    ensures formats { IfOk result (λ d. Formats (rules_of rules.now) document d) }
+    ensures formats { IfOk result (λ d. Formats rules.now document d) }
 {
+    bared_trees();
     formatted_trees();
     formatted_prints();
     format_tree(alloc, document, rules)
@@ -59,12 +62,23 @@ pub fn format(alloc: Global, document: DocumentMut, rules: &Rules) -> Mem<Docume
 /// Returns the document with its tree formatted.
 fn format_tree(alloc: Global, document: DocumentMut, rules: &Rules) -> Mem<DocumentMut>
     ensures tree { IfOk result
-        (λ d. tree_owned d ≡ formatted (rules_of rules.now) (tree_owned document)) }
+        (λ d. tree_owned d ≡ formatted_by rules.now (tree_owned document)) }
     ensures printed { IfOk result (λ d. IsPrintedAs d document) }
 {
     let mut formatted = document;
+    format_keys(&mut formatted, rules);
     format_in_place(alloc, &mut formatted, rules)?;
     Ok(formatted)
+}
+
+/// Makes the keys of the document bare where they can be, if so asked.
+fn format_keys(document: &mut DocumentMut, rules: &Rules)
+    ensures tree { tree_owned document.new ≡ asked_keys rules.now (tree_owned document.old) }
+    ensures printed { IsPrintedAs document.new document.old }
+{
+    if rules.keys {
+        bare::bare_keys(document.as_table_mut());
+    }
 }
 
 /// A document that was read may be formatted, as [`format`] wants it for its promises.

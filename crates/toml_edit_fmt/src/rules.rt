@@ -41,6 +41,8 @@ pub struct Rules {
     pub inline_tables: bool,
     /// New lines end in CR LF, where line endings are kept.
     pub returns: bool,
+    /// Keys are bare where they can be.
+    pub keys: bool,
 }
 
 impl Rules {
@@ -71,13 +73,14 @@ fn first_line_has_return(text: &[u8]) -> bool
     false
 }
 
-/// Makes the rules that are usual: all are on, lines are not indented, and new lines end in LF.
+/// Makes the rules that are usual: all are on but bare keys, lines are not indented, and new lines end
+/// in LF.
 impl Default for Rules {
-    ghost use Rattle.std.specs.Prelude.{◌≡◌};
+    ghost use Rattle.std.specs.Prelude.{◌≡◌, false};
     ghost use Rattle.toml_edit_fmt_laws.specs.Rules.{default_rules};
     ghost use Rattle.toml_edit_fmt.specs.RulesView.{rules_of};
 
-    ghost is_default = { λ rules. rules_of rules ≡ default_rules };
+    ghost is_default = { λ rules. (rules_of rules ≡ default_rules) × (rules.keys ≡ false) };
 
     fn default() -> Rules {
         Rules {
@@ -91,6 +94,7 @@ impl Default for Rules {
             width: Some(80),
             inline_tables: true,
             returns: false,
+            keys: false,
         }
     }
 }

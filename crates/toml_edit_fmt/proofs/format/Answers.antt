@@ -1,13 +1,32 @@
 -- What formatting promises follows from the laws.
-use Rattle.toml_edit_fmt.specs.RulesView.{rules_of}
-use Rattle.toml_edit_fmt.proofs.PromiseLaws.{result_formats, result_shows}
+use Rattle.toml_edit_fmt.proofs.PromiseLaws.{BaredLaws, result_formats, result_shows}
 use Rattle.toml_edit_fmt.proofs.format.Goals as goal
 
 pub returns-clause-means : goal.returns-clause-means
 returns-clause-means c =
-    result_shows (rules_of c.args.rules.now) c.args.document c.format_tree.result c.format_tree.ensures.tree c.formatted_trees.ensures.means
+    let b = c.bared_trees.ensures in
+    let laws : BaredLaws = record {
+      prints = b.prints;
+      comments = b.comments;
+      means = b.means;
+      made = b.made;
+      fits = b.fits;
+      lays_out = b.lays_out;
+      stays = b.formatted;
+    } in
+    result_shows laws c.args.rules.now c.args.document c.format_tree.result c.format_tree.ensures.tree c.formatted_trees.ensures.means
 
 pub returns-clause-formats : goal.returns-clause-formats
 returns-clause-formats c =
-    result_formats (rules_of c.args.rules.now) c.args.document c.format_tree.result c.format_tree.ensures.tree c.format_tree.ensures.printed
+    let b = c.bared_trees.ensures in
+    let laws : BaredLaws = record {
+      prints = b.prints;
+      comments = b.comments;
+      means = b.means;
+      made = b.made;
+      fits = b.fits;
+      lays_out = b.lays_out;
+      stays = b.formatted;
+    } in
+    result_formats laws c.args.rules.now c.args.document c.format_tree.result c.format_tree.ensures.tree c.format_tree.ensures.printed
     c.formatted_trees.ensures.fits c.formatted_prints.ensures.prints c.formatted_prints.ensures.twice
