@@ -42,13 +42,25 @@ def crates_of(rt):
     return sorted(rt.rtlib.crates_below(TOP), key=lambda crate: len(crate.below()))
 
 
-def place(rt, crates):
-    """Gives each crate the library that the gate has kept, lowest first, and returns the names of those that have one."""
+def is_placed(crate):
+    """Whether the library is there already."""
+    try:
+        with open(crate.folder + "/out/rlib/stamp", encoding="utf-8") as file:
+            return file.read() == crate.stamp()
+    except OSError:
+        return False
+
+
+def place(rt, crates, wanted):
+    """Gives each crate that is wanted the library that the gate has kept, lowest first, and returns the names of those that have one."""
     if not hasattr(rt, "Kept"):
         return {crate.name for crate in crates if not crate.is_program and crate.is_built()}
     kept, had = rt.Kept(crates), set()
     for crate in crates:
-        if crate.is_program or crate.is_static or any(below.name not in had for below in crate.below()):
+        if crate.name not in wanted or crate.is_program or crate.is_static or any(below.name not in had for below in crate.below()):
+            continue
+        if is_placed(crate):
+            had.add(crate.name)
             continue
         key = kept.key(crate)
         if not os.path.isdir(kept.place(crate, False, key)):
@@ -93,7 +105,7 @@ def main():
     if crate is None:
         print("no crate is named %s" % sys.argv[1])
         return 2
-    had = place(rt, crates)
+    had = place(rt, crates, {below.name for below in crate.below()})
     os.makedirs(crate.folder + "/out/early", exist_ok=True)
     return subprocess.run([*command(crate, had), *sys.argv[2:]], cwd=crate.folder, check=False).returncode
 
