@@ -1,14 +1,13 @@
 -- Files that are formatted.
-use Rattle.std.proofs.Common.{Bor, ◌≡◌, ℕ, ◌+◌, ◌<◌, Bool, true, false, List, [], ◌∷◌, ◌++◌, length, drop, get_or, map, refl, sym, ap, ◌∙◌, append_assoc, append-nil, subst, inl, inr}
-use Rattle.std.specs.Prelude.{◌⊎◌, ◌==◌, ◌&&◌, not, if◌then◌else◌, Option, Some, None, Result, Ok, Err, OnErr, flat_map}
-use Rattle.std.specs.List.{list_all}
+use Rattle.std.proofs.Common.{Bor, ◌≡◌, ℕ, ◌+◌, ◌<◌, Bool, true, false, List, [], ◌∷◌, ◌++◌, length, drop, get_or, map, refl, sym, ap, ◌∙◌, append_assoc, subst, inl, inr}
+use Rattle.std.specs.Prelude.{◌⊎◌, ◌&&◌, not, if◌then◌else◌, Option, Some, None, Result, Ok, Err, OnErr, flat_map}
 use Rattle.std.proofs.lemmas.List.{drop_more}
 use Rattle.toml_edit.specs.DocumentView.{mode_owned, open_owned, print_of, tree_owned}
 use Rattle.toml_edit.specs.Documents.{opens}
 use Rattle.toml_edit.specs.declared.document.DocumentMut.{DocumentMut}
 use Rattle.toml_edit_fmt_laws.specs.FormattedTree.{formatted}
 use Rattle.toml_edit_fmt_laws.specs.Promises.{ShowsNewlines}
-use Rattle.toml_edit_fmt_laws.specs.TreeLaws.{FormattedTextPrints, ShowsTheSame, formatted_text}
+use Rattle.toml_edit_fmt_laws.specs.TreeLaws.{FormattedTextPrints, ShowsTheSame}
 use Rattle.toml_edit_model.specs.Mode.{Mode, plain, exact}
 use Rattle.toml_edit_model.specs.Normal.{has_open_end}
 use Rattle.toml_edit_model.specs.Print.{print_in}
@@ -23,8 +22,7 @@ use Rattle.toml_edit_script.specs.declared.fault.EditFault.TheVariants.{Memory, 
 use Rattle.toml_edit_files.proofs.EditLaws.{left}
 use Rattle.toml_edit_files.specs.Edited.{IsLeft, IsRead, IsWritten, mark_of, mode_by}
 use Rattle.toml_edit_files.specs.Folders.{OnlyLooks}
-use Rattle.toml_edit_files.specs.FormatFiles.{ArePlanned, ArePut, ArePutBefore, IsFormatted, IsFormattedOnly, IsNotPut, IsPlanned, IsPut, StopsFormatting, is_fine, passing_over, returns_after, rules_by, sorted_by, told}
-use Rattle.toml_edit_files.specs.Runs.{Leaves}
+use Rattle.toml_edit_files.specs.FormatFiles.{ArePlanned, ArePut, ArePutBefore, IsFormatted, IsFormattedOnly, IsPlanned, IsPut, StopsFormatting, passing_over, returns_after, rules_by, sorted_by, told}
 use Rattle.toml_edit_files.specs.Stops.{IsFor}
 use Rattle.toml_edit_files.specs.declared.fmt.Plan.{Plan}
 use Rattle.toml_edit_files.specs.declared.stop.Reason.{Reason}
@@ -76,7 +74,6 @@ module _ (reading : Reading) (sorts : List Edit) (before : Text) (x : Tree) (is_
     (laid : tree_owned d ≡ formatted (rules_by reading before) y)
     (by_mode : mode_owned d ≡ mode_by reading) (same_end : open_owned d ≡ is_open)
     (shows : ShowsTheSame) (prints : FormattedTextPrints) where
-
   printed : print_of d ≡ print_in (mode_by reading) is_open (formatted (rules_by reading before) y)
   printed =
       ap (λ (m : Mode). print_in m (open_owned d) (tree_owned d)) by_mode
@@ -91,9 +88,9 @@ module _ (reading : Reading) (sorts : List Edit) (before : Text) (x : Tree) (is_
         prints (mode_by reading) (rules_by reading before) (shows_newlines reading before) before e read.reading.accepted x read.reading.tree.tree,
         w.text
             ∙ ap (λ (t : Text). mark_of reading.normal before ++ t)
-                (printed ∙ ap (λ (z : Tree). print_in (mode_by reading) is_open (formatted (rules_by reading before) z)) (unsorted sorts x y none sorted)
-                ∙ ap (λ (b : Bool). print_in (mode_by reading) b (formatted (rules_by reading before) x)) read.open_end
-                ∙ same_open (mode_by reading) e (formatted (rules_by reading before) x)),
+            (printed ∙ ap (λ (z : Tree). print_in (mode_by reading) is_open (formatted (rules_by reading before) z)) (unsorted sorts x y none sorted)
+            ∙ ap (λ (b : Bool). print_in (mode_by reading) b (formatted (rules_by reading before) x)) read.open_end
+            ∙ same_open (mode_by reading) e (formatted (rules_by reading before) x)),
       )
 
   pub formats : (s : Text) → IsWritten reading before d s → IsFormatted reading sorts before s
@@ -165,12 +162,3 @@ formats_putting plans old read new (Some Mistaken) (inl is) h n = absurd (let ne
 formats_putting plans old read new (Some Mistaken) (inr is) h n = absurd (let never : Some Mistaken ≡ Some Failed = is in cc)
 formats_putting plans old read new (Some Refused) (inl is) h n = absurd (let never : Some Refused ≡ None = is in cc)
 formats_putting plans old read new (Some Refused) (inr is) h n = absurd (let never : Some Refused ≡ Some Failed = is in cc)
-
-pub leaves_formatting : (old new : Option (List Event)) (why : Option Reason) → StopsFormatting old new why → Leaves old new why
-leaves_formatting old new None (inl h) = inl h
-leaves_formatting old new None (inr h) = inr (inr h)
-leaves_formatting old new (Some Failed) (inl h) = inl h
-leaves_formatting old new (Some Failed) (inr h) = inr (inr h)
-leaves_formatting old new (Some No) h = h
-leaves_formatting old new (Some Mistaken) h = h
-leaves_formatting old new (Some Refused) h = h

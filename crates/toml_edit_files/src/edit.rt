@@ -249,7 +249,12 @@ fn is_there(command: &EditCommand<'_>, before: &str, text: &str) -> bool
 }
 
 /// Replaces the text of the file that a name leads to.
-pub fn put_file<F: Folder>(alloc: Global, folder: &mut F, file: &str, text: &str) -> std::io::Result<()>
+pub fn put_file<F: Folder>(
+    alloc: Global,
+    folder: &mut F,
+    file: &str,
+    text: &str,
+) -> std::io::Result<()>
     ensures ok { OnOk result
         (Replaced file.now text.now (F.history folder.old) (F.history folder.new)) }
     ensures err { OnErr result

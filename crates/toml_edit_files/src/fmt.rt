@@ -155,10 +155,7 @@ fn refused_line(alloc: Global, file: &str, error: &TomlError) -> Result<String, 
         return Ok(line);
     }
     let line = line.as_str();
-    Err(Stop::Message(
-        Reason::Refused,
-        format!(in alloc; "tomlfile: {line}")?,
-    ))
+    Err(Stop::Message(Reason::Refused, format!(in alloc; "tomlfile: {line}")?))
 }
 
 /// Returns the text of a document after the sorts, formatted.

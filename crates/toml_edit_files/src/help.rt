@@ -35,7 +35,8 @@ pub fn topic_of(name: &str) -> Option<Topic> {
 /// Returns the usage of a command, as one line.
 pub fn usage(topic: Topic) -> &'static str {
     match topic {
-        Topic::Program => "tomlfile [strict] [normal] get | has | edit | keys | json | check | fmt ..",
+        Topic::Program =>
+            "tomlfile [strict] [normal] get | has | edit | keys | json | check | fmt ..",
         Topic::Get => "tomlfile get FILE PATH.. [--raw | --lines] [--default TEXT]",
         Topic::Has => "tomlfile has FILE PATH [KIND]",
         Topic::Edit => {

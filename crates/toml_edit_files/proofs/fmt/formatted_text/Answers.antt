@@ -18,10 +18,10 @@ returns c =
     IfOk-weaker c.text_after.result (λ s. IsWritten c.args.reading before d (string_bytes s))
     (λ s. IsFormatted c.args.reading c.args.sorts.now before (string_bytes s))
     (λ s written.
-        formats c.args.reading c.args.sorts.now before (tree_owned c.args.document) (open_owned c.args.document) y d
-        read c.in_ok-sort_all.ensures.sorted
-        (c.in_ok-formatted.ensures.tree ∙ ap (λ (r : Rules). formatted r y) c.rules_by-rules.ensures)
-        (c.in_ok-formatted.ensures.printed.0 ∙ c.sort_all.ensures.printed.0 ∙ by_mode)
-        (c.in_ok-formatted.ensures.printed.1 ∙ c.sort_all.ensures.printed.1)
-        c.formatted_trees.ensures.means c.formatted_reads.ensures.prints (string_bytes s) written)
+    formats c.args.reading c.args.sorts.now before (tree_owned c.args.document) (open_owned c.args.document) y d
+    read c.in_ok-sort_all.ensures.sorted
+    (c.in_ok-formatted.ensures.tree ∙ ap (λ (r : Rules). formatted r y) c.rules_by-rules.ensures)
+    (c.in_ok-formatted.ensures.printed.0 ∙ c.sort_all.ensures.printed.0 ∙ by_mode)
+    (c.in_ok-formatted.ensures.printed.1 ∙ c.sort_all.ensures.printed.1)
+    c.formatted_trees.ensures.means c.formatted_reads.ensures.prints (string_bytes s) written)
     c.text_after.ensures.text

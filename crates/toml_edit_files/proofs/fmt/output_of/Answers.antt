@@ -1,5 +1,5 @@
 -- What is said of one file more.
-use Rattle.std.proofs.Common.{◌≡◌, ◌<◌, ◌+◌, ◌++◌, List, ℕ, ap, arith, drop, length, ◌∙◌}
+use Rattle.std.proofs.Common.{◌<◌, ◌+◌, ◌++◌, List, ℕ, ap, arith, drop, length, ◌∙◌}
 use Rattle.std.specs.Prelude.{flat_map}
 use Rattle.toml_edit_files.proofs.FormatLaws.{told_turn}
 use Rattle.toml_edit_files.specs.FormatFiles.{told}

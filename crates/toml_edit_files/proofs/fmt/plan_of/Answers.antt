@@ -2,7 +2,6 @@
 use Rattle.std.proofs.Common.{inl, inr}
 use Rattle.std.proofs.lemmas.Result.{IfOk-weaker}
 use Rattle.toml_edit_files.specs.FormatFiles.{IsPlanFor, IsPlanned}
-use Rattle.toml_edit_files.specs.declared.fmt.Plan.{Plan}
 use Rattle.std.specs.Prelude.{string_bytes}
 use Rattle.toml_edit_files.proofs.fmt.plan_of.Goals as goal
 
