@@ -191,9 +191,12 @@ fn told(
         × Ends (request_by options words.now) input.now e.status
         (string_bytes e.output) (string_bytes e.errors)) }
 {
-    match miss {
-        Miss::Call(Stop::Refused) => refused(alloc, options, input),
-        Miss::Call(Stop::NotUtf8) => refused(alloc, options, input),
+    let Miss::Call(stop) = miss else {
+        return mistaken(alloc, miss);
+    };
+    match stop {
+        Stop::Refused => refused(alloc, options, input),
+        Stop::NotUtf8 => refused(alloc, options, input),
         _ => mistaken(alloc, miss),
     }
 }
