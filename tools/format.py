@@ -8,7 +8,8 @@ FILE is a text. Left out, these are the files of this machine whose names end in
 
 Of each text that is accepted, the second run changes nothing, and the comments of the formatted text are those of the text, in order, as a
 scanner of strings and comments finds them. Where Python's `tomllib` reads the text, which knows TOML 1.0 alone, it reads the same data from
-the formatted one. So with the default rules, with line endings kept, with lines indented by depth, in narrow lines, and with each rule off.
+the formatted one. So with the default rules, with line endings kept, with lines indented by depth, in narrow lines, with bare keys, and
+with each rule off.
 
 Ends with the number of texts, and with 1 if one is otherwise.
 """
@@ -19,7 +20,8 @@ import unproved
 PROGRAM = "test_formats"
 # Words of the program that are tried with each text.
 WORDS = [[], ["exact"], ["exact", "returns"], ["by-depth", "four"], ["narrow"], ["no-equals"], ["no-dots"], ["no-comments"], ["no-empty-lines"],
-         ["no-indentation"], ["no-arrays"], ["no-inline-tables"], ["no-empty-lines", "no-indentation", "exact"], ["no-width"], ["bare-keys"], ["bare-keys", "no-dots", "exact"]]
+         ["no-indentation"], ["no-arrays"], ["no-inline-tables"], ["no-empty-lines", "no-indentation", "exact"], ["no-width"],
+         ["bare-keys"], ["bare-keys", "no-dots", "exact"]]
 OFF = ["no-equals", "no-dots", "no-comments", "no-empty-lines", "no-indentation", "no-arrays", "no-width", "no-inline-tables"]
 # What each rule is about: the words, a text, and the formatted text.
 CASES = [

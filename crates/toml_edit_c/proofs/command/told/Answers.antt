@@ -52,16 +52,17 @@ returns-in_default c =
 pub returns-in_default-stop : goal.returns-in_default-stop
 returns-in_default-stop c =
     let q = request_by c.args.options c.args.words.now in let input = c.args.input.now in
+    let stops = subst (StopsCommand q input) c.in-Call.is c.requires in
     some-weaker c.mistaken-in_default-stop.result
     (λ e. (e.status ≡ 2) × (string_bytes e.output ≡ [])
-    × ((m : CommandError) × (mistake_for c.args.miss ≡ Some m) × (string_bytes e.errors ≡ mistake_line m)))
+    × ((m : CommandError) × (mistake_for (Call c.in-Call.stop) ≡ Some m) × (string_bytes e.errors ≡ mistake_line m)))
     (λ e. (e.status ≤ 2) × Ends q input e.status (string_bytes e.output) (string_bytes e.errors))
     (λ e is.
     let m = is.2.0 in (
       omega (arith, is.0),
       inr (inr (
         is.0,
-        (m, mistaken-by c.args.options c.args.words.now input c.args.miss m is.2.1 c.requires, tells (mistake_line m) (string_bytes e.errors) is.2.2),
+        (m, mistaken-by c.args.options c.args.words.now input (Call c.in-Call.stop) m is.2.1 stops, tells (mistake_line m) (string_bytes e.errors) is.2.2),
         is.1,
       )),
     )) c.mistaken-in_default-stop.ensures
