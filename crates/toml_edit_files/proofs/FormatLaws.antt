@@ -22,12 +22,14 @@ use Rattle.toml_edit_script.specs.declared.fault.EditFault.TheVariants.{Memory, 
 use Rattle.toml_edit_files.proofs.EditLaws.{left}
 use Rattle.toml_edit_files.specs.Edited.{IsLeft, IsRead, IsWritten, mark_of, mode_by}
 use Rattle.toml_edit_files.specs.Folders.{OnlyLooks}
-use Rattle.toml_edit_files.specs.FormatFiles.{ArePlanned, ArePut, ArePutBefore, IsFormatted, IsFormattedOnly, IsPlanned, IsPut, StopsFormatting, passing_over, returns_after, rules_by, sorted_by, told}
+use Rattle.toml_edit_files.specs.FormatFiles.{ArePlanned, ArePut, ArePutBefore, IsFormatted, IsFormattedOnly, IsPlanned, IsPut, StopsFormatting, passing_over, formatted_by, rules_by, sorted_by, told}
 use Rattle.toml_edit_files.specs.Stops.{IsFor}
 use Rattle.toml_edit_files.specs.declared.fmt.Plan.{Plan}
 use Rattle.toml_edit_files.specs.declared.stop.Reason.{Reason}
 use Rattle.toml_edit_files.specs.declared.stop.Reason.TheVariants.{No, Mistaken, Failed, Refused}
 use Rattle.toml_edit_files.specs.declared.words.Reading.{Reading}
+use Rattle.toml_edit_files.specs.declared.words.Style.{Style}
+use Rattle.toml_edit_fmt.specs.Newlines.{returns_after}
 
 -- ---- sorts
 
@@ -69,38 +71,39 @@ no_returns false returns is = absurd (let never : exact ≡ plain = is in cc)
 shows_newlines : (reading : Reading) (t : Text) → ShowsNewlines (mode_by reading) (rules_by reading t)
 shows_newlines reading t = no_returns reading.normal (returns_after false t)
 
-module _ (reading : Reading) (sorts : List Edit) (before : Text) (x : Tree) (is_open : Bool) (y : Tree) (d : DocumentMut)
-    (read : IsRead reading before x is_open) (sorted : sorted_by sorts x ≡ Ok y)
-    (laid : tree_owned d ≡ formatted (rules_by reading before) y)
+module _ (reading : Reading) (style : Style) (before : Text) (x : Tree) (is_open : Bool) (y : Tree) (d : DocumentMut)
+    (read : IsRead reading before x is_open) (sorted : sorted_by style.sorts.items x ≡ Ok y)
+    (laid : tree_owned d ≡ formatted_by reading style.keys before y)
     (by_mode : mode_owned d ≡ mode_by reading) (same_end : open_owned d ≡ is_open)
-    (shows : ShowsTheSame) (prints : FormattedTextPrints) where
-  printed : print_of d ≡ print_in (mode_by reading) is_open (formatted (rules_by reading before) y)
+    (means : shown_meaning (tree_owned d) ≡ shown_meaning y) (prints : FormattedTextPrints) where
+  printed : print_of d ≡ print_in (mode_by reading) is_open (formatted_by reading style.keys before y)
   printed =
       ap (λ (m : Mode). print_in m (open_owned d) (tree_owned d)) by_mode
       ∙ ap (λ (b : Bool). print_in (mode_by reading) b (tree_owned d)) same_end
       ∙ ap (λ (t : Tree). print_in (mode_by reading) is_open t) laid
 
-  only : (s : Text) → IsWritten reading before d s → sorts ≡ [] → IsFormattedOnly reading before x s
-  only s w none =
+  only : (s : Text) → IsWritten reading before d s → style.sorts.items ≡ [] → style.keys ≡ false → IsFormattedOnly reading before x s
+  only s w none as_they_are =
       let e = read.reading.document in (
         e,
         read.reading.accepted,
         prints (mode_by reading) (rules_by reading before) (shows_newlines reading before) before e read.reading.accepted x read.reading.tree.tree,
         w.text
             ∙ ap (λ (t : Text). mark_of reading.normal before ++ t)
-            (printed ∙ ap (λ (z : Tree). print_in (mode_by reading) is_open (formatted (rules_by reading before) z)) (unsorted sorts x y none sorted)
+            (printed ∙ ap (λ (b : Bool). print_in (mode_by reading) is_open (formatted_by reading b before y)) as_they_are
+            ∙ ap (λ (z : Tree). print_in (mode_by reading) is_open (formatted (rules_by reading before) z)) (unsorted style.sorts.items x y none sorted)
             ∙ ap (λ (b : Bool). print_in (mode_by reading) b (formatted (rules_by reading before) x)) read.open_end
             ∙ same_open (mode_by reading) e (formatted (rules_by reading before) x)),
       )
 
-  pub formats : (s : Text) → IsWritten reading before d s → IsFormatted reading sorts before s
+  pub formats : (s : Text) → IsWritten reading before d s → IsFormatted reading style before s
   formats s w = record {
     tree = x;
     is_open = is_open;
     left = y;
     read = read;
     sorted = sorted;
-    shows = shows (rules_by reading before) y;
+    shows = ap shown_meaning (sym laid) ∙ means;
     written = subst (λ (t : Tree). IsLeft reading [] t is_open before s) laid
         (left reading [] (tree_owned d) is_open before d refl by_mode same_end s w);
     unsorted = only s w;
@@ -117,18 +120,18 @@ module _ (check : Bool) (ps : List Plan) (i : ℕ) (p : Plan) (below : i < lengt
   told_turn done all so =
       append_assoc done _ _ ∙ ap (λ (t : Text). done ++ t) (sym (ap (flat_map (told check)) (opened ps i p below is))) ∙ so
 
-module _ (reading : Reading) (sorts : List Edit) (fs : List (Bor Text)) (i : ℕ) (d : Bor Text) (p : Plan) (done : List Plan)
+module _ (reading : Reading) (style : Style) (fs : List (Bor Text)) (i : ℕ) (d : Bor Text) (p : Plan) (done : List Plan)
     (start before after : Option (List Event)) (below : i < length fs) where
-  pub planned_turn : IsPlanned reading sorts (get_or fs i d).now p before after
-      → ((ps : List Plan) (new : Option (List Event)) → ArePlanned reading sorts (map (λ f. f.now) (drop i fs)) ps before new
-      → ArePlanned reading sorts (map (λ f. f.now) fs) (done ++ ps) start new)
-      → (ps : List Plan) (new : Option (List Event)) → ArePlanned reading sorts (map (λ f. f.now) (drop (i + 1) fs)) ps after new
-      → ArePlanned reading sorts (map (λ f. f.now) fs) ((done ++ (p ∷ [])) ++ ps) start new
+  pub planned_turn : IsPlanned reading style (get_or fs i d).now p before after
+      → ((ps : List Plan) (new : Option (List Event)) → ArePlanned reading style (map (λ f. f.now) (drop i fs)) ps before new
+      → ArePlanned reading style (map (λ f. f.now) fs) (done ++ ps) start new)
+      → (ps : List Plan) (new : Option (List Event)) → ArePlanned reading style (map (λ f. f.now) (drop (i + 1) fs)) ps after new
+      → ArePlanned reading style (map (λ f. f.now) fs) ((done ++ (p ∷ [])) ++ ps) start new
   planned_turn planned more ps new rest =
       let now : Bor Text → Text = λ f. f.now in
       let here : map now (drop i fs) ≡ (get_or fs i d).now ∷ map now (drop (i + 1) fs) = ap (map now) (drop_more fs i d below) in
-      subst (λ (qs : List Plan). ArePlanned reading sorts (map now fs) qs start new) (sym (append_assoc done (p ∷ []) ps))
-      (more (p ∷ ps) new (subst (λ (ns : List Text). ArePlanned reading sorts ns (p ∷ ps) before new) (sym here) (after, planned, rest)))
+      subst (λ (qs : List Plan). ArePlanned reading style (map now fs) qs start new) (sym (append_assoc done (p ∷ []) ps))
+      (more (p ∷ ps) new (subst (λ (ns : List Text). ArePlanned reading style ns (p ∷ ps) before new) (sym here) (after, planned, rest)))
 
 module _ (p : Plan) (ps all : List Plan) (start before after : Option (List Event)) (put : IsPut p before after) where
   pub put_turn : ((new : Option (List Event)) → ArePut (p ∷ ps) before new → ArePut all start new)

@@ -1,13 +1,14 @@
 -- What `fmt` does with files.
-use Rattle.std.specs.Prelude.{◌≡◌, ◌⊎◌, ◌==◌, Bool, true, false, not, ◌&&◌, ◌||◌, if◌then◌else◌, MatchBool, List, [], ◌∷◌, ◌++◌, flat_map, map, Option, Some, None, Result, Ok, Err, bytes_eq, codes, string_bytes}
+use Rattle.std.specs.Prelude.{◌≡◌, ◌⊎◌, Bool, true, false, not, ◌||◌, if◌then◌else◌, MatchBool, List, [], ◌∷◌, ◌++◌, flat_map, map, Option, Some, None, Result, Ok, Err, bytes_eq, codes, string_bytes}
 use Rattle.std.specs.List.{list_all}
 use Rattle.toml_edit_model.specs.Accepted.{AcceptedAs}
 use Rattle.toml_edit_model.specs.Shown.{shown_meaning}
 use Rattle.toml_edit_model.specs.Syntax.{Document}
-use Rattle.toml_edit_model.specs.Text.{carriage_return, line_feed}
 use Rattle.toml_edit_model.specs.Tree.{Tree}
+use Rattle.toml_edit_fmt.specs.Newlines.{rules_for}
+use Rattle.toml_edit_fmt_laws.specs.BareKeys.{bared}
 use Rattle.toml_edit_fmt_laws.specs.FormattedTree.{formatted}
-use Rattle.toml_edit_fmt_laws.specs.Rules.{Rules, default_rules}
+use Rattle.toml_edit_fmt_laws.specs.Rules.{Rules}
 use Rattle.toml_edit_fmt_laws.specs.TreeLaws.{PrintsFormattedText, formatted_text}
 use Rattle.toml_edit_replace.specs.Events.{Text, Event}
 use Rattle.toml_edit_script.specs.Lists.{effect}
@@ -23,19 +24,13 @@ use Rattle.toml_edit_files.specs.declared.stop.Reason.{Reason}
 use Rattle.toml_edit_files.specs.declared.stop.Reason.TheVariants.{Failed}
 use Rattle.toml_edit_files.specs.declared.words.Fmt.{Fmt}
 use Rattle.toml_edit_files.specs.declared.words.Reading.{Reading}
+use Rattle.toml_edit_files.specs.declared.words.Style.{Style}
 
 -- ---- the text of a file
 
--- the first line feed is after a CR, where there is one before the text or not
-abbrev pub returns_after : Bool → Text → Bool
-returns_after after [] = false
-returns_after after (c ∷ cs) =
-    if c == line_feed then after else returns_after (c == carriage_return) cs
-
 -- lines that are made end in CR LF where line endings are kept and the first line does
 abbrev pub rules_by : Reading → Text → Rules
-rules_by reading t =
-    record default_rules { returns = not reading.normal && returns_after false t }
+rules_by reading t = rules_for (not reading.normal) t
 
 -- a path where nothing is is passed over
 abbrev pub passing_over : Tree → Result Tree EditFault → Result Tree EditFault
@@ -47,9 +42,9 @@ abbrev pub sorted_by : List Edit → Tree → Result Tree EditFault
 sorted_by [] x = Ok x
 sorted_by (e ∷ es) x = and_then (sorted_by es) (passing_over x (effect e x))
 
--- what is written of a tree
-abbrev pub formatted_by : Reading → Text → Tree → Tree
-formatted_by reading before x = formatted (rules_by reading before) x
+-- what is written of a tree, with bare keys if they are asked for
+abbrev pub formatted_by : Reading → Bool → Text → Tree → Tree
+formatted_by reading keys before x = formatted (rules_by reading before) (if keys then bared x else x)
 
 -- The text is the formatted normal form of the text before, behind its mark: it has the same
 -- comments, each with what it belongs to, and formatted again it stays, byte for byte.
@@ -62,25 +57,25 @@ IsFormattedOnly reading before x s =
 
 -- The text before is read. What the sorts leave of its tree is formatted, which shows the same, and
 -- written with no edit more.
-pub record IsFormatted (reading : Reading) (sorts : List Edit) (before s : Text) : Type 0 where
+pub record IsFormatted (reading : Reading) (style : Style) (before s : Text) : Type 0 where
   pub tree : Tree
   pub is_open : Bool
   pub left : Tree
   pub read : IsRead reading before tree is_open
-  pub sorted : sorted_by sorts tree ≡ Ok left
-  pub shows : shown_meaning (formatted_by reading before left) ≡ shown_meaning left
-  pub written : IsLeft reading [] (formatted_by reading before left) is_open before s
-  pub unsorted : sorts ≡ [] → IsFormattedOnly reading before tree s
+  pub sorted : sorted_by style.sorts.items tree ≡ Ok left
+  pub shows : shown_meaning (formatted_by reading style.keys before left) ≡ shown_meaning left
+  pub written : IsLeft reading [] (formatted_by reading style.keys before left) is_open before s
+  pub unsorted : style.sorts.items ≡ [] → style.keys ≡ false → IsFormattedOnly reading before tree s
 
 -- ---- what becomes of files
 
 -- A text of a file is refused if the version does not accept it, and that of standard input never.
-abbrev pub IsPlanFor : Reading → List Edit → Text → Text → Plan → Type 0
-IsPlanFor reading sorts name before (Refused line) =
+abbrev pub IsPlanFor : Reading → Style → Text → Text → Plan → Type 0
+IsPlanFor reading style name before (Refused line) =
     ¬ (IsAccepted (version_by reading) before) × (is_stream name ≡ false)
-IsPlanFor reading sorts name before (Formatted file old text) =
+IsPlanFor reading style name before (Formatted file old text) =
     (file.now ≡ name) × (string_bytes old ≡ before)
-    × IsFormatted reading sorts before (string_bytes text)
+    × IsFormatted reading style before (string_bytes text)
 
 -- one that is no UTF-8 has none
 abbrev pub IsUnread : Text → Plan → Type 0
@@ -88,22 +83,22 @@ IsUnread name (Refused line) = is_stream name ≡ false
 IsUnread name (Formatted file old text) = ⊥
 
 -- a file of this name is read
-abbrev pub IsPlanned : Reading → List Edit → Text → Plan → Option (List Event) → Option (List Event)
+abbrev pub IsPlanned : Reading → Style → Text → Plan → Option (List Event) → Option (List Event)
     → Type 0
-IsPlanned reading sorts name p old new =
+IsPlanned reading style name p old new =
     ((left : Option Text) × (before : Text) × IsTextOf name old new left before
-    × IsPlanFor reading sorts name before p)
+    × IsPlanFor reading style name before p)
     ⊎ ((left : Option Text) × IsNoTextOf name old new left × IsUnread name p)
 
 -- each file, one after another
-abbrev pub ArePlanned : Reading → List Edit → List Text → List Plan → Option (List Event)
+abbrev pub ArePlanned : Reading → Style → List Text → List Plan → Option (List Event)
     → Option (List Event) → Type 0
-ArePlanned reading sorts [] [] old new = new ≡ old
-ArePlanned reading sorts (name ∷ names) (p ∷ ps) old new =
-    (read : Option (List Event)) × IsPlanned reading sorts name p old read
-    × ArePlanned reading sorts names ps read new
-ArePlanned reading sorts [] (p ∷ ps) old new = ⊥
-ArePlanned reading sorts (name ∷ names) [] old new = ⊥
+ArePlanned reading style [] [] old new = new ≡ old
+ArePlanned reading style (name ∷ names) (p ∷ ps) old new =
+    (read : Option (List Event)) × IsPlanned reading style name p old read
+    × ArePlanned reading style names ps read new
+ArePlanned reading style [] (p ∷ ps) old new = ⊥
+ArePlanned reading style (name ∷ names) [] old new = ⊥
 
 -- the text of a file is replaced if it changes
 abbrev pub IsPut : Plan → Option (List Event) → Option (List Event) → Type 0
@@ -152,7 +147,7 @@ pub record FormatsFiles (reading : Reading) (c : Fmt) (old new : Option (List Ev
     (is_yes : Bool) (output : Text) : Type 0 where
   pub plans : List Plan
   pub read : Option (List Event)
-  pub planned : ArePlanned reading c.sorts.items (map (λ f. f.now) c.files.items) plans old read
+  pub planned : ArePlanned reading c.style (map (λ f. f.now) c.files.items) plans old read
   pub puts : MatchBool c.check (new ≡ read) (ArePut plans read new)
   pub answer : is_yes ≡ list_all (is_fine c.check) plans
   pub says : output ≡ flat_map (told c.check) plans

@@ -4,7 +4,7 @@ ghost use Rattle.std.specs.List.{list_all};
 ghost use Rattle.toml_edit.specs.DocumentView.{IsPrintedAs, mode_owned, open_owned, tree_owned};
 ghost use Rattle.toml_edit_files.specs.Edited.{IsRead, mode_by};
 ghost use Rattle.toml_edit_files.specs.Folders.{OnlyLooks, is_stream};
-ghost use Rattle.toml_edit_files.specs.FormatFiles.{ArePlanned, ArePut, ArePutBefore, FormatsFiles, IsFormatted, IsNotPut, IsPlanFor, IsPlanned, IsPut, StopsFormatting, is_fine, passing_over, returns_after, rules_by, sorted_by, told};
+ghost use Rattle.toml_edit_files.specs.FormatFiles.{ArePlanned, ArePut, ArePutBefore, FormatsFiles, IsFormatted, IsNotPut, IsPlanFor, IsPlanned, IsPut, StopsFormatting, is_fine, passing_over, rules_by, sorted_by, told};
 ghost use Rattle.toml_edit_files.specs.Stops.{IsFor, reason_of};
 ghost use Rattle.toml_edit_files.specs.declared.stop.Reason.TheVariants.{Failed, Refused};
 ghost use Rattle.toml_edit_script.specs.Lists.{effect};
@@ -14,7 +14,7 @@ use crate::edit::{put_file, text_after};
 use crate::messages::{failed, located, refused_edit};
 use crate::read::{STREAM, text_of};
 use crate::stop::{Reason, Stop};
-use crate::words::{Fmt, Reading};
+use crate::words::{Fmt, Reading, Style};
 use std::alloc::Global;
 use toml_edit::{DocumentMut, Mem, ParseFault, TomlError};
 use toml_edit_fmt::{Rules, format};
@@ -57,8 +57,8 @@ pub fn fmt<F: Folder, I: Input>(
     ensures stops { IfErr result (λ stop. StopsFormatting (F.history folder.old)
         (F.history folder.new) (reason_of stop)) }
 {
-    let (files, sorts) = (command.files.as_slice(), command.sorts.as_slice());
-    let plans = plans_of(alloc, folder, input, files, sorts, reading)?;
+    let (files, style) = (command.files.as_slice(), &command.style);
+    let plans = plans_of(alloc, folder, input, files, style, reading)?;
     let plans = plans.as_slice();
     let yes = are_fine(command.check, plans);
     let output = output_of(alloc, command.check, plans)?;
@@ -72,17 +72,17 @@ fn plans_of<'w, F: Folder, I: Input>(
     folder: &mut F,
     input: &mut I,
     files: &[&'w str],
-    sorts: &[Edit],
+    style: &Style,
     reading: Reading,
 ) -> Result<Vec<Plan<'w>>, Stop>
-    ensures planned { IfOk result (λ plans. ArePlanned reading sorts.now
+    ensures planned { IfOk result (λ plans. ArePlanned reading style.now
         (map (λ file. file.now) files.now) plans.items (F.history folder.old)
         (F.history folder.new)) }
     ensures looks { OnlyLooks (F.history folder.old) (F.history folder.new) }
 {
     let mut plans = Vec::new(alloc);
     'files: for file in files {
-        let plan = plan_of(alloc, folder, input, *file, sorts, reading)?;
+        let plan = plan_of(alloc, folder, input, *file, style, reading)?;
         plans.push(plan)?;
     }
     Ok(plans)
@@ -95,15 +95,15 @@ fn plan_of<'w, F: Folder, I: Input>(
     folder: &mut F,
     input: &mut I,
     file: &'w str,
-    sorts: &[Edit],
+    style: &Style,
     reading: Reading,
 ) -> Result<Plan<'w>, Stop>
-    ensures planned { IfOk result (λ plan. IsPlanned reading sorts.now file.now plan
+    ensures planned { IfOk result (λ plan. IsPlanned reading style.now file.now plan
         (F.history folder.old) (F.history folder.new)) }
     ensures looks { OnlyLooks (F.history folder.old) (F.history folder.new) }
 {
     match text_of(alloc, folder, input, file) {
-        Ok(text) => plan_for(alloc, file, text, sorts, reading),
+        Ok(text) => plan_for(alloc, file, text, style, reading),
         Err(stop) => Ok(Plan::Refused(unread_line(alloc, file, stop)?)),
     }
 }
@@ -130,15 +130,15 @@ fn plan_for<'w>(
     alloc: Global,
     file: &'w str,
     text: String,
-    sorts: &[Edit],
+    style: &Style,
     reading: Reading,
 ) -> Result<Plan<'w>, Stop>
     ensures { IfOk result
-        (λ plan. IsPlanFor reading sorts.now file.now (string_bytes text) plan) }
+        (λ plan. IsPlanFor reading style.now file.now (string_bytes text) plan) }
 {
     match DocumentMut::from_str_with(alloc, text.as_str(), reading.options()) {
         Ok(document) => {
-            let new = formatted_text(alloc, file, text.as_str(), document, sorts, reading)?;
+            let new = formatted_text(alloc, file, text.as_str(), document, style, reading)?;
             Ok(Plan::Formatted(file, text, new))
         }
         Err(ParseFault::Toml(error)) => Ok(Plan::Refused(refused_line(alloc, file, &error)?)),
@@ -164,44 +164,31 @@ fn formatted_text(
     file: &str,
     before: &str,
     document: DocumentMut,
-    sorts: &[Edit],
+    style: &Style,
     reading: Reading,
 ) -> Result<String, Stop>
     ensures { mode_owned document ≡ mode_by reading
         → IsRead reading before.now (tree_owned document) (open_owned document)
-        → IfOk result (λ s. IsFormatted reading sorts.now before.now (string_bytes s)) }
+        → IfOk result (λ s. IsFormatted reading style.now before.now (string_bytes s)) }
 {
     formatted_trees();
     formatted_reads();
     let mut document = document;
-    sort_all(alloc, file, &mut document, sorts)?;
-    let rules = rules_by(before, reading);
+    sort_all(alloc, file, &mut document, style.sorts.as_slice())?;
+    let rules = rules_by(before, reading, style.keys);
     let formatted = format(alloc, document, &rules)?;
     text_after(alloc, file, before, &formatted, reading)
 }
 
 /// Returns the rules for a text: lines that are made end as its first one does, unless none but line
 /// feeds are to be written.
-fn rules_by(text: &str, reading: Reading) -> Rules
-    ensures { rules_of result ≡ rules_by reading text.now }
+fn rules_by(text: &str, reading: Reading, keys: bool) -> Rules
+    ensures rules { rules_of result ≡ rules_by reading text.now }
+    ensures keys { result.keys ≡ keys }
 {
-    let mut rules = Rules::default();
-    rules.returns = !reading.normal && has_return(text.as_bytes());
+    let mut rules = Rules::for_text(text.as_bytes(), !reading.normal);
+    rules.keys = keys;
     rules
-}
-
-/// Returns `true` if the first line ends in CR LF.
-fn has_return(text: &[u8]) -> bool
-    ensures { result ≡ returns_after false text.now }
-{
-    let mut after = false;
-    'bytes: for byte in text {
-        if *byte == b'\n' {
-            return after;
-        }
-        after = *byte == b'\r';
-    }
-    false
 }
 
 /// Makes the sorts in the document.

@@ -45,7 +45,7 @@ pub fn usage(topic: Topic) -> &'static str {
         Topic::Keys => "tomlfile keys FILE [PATH] [--all]",
         Topic::Json => "tomlfile json FILE [PATH]",
         Topic::Check => "tomlfile check FILE..",
-        Topic::Fmt => "tomlfile fmt FILE.. [--check] [--sort PATH]..",
+        Topic::Fmt => "tomlfile fmt FILE.. [--check] [--keys] [--sort PATH]..",
     }
 }
 
@@ -164,6 +164,7 @@ values and comments stay as they are. A file that is no TOML is reported as by
 check, and the status is 1.
 
   --check      change nothing, and name the files that are not formatted
+  --keys       write keys without quotes where they need none
   --sort PATH  sort the keys of the table at PATH, if it is there
 
   tomlfile fmt Cargo.toml --sort dependencies

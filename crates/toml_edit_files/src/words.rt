@@ -148,8 +148,17 @@ pub struct Json<'w> {
 #[derive(Drop)]
 pub struct Fmt<'w> {
     pub files: Vec<&'w str>,
-    pub sorts: Vec<Edit>,
+    pub style: Style,
     pub check: bool,
+}
+
+/// What `fmt` changes besides the layout.
+#[derive(Drop)]
+pub struct Style {
+    /// Sorts, which are made first.
+    pub sorts: Vec<Edit>,
+    /// Whether keys are bare where they can be.
+    pub keys: bool,
 }
 
 /// Reads the words of a call.
@@ -437,7 +446,7 @@ fn json_of<'w>(alloc: Global, words: &'w [String]) -> Result<Json<'w>, Stop> {
 fn fmt_of<'w>(alloc: Global, words: &'w [String]) -> Result<Fmt<'w>, Stop> {
     let mut files = Vec::new(alloc);
     let mut sorts = Vec::new(alloc);
-    let mut check = false;
+    let (mut check, mut keys) = (false, false);
     let mut rest = words;
     'words: for _ in 0..words.len() {
         let [word, more @ ..] = rest else {
@@ -446,6 +455,7 @@ fn fmt_of<'w>(alloc: Global, words: &'w [String]) -> Result<Fmt<'w>, Stop> {
         rest = more;
         match word.as_str() {
             "--check" => check = true,
+            "--keys" => keys = true,
             "--sort" => {
                 let [path, more @ ..] = rest else {
                     return Err(wrong_words(alloc, Topic::Fmt));
@@ -459,9 +469,10 @@ fn fmt_of<'w>(alloc: Global, words: &'w [String]) -> Result<Fmt<'w>, Stop> {
     if files.is_empty() {
         return Err(wrong_words(alloc, Topic::Fmt));
     }
+    let style = Style { sorts, keys };
     Ok(Fmt {
         files,
-        sorts,
+        style,
         check,
     })
 }

@@ -49,7 +49,8 @@ impl Rules {
     /// Returns the default rules for a text: where line endings are kept, new lines end as its first
     /// line does.
     pub fn for_text(text: &[u8], is_exact: bool) -> Rules
-        ensures { rules_of result ≡ rules_for is_exact text.now }
+        ensures rules { rules_of result ≡ rules_for is_exact text.now }
+        ensures keys { result.keys ≡ false }
     {
         let mut rules = Rules::default();
         rules.returns = is_exact && first_line_has_return(text);

@@ -43,9 +43,8 @@ returns-clause-formats g c =
       plans = plans;
       read = read;
       planned =
-          subst (λ (fs : List (Bor Text)). ArePlanned c.args.reading command.sorts.items (map (λ f. f.now) fs) plans start read) c.as_slice-files.ensures.value
-          (subst (λ (es : List Edit). ArePlanned c.args.reading es (map (λ f. f.now) c.as_slice-files.result.now) plans start read) c.as_slice-sorts.ensures.value
-          c.in_ok-plans.ensures.planned);
+          subst (λ (fs : List (Bor Text)). ArePlanned c.args.reading command.style (map (λ f. f.now) fs) plans start read) c.as_slice-files.ensures.value
+          c.in_ok-plans.ensures.planned;
       puts = subst (λ (ps : List Plan). MatchBool command.check (new ≡ read) (ArePut ps read new)) same c.in_ok-put_all.ensures.puts;
       answer = c.are_fine-yes.ensures ∙ ap (list_all (is_fine command.check)) same;
       says = c.in_ok-output.ensures ∙ ap (flat_map (told command.check)) same;

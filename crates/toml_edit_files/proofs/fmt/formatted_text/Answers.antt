@@ -1,11 +1,14 @@
 -- What the sorts leave is formatted and written.
-use Rattle.std.proofs.Common.{◌∙◌, ap, string_bytes}
+use Rattle.std.proofs.Common.{◌≡◌, ◌∙◌, Bool, List, Ok, ap, string_bytes, subst}
+use Rattle.std.specs.Prelude.{if◌then◌else◌}
 use Rattle.std.proofs.lemmas.Result.{IfOk-weaker}
 use Rattle.toml_edit.specs.DocumentView.{open_owned, tree_owned}
+use Rattle.toml_edit_fmt_laws.specs.BareKeys.{bared}
 use Rattle.toml_edit_fmt_laws.specs.FormattedTree.{formatted}
 use Rattle.toml_edit_fmt_laws.specs.Rules.{Rules}
 use Rattle.toml_edit_files.specs.Edited.{IsWritten}
-use Rattle.toml_edit_files.specs.FormatFiles.{IsFormatted}
+use Rattle.toml_edit_files.specs.FormatFiles.{IsFormatted, formatted_by, sorted_by}
+use Rattle.toml_edit_script.specs.declared.edit.Edit.{Edit}
 use Rattle.toml_edit_files.proofs.FormatLaws.{formats}
 use Rattle.toml_edit_files.proofs.fmt.formatted_text.Goals as goal
 
@@ -15,13 +18,17 @@ returns c =
     let d = c.in_ok-formatted.formatted in
     let y = tree_owned c.sort_all.new.document in
     let before = c.args.before.now in
+    let rules = c.rules_by-rules.rules in
     IfOk-weaker c.text_after.result (λ s. IsWritten c.args.reading before d (string_bytes s))
-    (λ s. IsFormatted c.args.reading c.args.sorts.now before (string_bytes s))
+    (λ s. IsFormatted c.args.reading c.args.style.now before (string_bytes s))
     (λ s written.
-    formats c.args.reading c.args.sorts.now before (tree_owned c.args.document) (open_owned c.args.document) y d
-    read c.in_ok-sort_all.ensures.sorted
-    (c.in_ok-formatted.ensures.tree ∙ ap (λ (r : Rules). formatted r y) c.rules_by-rules.ensures)
+    formats c.args.reading c.args.style.now before (tree_owned c.args.document) (open_owned c.args.document) y d
+    read
+    (subst (λ (es : List Edit). sorted_by es (tree_owned c.args.document) ≡ Ok y) c.as_slice.ensures.value c.in_ok-sort_all.ensures.sorted)
+    (c.in_ok-formatted.ensures.tree
+        ∙ ap (λ (r : Rules). formatted r (if rules.keys then bared y else y)) c.rules_by-rules.ensures.rules
+        ∙ ap (λ (b : Bool). formatted_by c.args.reading b before y) c.rules_by-rules.ensures.keys)
     (c.in_ok-formatted.ensures.printed.0 ∙ c.sort_all.ensures.printed.0 ∙ by_mode)
     (c.in_ok-formatted.ensures.printed.1 ∙ c.sort_all.ensures.printed.1)
-    c.formatted_trees.ensures.means c.formatted_reads.ensures.prints (string_bytes s) written)
+    c.in_ok-formatted.ensures.means c.formatted_reads.ensures.prints (string_bytes s) written)
     c.text_after.ensures.text

@@ -10,8 +10,8 @@ returns-in-Ok-clause-planned g c =
     let name = c.args.file.now in
     let old = g.F.Folder.history c.args.folder.now in
     let new = g.F.Folder.history c.text_of.new.folder in
-    IfOk-weaker c.plan_for.result (IsPlanFor c.args.reading c.args.sorts.now name (string_bytes c.in-Ok.text))
-    (λ p. IsPlanned c.args.reading c.args.sorts.now name p old new)
+    IfOk-weaker c.plan_for.result (IsPlanFor c.args.reading c.args.style.now name (string_bytes c.in-Ok.text))
+    (λ p. IsPlanned c.args.reading c.args.style.now name p old new)
     (λ p planned. inl (g.I.Input.remaining c.args.input.now, string_bytes c.in-Ok.text, c.in-Ok.ensures.text, planned)) c.plan_for.ensures
 
 pub returns-in_ok-unread_line-in-Err-clause-planned : goal.returns-in_ok-unread_line-in-Err-clause-planned

@@ -24,8 +24,8 @@ files-preserved g c =
     let start = g.F.Folder.history c.args.folder.now in (
       looks_then _ _ _ c.files.invariant.0 c.in_ok-plan.ensures.looks,
       λ ps new rest.
-          subst (λ (qs : List Plan). ArePlanned c.args.reading c.args.sorts.now (map (λ x. x.now) fs) (qs ++ ps) start new) (sym c.in_ok-push.ensures.items)
-          (planned_turn c.args.reading c.args.sorts.now fs i _ c.in_ok-plan.plan c.files.plans.items start before after below
+          subst (λ (qs : List Plan). ArePlanned c.args.reading c.args.style.now (map (λ x. x.now) fs) (qs ++ ps) start new) (sym c.in_ok-push.ensures.items)
+          (planned_turn c.args.reading c.args.style.now fs i _ c.in_ok-plan.plan c.files.plans.items start before after below
           c.in_ok-plan.ensures.planned c.files.invariant.1 ps new rest),
     )
 
@@ -36,6 +36,6 @@ returns-clause-planned g c =
     let past : length fs ≤ i = omega arith in
     let none : map (λ x. x.now) (drop i fs) ≡ [] = ap (map (λ x. x.now)) (drop_all i fs past) in
     let new = g.F.Folder.history c.files.folder in
-    subst (λ (ps : List Plan). ArePlanned c.args.reading c.args.sorts.now (map (λ x. x.now) fs) ps (g.F.Folder.history c.args.folder.now) new)
+    subst (λ (ps : List Plan). ArePlanned c.args.reading c.args.style.now (map (λ x. x.now) fs) ps (g.F.Folder.history c.args.folder.now) new)
     (append-nil c.files.plans.items)
-    (c.files.invariant.1 [] new (subst (λ (ns : List Text). ArePlanned c.args.reading c.args.sorts.now ns [] new new) (sym none) refl))
+    (c.files.invariant.1 [] new (subst (λ (ns : List Text). ArePlanned c.args.reading c.args.style.now ns [] new new) (sym none) refl))

@@ -11,5 +11,5 @@ abbrev pub invariant-files : goal.invariant-files
 invariant-files g l =
     OnlyLooks (g.F.Folder.history l.initial.folder) (g.F.Folder.history l.folder)
     × ((ps : List Plan) (new : Option (List Event))
-    → ArePlanned l.reading l.sorts (map (λ f. f.now) (drop l.file-index l.files)) ps (g.F.Folder.history l.folder) new
-    → ArePlanned l.reading l.sorts (map (λ f. f.now) l.files) (l.plans.items ++ ps) (g.F.Folder.history l.initial.folder) new)
+    → ArePlanned l.reading l.style (map (λ f. f.now) (drop l.file-index l.files)) ps (g.F.Folder.history l.folder) new
+    → ArePlanned l.reading l.style (map (λ f. f.now) l.files) (l.plans.items ++ ps) (g.F.Folder.history l.initial.folder) new)
