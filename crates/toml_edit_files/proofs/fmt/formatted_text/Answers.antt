@@ -26,8 +26,8 @@ returns c =
     read
     (subst (λ (es : List Edit). sorted_by es (tree_owned c.args.document) ≡ Ok y) c.as_slice.ensures.value c.in_ok-sort_all.ensures.sorted)
     (c.in_ok-formatted.ensures.tree
-        ∙ ap (λ (r : Rules). formatted r (if rules.keys then bared y else y)) c.rules_by-rules.ensures.rules
-        ∙ ap (λ (b : Bool). formatted_by c.args.reading b before y) c.rules_by-rules.ensures.keys)
+    ∙ ap (λ (r : Rules). formatted r (if rules.keys then bared y else y)) c.rules_by-rules.ensures.rules
+    ∙ ap (λ (b : Bool). formatted_by c.args.reading b before y) c.rules_by-rules.ensures.keys)
     (c.in_ok-formatted.ensures.printed.0 ∙ c.sort_all.ensures.printed.0 ∙ by_mode)
     (c.in_ok-formatted.ensures.printed.1 ∙ c.sort_all.ensures.printed.1)
     c.in_ok-formatted.ensures.means c.formatted_reads.ensures.prints (string_bytes s) written)
