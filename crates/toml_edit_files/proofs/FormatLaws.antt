@@ -7,10 +7,11 @@ use Rattle.toml_edit.specs.Documents.{opens}
 use Rattle.toml_edit.specs.declared.document.DocumentMut.{DocumentMut}
 use Rattle.toml_edit_fmt_laws.specs.FormattedTree.{formatted}
 use Rattle.toml_edit_fmt_laws.specs.Promises.{ShowsNewlines}
-use Rattle.toml_edit_fmt_laws.specs.TreeLaws.{FormattedTextPrints, ShowsTheSame}
+use Rattle.toml_edit_fmt_laws.specs.TreeLaws.{FormattedTextPrints}
 use Rattle.toml_edit_model.specs.Mode.{Mode, plain, exact}
 use Rattle.toml_edit_model.specs.Normal.{has_open_end}
 use Rattle.toml_edit_model.specs.Print.{print_in}
+use Rattle.toml_edit_model.specs.Shown.{shown_meaning}
 use Rattle.toml_edit_model.specs.Syntax.{Document}
 use Rattle.toml_edit_model.specs.Tree.{Tree}
 use Rattle.toml_edit_replace.specs.Events.{Text, Event}

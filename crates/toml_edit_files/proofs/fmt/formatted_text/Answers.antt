@@ -18,7 +18,7 @@ returns c =
     let d = c.in_ok-formatted.formatted in
     let y = tree_owned c.sort_all.new.document in
     let before = c.args.before.now in
-    let rules = c.rules_by-rules.rules in
+    let rules = c.rules_by-rules.result in
     IfOk-weaker c.text_after.result (λ s. IsWritten c.args.reading before d (string_bytes s))
     (λ s. IsFormatted c.args.reading c.args.style.now before (string_bytes s))
     (λ s written.
