@@ -47,22 +47,21 @@ def keys_to(document):
     return keys
 
 
-def by_tomlkit(tomlkit, text, keys):
-    document = tomlkit.parse(text)
-    node = document
+def changed(parsed, keys):
+    """Sets the value at the path, and returns what was parsed."""
+    node = parsed
     for key in keys[:-1]:
         node = node[key]
     node[keys[-1]] = "changed"
-    return tomlkit.dumps(document)
+    return parsed
+
+
+def by_tomlkit(tomlkit, text, keys):
+    return tomlkit.dumps(changed(tomlkit.parse(text), keys))
 
 
 def by_document(text, keys):
-    document = toml_edit.loads(text)
-    node = document
-    for key in keys[:-1]:
-        node = node[key]
-    node[keys[-1]] = "changed"
-    return toml_edit.dumps(document)
+    return toml_edit.dumps(changed(toml_edit.loads(text), keys))
 
 
 def rust(program, file, path, count):

@@ -3,7 +3,7 @@
  * not changed.
  *
  * Each call takes a whole text and gives a text, as `snprintf` does: the caller lends the room, and
- * is told how many bytes are needed. If they do not fit, nothing is written.
+ * the answer says how many bytes are needed. If they do not fit, nothing is written.
  *
  *     struct toml_edit_answer answer =
  *         toml_edit_set(0, text, text_size, path, path_size, value, value_size, room, room_size);
