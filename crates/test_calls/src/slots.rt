@@ -2,8 +2,9 @@
 use crate::holding::{holds_changed, holds_moved, no_memory};
 use crate::spans::is_done;
 use std::alloc::Global;
-use toml_edit::{Decor, Key, Mem, Slot, Slots};
+use toml_edit::{Decor, InternalString, Key, Mem, Slot, Slots};
 use toml_edit_slots::Renamed;
+use toml_edit_text::SharedText;
 
 fn is_next(slots: &Slots<u8>, name: &str, before: usize) -> bool {
     slots.find(name) == Some(before) && slots.len().checked_sub(before) == Some(1)
@@ -218,11 +219,12 @@ fn spelled(slots: &Slots<u8>) -> Option<&str> {
 }
 
 fn cuts_key(alloc: Global) -> Mem<bool> {
-    let name = String::from_str(alloc, "k")?;
+    let name = InternalString::from_text(alloc, "k")?;
+    let source = SharedText::from_text(alloc, "k = 1")?;
     let key = Key::spanned(name, 0, 1, Decor::default(), Decor::default());
     let mut slots: Slots<u8> = Slots::new(alloc);
     slots.push(Slot { key, item: 7 }).map_err(no_memory)?;
-    match slots.despan_key(0, alloc, "k = 1") {
+    match slots.despan_key(0, alloc, &source) {
         Ok(()) => Ok(spelled(&slots) == Some("k") && slots.get("k") == Some(&7)),
         Err(refused) => Err(refused),
     }

@@ -1,6 +1,7 @@
 //! Spans that are replaced by the texts that they cut.
 use std::alloc::Global;
-use toml_edit::{Decor, Formatted, Key, Mem, RawString};
+use toml_edit::{Decor, Formatted, InternalString, Key, Mem, RawString};
+use toml_edit_text::SharedText;
 
 /// Returns `true` if it was done, and right.
 pub fn is_done(answer: Mem<bool>) -> bool {
@@ -12,24 +13,28 @@ fn is_decor(decor: &Decor, before: &str, after: &str) -> bool {
         && decor.suffix().and_then(RawString::as_str) == Some(after)
 }
 
-fn cuts_text(alloc: Global) -> bool {
+fn cuts_text(alloc: Global) -> Mem<bool> {
+    let source = SharedText::from_text(alloc, "k = text")?;
     let mut raw = RawString::from_span(4, 8);
-    raw.despan(alloc, "k = text").is_ok() && raw.as_str() == Some("text")
+    raw.despan(alloc, &source)?;
+    Ok(raw.as_str() == Some("text"))
 }
 
 #[test]
 fn cuts_texts(rt: HostRuntime) {
-    assert!(rt; cuts_text(rt.alloc()));
+    assert!(rt; is_done(cuts_text(rt.alloc())));
 }
 
-fn cuts_decor(alloc: Global) -> bool {
+fn cuts_decor(alloc: Global) -> Mem<bool> {
+    let source = SharedText::from_text(alloc, "k =  1 # a")?;
     let mut decor = Decor::new(RawString::from_span(3, 5), RawString::from_span(6, 10));
-    decor.despan(alloc, "k =  1 # a").is_ok() && is_decor(&decor, "  ", " # a")
+    decor.despan(alloc, &source)?;
+    Ok(is_decor(&decor, "  ", " # a"))
 }
 
 #[test]
 fn cuts_decors(rt: HostRuntime) {
-    assert!(rt; cuts_decor(rt.alloc()));
+    assert!(rt; is_done(cuts_decor(rt.alloc())));
 }
 
 fn is_cut_key(key: &Key) -> bool {
@@ -38,10 +43,11 @@ fn is_cut_key(key: &Key) -> bool {
 }
 
 fn cuts_key(alloc: Global) -> Mem<bool> {
-    let name = String::from_str(alloc, "k")?;
+    let name = InternalString::from_text(alloc, "k")?;
+    let source = SharedText::from_text(alloc, "  k\t\t= 1")?;
     let leaf = Decor::new(RawString::from_span(0, 2), RawString::from_span(3, 5));
     let mut key = Key::spanned(name, 2, 3, leaf, Decor::default());
-    match key.despan(alloc, "  k\t\t= 1") {
+    match key.despan(alloc, &source) {
         Ok(()) => Ok(is_cut_key(&key)),
         Err(refused) => Err(refused),
     }
@@ -52,17 +58,17 @@ fn cuts_keys(rt: HostRuntime) {
     assert!(rt; is_done(cuts_key(rt.alloc())));
 }
 
-fn cuts_scalar(alloc: Global) -> bool {
+fn cuts_scalar(alloc: Global) -> Mem<bool> {
+    let source = SharedText::from_text(alloc, "k =  true # a")?;
     let decor = Decor::new(RawString::from_span(3, 5), RawString::from_span(9, 13));
     let mut scalar = Formatted::spanned(true, 5, 9, decor);
-    scalar.despan(alloc, "k =  true # a").is_ok()
-        && scalar.span().is_none()
-        && is_decor(scalar.decor(), "  ", " # a")
+    scalar.despan(alloc, &source)?;
+    Ok(scalar.span().is_none() && is_decor(scalar.decor(), "  ", " # a"))
 }
 
 #[test]
 fn cuts_scalars(rt: HostRuntime) {
-    assert!(rt; cuts_scalar(rt.alloc()));
+    assert!(rt; is_done(cuts_scalar(rt.alloc())));
 }
 
 /// Returns `true` if a span is read where it lies in the text, and cuts no character.

@@ -1,9 +1,8 @@
-//! Owned texts: that they take two words, that there is memory, and what is printed.
+//! Packed texts: that they cross threads, that there is memory, and what is printed.
 use std::alloc::Global;
 use std::fmt::Debug;
 use std::marker::{Send, Sync};
-use std::mem::size_of;
-use toml_edit_text::{BoxedText, LeakedText};
+use toml_edit_text::{PackedText, SharedText};
 
 const TEXTS: [&str; 4] = [
     "",
@@ -12,36 +11,56 @@ const TEXTS: [&str; 4] = [
     "日本語, and more than a few bytes",
 ];
 
-#[test]
-fn texts_take_two_words(rt: HostRuntime) {
-    assert_eq!(rt; size_of::<BoxedText>(), 16);
-    assert_eq!(rt; size_of::<LeakedText>(), 16);
-}
-
 fn crosses<T: Send + Sync>(_value: &T) {}
 
-fn is_boxed(alloc: Global, text: &str) -> bool {
-    let Ok(boxed) = BoxedText::from_text(alloc, text) else {
+fn is_copied(alloc: Global, text: &str) -> bool {
+    let Ok(packed) = PackedText::from_text(alloc, text) else {
         return false;
     };
-    crosses(&boxed);
-    boxed.as_str() == text
+    crosses(&packed);
+    packed.as_str() == Some(text)
 }
 
-fn is_leaked(alloc: Global, text: &str) -> bool {
-    let Ok(owned) = text.to_string(alloc) else {
-        return false;
-    };
-    let leaked = LeakedText::new(owned);
-    crosses(&leaked);
-    leaked.as_str() == text
+/// Cuts the text from `start` up to `end`, if these are boundaries of characters.
+fn cut(alloc: Global, shared: &SharedText, start: u32, end: u32) -> Option<PackedText> {
+    let (text, start, end) = (shared.as_str(), start as usize, end as usize);
+    if start <= end && text.is_char_boundary(start) && text.is_char_boundary(end) {
+        let mut packed = PackedText::from_span(start, end);
+        packed.despan(alloc, shared).ok()?;
+        Some(packed)
+    } else {
+        None
+    }
+}
+
+fn holds(packed: &Option<PackedText>, text: &str) -> bool {
+    match packed {
+        Some(packed) => packed.as_str() == Some(text),
+        None => false,
+    }
+}
+
+// A part outlives the text that it was cut from, and the other parts of it.
+fn outlives(alloc: Global, shared: SharedText) -> bool {
+    crosses(&shared);
+    let key = cut(alloc, &shared, 0, 3);
+    let value = cut(alloc, &shared, 7, 26);
+    drop(shared);
+    holds(&key, "key") && holds(&value, "schlüssel zum Haus")
 }
 
 #[test]
 fn texts_are_given_back(rt: HostRuntime) {
     for text in TEXTS {
-        assert!(rt; is_boxed(rt.alloc(), text));
-        assert!(rt; is_leaked(rt.alloc(), text));
+        assert!(rt; is_copied(rt.alloc(), text));
+    }
+}
+
+#[test]
+fn parts_keep_their_text(rt: HostRuntime) {
+    match SharedText::from_text(rt.alloc(), "key = \"schlüssel zum Haus\"") {
+        Ok(shared) => assert!(rt; outlives(rt.alloc(), shared)),
+        Err(_) => assert!(rt; false),
     }
 }
 
@@ -53,22 +72,14 @@ fn debugs<T: Debug>(alloc: Global, made: &T, shown: &str) -> bool {
     }
 }
 
-fn boxed_debugs(alloc: Global, text: &str, shown: &str) -> bool {
-    match BoxedText::from_text(alloc, text) {
-        Ok(boxed) => debugs(alloc, &boxed, shown),
-        Err(_) => false,
-    }
-}
-
-fn leaked_debugs(alloc: Global, text: &str, shown: &str) -> bool {
-    match text.to_string(alloc) {
-        Ok(owned) => debugs(alloc, &LeakedText::new(owned), shown),
+fn packed_debugs(alloc: Global, text: &str, shown: &str) -> bool {
+    match PackedText::from_text(alloc, text) {
+        Ok(packed) => debugs(alloc, &packed, shown),
         Err(_) => false,
     }
 }
 
 #[test]
 fn texts_are_printed_as_a_str(rt: HostRuntime) {
-    assert!(rt; boxed_debugs(rt.alloc(), "a \"b\"\n", "\"a \\\"b\\\"\\n\""));
-    assert!(rt; leaked_debugs(rt.alloc(), "a \"b\"\n", "\"a \\\"b\\\"\\n\""));
+    assert!(rt; packed_debugs(rt.alloc(), "a \"b\"\n", "\"a \\\"b\\\"\\n\""));
 }

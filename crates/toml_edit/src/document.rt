@@ -10,6 +10,7 @@ use toml_edit_error::ParseFault;
 use toml_edit_fits::{Misfit, first_misfit, tree_fits};
 use toml_edit_parser::{ParseOptions, parse_with};
 use toml_edit_repr::{Mem, Mode, RawString};
+use toml_edit_text::SharedText;
 use toml_edit_tree::{Item, Iter, Table};
 
 mod at;
@@ -32,7 +33,7 @@ pub use print::PrintFault;
 ///
 /// From `source_of` of the crate `toml_edit_guide`.
 pub trait SourceText: Drop {
-    ghost use Rattle.std.specs.Prelude.{◌≡◌, List, ℕ};
+    ghost use Rattle.std.specs.Prelude.{◌≡◌, IfOk, List, ℕ};
 
     /// The text.
     ghost content: { Self → List ℕ };
@@ -40,6 +41,15 @@ pub trait SourceText: Drop {
     /// Returns the text.
     fn text(&self) -> &str
         ensures { result.now ≡ content self.now };
+
+    /// Converts the source into a text that a tree can hold parts of. A `String` is not copied.
+    ///
+    /// # Errors
+    ///
+    /// Returns an `AllocError` if out of memory.
+    #[doc(hidden)]
+    fn into_shared(self, alloc: Global) -> Mem<SharedText>
+        ensures { IfOk result (λ shared. shared ≡ content self) };
 }
 
 impl SourceText for &str {
@@ -47,6 +57,10 @@ impl SourceText for &str {
 
     fn text(&self) -> &str {
         *self
+    }
+
+    fn into_shared(self, alloc: Global) -> Mem<SharedText> {
+        SharedText::from_text(alloc, self)
     }
 }
 
@@ -57,6 +71,10 @@ impl SourceText for String {
 
     fn text(&self) -> &str {
         self.as_str()
+    }
+
+    fn into_shared(self, alloc: Global) -> Mem<SharedText> {
+        SharedText::new(alloc, self)
     }
 }
 
@@ -275,8 +293,9 @@ impl<S: SourceText> Document<S> {
 
     /// Converts the document into one that owns its texts and can be changed.
     ///
-    /// Each span is replaced by a copy of the text that it cuts, so no span is left: ask for spans
-    /// before. It keeps line endings and an open end if this document does.
+    /// Each span is replaced by the text that it cuts, so no span is left: ask for spans before. Long
+    /// texts are parts of the source, which is kept until the last of them is dropped; one that is
+    /// borrowed is copied first. It keeps line endings and an open end if this document does.
     ///
     /// # Errors
     ///
@@ -302,8 +321,9 @@ impl<S: SourceText> Document<S> {
             open_end,
         } = self;
         let mut table = table_of(root);
-        table.despan(alloc, raw.text())?;
-        trailing.despan(alloc, raw.text())?;
+        let source = raw.into_shared(alloc)?;
+        table.despan(alloc, &source)?;
+        trailing.despan(alloc, &source)?;
         Ok(DocumentMut {
             root: Item::Table(table),
             trailing,

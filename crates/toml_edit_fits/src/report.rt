@@ -130,7 +130,10 @@ impl Report for Trail {
 
     fn report_element(&mut self, number: usize) {
         match number.to_string(self.alloc) {
-            Ok(digits) => self.add(Key::new(digits)),
+            Ok(digits) => match Key::new(digits) {
+                Ok(step) => self.add(step),
+                Err(_) => self.refused = true,
+            },
             Err(_) => self.refused = true,
         }
     }

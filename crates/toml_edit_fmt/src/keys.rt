@@ -128,7 +128,7 @@ pub(crate) fn set_leading(
 {
     if lays_lines(rules) {
         let before = leading(alloc, rules, is_start, indent, side_text(decor.prefix()))?;
-        decor.set_prefix(RawString::from(before));
+        decor.set_prefix(RawString::from_string(before)?);
     }
     Ok(())
 }
@@ -159,7 +159,7 @@ pub(crate) fn format_header(alloc: Global, rules: &Rules, keys: usize, decor: &m
     if lays_lines(rules) {
         let indent = header_indent(alloc, rules, keys)?;
         let before = header_leading(alloc, rules, indent.as_str(), side_text(decor.prefix()))?;
-        decor.set_prefix(RawString::from(before));
+        decor.set_prefix(RawString::from_string(before)?);
     }
     format_rest(alloc, rules, decor)
 }

@@ -126,7 +126,7 @@ impl Inside {
             Layout::OnOneLine => decor.set_prefix(RawString::from_text(alloc, default)?),
             Layout::LineByLine => {
                 let before = self.line_before(alloc, is_first, side_text(decor.prefix()))?;
-                decor.set_prefix(RawString::from(before));
+                decor.set_prefix(RawString::from_string(before)?);
             }
         }
         Ok(())
@@ -172,7 +172,7 @@ impl Inside {
             Layout::OnOneLine => decor.set_suffix(RawString::from_text(alloc, default)?),
             Layout::LineByLine => {
                 let after = self.line_after(alloc, is_end, side_text(decor.suffix()))?;
-                decor.set_suffix(RawString::from(after));
+                decor.set_suffix(RawString::from_string(after)?);
             }
         }
         Ok(())
@@ -209,7 +209,7 @@ impl Inside {
             Layout::OnOneLine => Ok(RawString::default()),
             Layout::LineByLine => {
                 let text = self.line_of_bracket(alloc, has_any, last, closing)?;
-                Ok(RawString::from(text))
+                RawString::from_string(text)
             }
         }
     }

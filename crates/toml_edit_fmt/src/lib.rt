@@ -98,6 +98,6 @@ fn format_in_place(alloc: Global, document: &mut DocumentMut, rules: &Rules) -> 
     table::format_tree(alloc, rules, document.as_table_mut())?;
     let text = laying::text_of_raw(document.trailing());
     let trailing = laying::final_text(alloc, rules, is_bare, text)?;
-    document.set_trailing(RawString::from(trailing));
+    document.set_trailing(RawString::from_string(trailing)?);
     Ok(())
 }

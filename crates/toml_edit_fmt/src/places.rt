@@ -52,7 +52,7 @@ pub(crate) fn format_rest(alloc: Global, rules: &Rules, decor: &mut Decor) -> Me
 {
     if rules.before_comment.is_some() {
         let after = line_rest(alloc, rules, side_text(decor.suffix()))?;
-        decor.set_suffix(RawString::from(after));
+        decor.set_suffix(RawString::from_string(after)?);
     }
     Ok(())
 }

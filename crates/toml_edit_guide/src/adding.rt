@@ -283,7 +283,7 @@ pub fn push_line(alloc: Global, array: &mut Array, text: &str) -> Mem<()>
     // A comment after the last value stays on its line.
     let comment = text_of(after_last(array)).trim_end();
     let indent = indent_of(text_of(before_last(array)));
-    let prefix = RawString::from(format!(in alloc; "{comment}\n{indent}")?);
+    let prefix = RawString::from_string(format!(in alloc; "{comment}\n{indent}")?)?;
     let end = RawString::from_text(alloc, "\n")?;
     let count = array.len();
     let value = Value::string(alloc, text)?.decorated(prefix, RawString::default());

@@ -68,7 +68,7 @@ pub fn set_comment(alloc: Global, table: &mut Table, key: &str, comment: &str) -
         (slots_of table.new ≡ commented key.now comment.now (slots_of table.old)) }
     ensures err { OnErr result (table.new ≡ table.old) }
 {
-    let comment = RawString::from(format!(in alloc; "# {comment}\n")?);
+    let comment = RawString::from_string(format!(in alloc; "# {comment}\n")?)?;
     match table.slot_mut(key) {
         Some(mut slot) => {
             set_prefix(&mut slot, comment);

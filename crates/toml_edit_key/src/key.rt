@@ -1,5 +1,5 @@
 //! Keys, and mutable references to all of a key but its name.
-ghost use Rattle.std.specs.Prelude.{◌≡◌, Some, IsSome, IsOkAnd, IfOk, OnOk, option_map, option_and_then, refl, bytes_eq, string_bytes};
+ghost use Rattle.std.specs.Prelude.{◌≡◌, ◌<◌, ◌^◌, Some, IsOk, IsSome, IsOkAnd, IfOk, OnOk, OnErr, IfSome, option_map, option_and_then, refl, bytes_eq, string_bytes, string_len};
 ghost use Rattle.std.specs.Option.{option_copied};
 ghost use Rattle.std.specs.Cow.{cow_str_bytes, IsBorrowedStr};
 ghost use Rattle.std.specs.Fmt.{WritesInCalls};
@@ -7,12 +7,15 @@ ghost use Rattle.std.specs.Hash as fed;
 ghost use Rattle.std.specs.Ordering.{nat_cmp};
 ghost use Rattle.std.specs.Cmp.{on_equiv, on_total, on_po, on_per, partial_equiv_from_equiv};
 ghost use Rattle.std.specs.Cmp.Lexicographic.{slice_cmp, nat_list_eq_equiv, nat_list_cmp_total, texts_ties, texts_po};
-ghost use Rattle.toml_edit_model.specs.Tree.{owned, key_text, shown_spelling};
+ghost use Rattle.toml_edit_model.specs.Tree.{owned, key_text, shown_spelling, span};
+ghost use Rattle.toml_edit_model.specs.OwnedForm.{RawFits, cut_out};
+ghost use Rattle.toml_edit_model.specs.Text.{Text};
 ghost use Rattle.toml_edit_model.specs.DefaultSpelling.{key_spelling};
 ghost use Rattle.toml_edit_model.specs.Keys.{new_key, reset_key};
 ghost use Rattle.toml_edit_model.specs.Spelling.{SpellsKey};
 ghost use Rattle.toml_edit_repr.specs.Views.{text_of};
 ghost use Rattle.toml_edit_key.specs.Keys.{name_of, spanned_key};
+ghost use Rattle.toml_edit_key.specs.Spelled.{begins_bare};
 
 use std::alloc::Global;
 use std::borrow::CowStr;
@@ -23,8 +26,10 @@ use std::hash::{Hash, Hasher};
 use std::marker::Model;
 use std::ops::Range;
 use toml_edit_io::{Printed, Sink, print, show};
-use toml_edit_repr::{Decor, Mem, RawString, Repr, clone_spelling, despan_spelling, spelling_text};
+use toml_edit_repr::{Decor, InternalString, Mem, RawString, Repr, spelling_text};
+use toml_edit_text::SharedText;
 use toml_edit_token::put_key;
+use toml_edit_token::run::{byte_at, is_bare};
 
 /// A key: its name, its spelling, its *leaf* decor, and its *dotted* decor.
 ///
@@ -47,10 +52,19 @@ use toml_edit_token::put_key;
 /// From `renamed` of the crate `toml_edit_guide`.
 #[derive(Debug)]
 pub struct Key {
-    text: String,
+    text: InternalString,
     // Not read if the parts say that the key has the default spelling.
-    repr: Option<Repr>,
+    spelled: Spelled,
     parts: KeyParts,
+}
+
+/// How a key is spelled.
+#[derive(Debug)]
+pub(crate) enum Spelled {
+    ByDefault,
+    // By the name itself, as a bare key is. So it is stored once.
+    ByName,
+    ByRepr(Repr),
 }
 
 /// The parts of a key that a `KeyMut` can change.
@@ -65,29 +79,44 @@ impl Drop for Key {
     // Inlined, so that a row of slots that is dropped copies no key first.
     #[inline(always)]
     fn drop(self) {
-        let Key { text, repr, parts } = self;
+        let Key {
+            text,
+            spelled,
+            parts,
+        } = self;
         drop(parts);
-        drop(repr);
+        drop(spelled);
         drop(text);
     }
 }
 
+/// By hand, as for all that trees are made of.
+impl Drop for Spelled {
+    #[inline(always)]
+    fn drop(self) {
+        match self {
+            Spelled::ByDefault | Spelled::ByName => {}
+            Spelled::ByRepr(repr) => drop(repr),
+        }
+    }
+}
+
 impl Model for Key {
-    ghost use Rattle.std.specs.Prelude.{string_bytes};
     ghost use Rattle.toml_edit_model.specs.Tree.{Key as KeyView, HasTrueSpelling};
     ghost use Rattle.toml_edit_model.specs.Spelling.{SpellsKey};
     ghost use Rattle.toml_edit_key.specs.Kept.{kept};
+    ghost use Rattle.toml_edit_key.specs.Spelled.{own_spelling};
 
     ghost Value = { KeyView };
 
     ghost view = { λ a. record {
-      name = string_bytes a.text;
-      spelling = kept a.parts.is_default a.repr;
+      name = a.text;
+      spelling = kept a.parts.is_default (own_spelling a.text a.spelled);
       leaf = a.parts.leaf;
       dotted = a.parts.dotted;
     } };
 
-    ghost invariant = { λ a. ∥ HasTrueSpelling (SpellsKey (string_bytes a.text)) a.repr ∥₁ };
+    ghost invariant = { λ a. ∥ HasTrueSpelling (SpellsKey a.text) (own_spelling a.text a.spelled) ∥₁ };
 }
 
 impl Key {
@@ -100,11 +129,15 @@ impl Key {
     ghost use Rattle.toml_edit_key.specs.LendingParts.{LendsLeaf, LendsDotted};
 
     /// Returns the name, and drops the rest.
-    fn into_text(self) -> String
-        ensures { string_bytes result ≡ self.name }
+    fn into_text(self) -> InternalString
+        ensures { result ≡ self.name }
     {
-        let Key { text, repr, parts } = self;
-        drop(repr);
+        let Key {
+            text,
+            spelled,
+            parts,
+        } = self;
+        drop(spelled);
         drop(parts);
         text
     }
@@ -113,12 +146,24 @@ impl Key {
     ///
     /// Any text is a name; its spelling gets quotes and escapes where it needs them. To make a key
     /// of a spelling, use `from_str` of the trait `FromStr`.
-    pub fn new(text: String) -> Key
-        ensures { result ≡ new_key (string_bytes text) }
+    ///
+    /// # Errors
+    ///
+    /// Returns an `AllocError` if the name takes 4 GiB or more.
+    pub fn new(text: String) -> Mem<Key>
+        ensures ok { IfOk result (λ key. key ≡ new_key (string_bytes text)) }
+        ensures fits { string_len text < 2 ^ 32 → IsOk result }
+    {
+        Ok(Key::of_name(InternalString::from_string(text)?))
+    }
+
+    /// Makes a key of this name, with the default spelling and no decor.
+    pub fn of_name(text: InternalString) -> Key
+        ensures { result ≡ new_key text }
     {
         Key {
             text,
-            repr: None,
+            spelled: Spelled::ByDefault,
             parts: KeyParts {
                 leaf: Decor::default(),
                 dotted: Decor::default(),
@@ -131,20 +176,28 @@ impl Key {
     ///
     /// # Errors
     ///
-    /// Returns an `AllocError` if out of memory.
+    /// Returns an `AllocError` if out of memory, or if the name takes 4 GiB or more.
     pub fn from_text(alloc: Global, text: &str) -> Mem<Key>
         ensures { IfOk result (λ key. key ≡ new_key text.now) }
     {
-        Ok(Key::new(String::from_str(alloc, text)?))
+        Ok(Key::of_name(InternalString::from_text(alloc, text)?))
     }
 
     /// Makes a key that was parsed, spelled by the bytes of the source from `start` up to `end`.
-    pub fn spanned(text: String, start: usize, end: usize, leaf: Decor, dotted: Decor) -> Key
-        ensures { result ≡ spanned_key (string_bytes text) start end leaf dotted }
+    pub fn spanned(
+        text: InternalString,
+        start: usize,
+        end: usize,
+        leaf: Decor,
+        dotted: Decor,
+    ) -> Key
+        requires start { start < 2 ^ 32 }
+        requires end { end < 2 ^ 32 }
+        ensures { result ≡ spanned_key text start end leaf dotted }
     {
         Key {
             text,
-            repr: Some(Repr::new(RawString::from_span(start, end))),
+            spelled: Spelled::ByRepr(Repr::new(RawString::from_span(start, end))),
             parts: KeyParts {
                 leaf,
                 dotted,
@@ -171,7 +224,7 @@ impl Key {
         if self.parts.is_default {
             None
         } else {
-            self.repr.as_ref()
+            self.spelled.repr(&self.text)
         }
     }
 
@@ -248,11 +301,12 @@ impl Key {
         ensures same { key_of result ≡ self.old }
     {
         if self.parts.is_default {
-            self.repr = None;
+            self.spelled = Spelled::ByDefault;
         }
+        let text = &self.text;
         KeyMut {
-            name: self.text.as_str(),
-            repr: self.repr.as_ref(),
+            name: text.as_str(),
+            repr: self.spelled.repr(text),
             parts: &mut self.parts,
         }
     }
@@ -261,7 +315,7 @@ impl Key {
     pub fn fmt(&mut self)
         ensures { self.new ≡ reset_key self.old }
     {
-        self.repr = None;
+        self.spelled = Spelled::ByDefault;
         self.parts.leaf.clear();
         self.parts.dotted.clear();
     }
@@ -284,8 +338,8 @@ impl Key {
         ensures { IfOk result (λ copy. copy ≡ self.now) }
     {
         Ok(Key {
-            text: String::from_str(alloc, self.text.as_str())?,
-            repr: clone_spelling(alloc, &self.repr)?,
+            text: self.text.clone(alloc)?,
+            spelled: self.spelled.clone(alloc)?,
             parts: KeyParts {
                 leaf: self.parts.leaf.clone(alloc)?,
                 dotted: self.parts.dotted.clone(alloc)?,
@@ -319,7 +373,7 @@ impl Key {
     ///
     /// Returns an `AllocError` if out of memory. Spans may be left then: drop the document.
     #[doc(hidden)]
-    pub fn despan(&mut self, alloc: Global, source: &str) -> Mem<()>
+    pub fn despan(&mut self, alloc: Global, source: &SharedText) -> Mem<()>
         requires fits { KeyFits source.now self.old }
         requires spelled { ∥ HasTrueSpelling (SpellsKey self.old.name)
             (option_map (owned_raw source.now) self.old.spelling) ∥₁ }
@@ -327,11 +381,91 @@ impl Key {
         ensures ok { OnOk result (self.new ≡ owned_key source.now self.old) }
     {
         if self.parts.is_default {
-            self.repr = None;
+            self.spelled = Spelled::ByDefault;
         }
-        despan_spelling(alloc, &mut self.repr, source)?;
+        self.spelled.despan(alloc, source, &self.text)?;
         self.parts.leaf.despan(alloc, source)?;
         self.parts.dotted.despan(alloc, source)
+    }
+}
+
+impl Spelled {
+    ghost use Rattle.toml_edit_model.specs.Tree.{HasTrueSpelling};
+    ghost use Rattle.toml_edit_model.specs.OwnedForm.{OptionFits, owned_raw};
+    ghost use Rattle.toml_edit_key.specs.Spelled.{own_spelling};
+
+    /// Returns the spelling of a key of this name, or `None` if it is the default one.
+    #[inline(always)]
+    fn repr<'a>(&'a self, name: &'a InternalString) -> Option<&'a Repr>
+        ensures { option_copied result ≡ own_spelling name.now self.now }
+    {
+        match self {
+            Spelled::ByDefault => None,
+            Spelled::ByName => Some(name.as_repr()),
+            Spelled::ByRepr(repr) => Some(repr),
+        }
+    }
+
+    /// Returns an equal copy.
+    fn clone(&self, alloc: Global) -> Mem<Spelled>
+        ensures { IfOk result (λ copy. copy ≡ self.now) }
+    {
+        match self {
+            Spelled::ByDefault => Ok(Spelled::ByDefault),
+            Spelled::ByName => Ok(Spelled::ByName),
+            Spelled::ByRepr(repr) => Ok(Spelled::ByRepr(repr.clone(alloc)?)),
+        }
+    }
+
+    /// Replaces the spelling of a key of this name, if it is a span of `source`, by the text that it
+    /// cuts. A bare key is then spelled by its name.
+    fn despan(&mut self, alloc: Global, source: &SharedText, name: &InternalString) -> Mem<()>
+        requires fits { OptionFits source.now (own_spelling name.now self.old) }
+        requires spelled { ∥ HasTrueSpelling (SpellsKey name.now)
+            (option_map (owned_raw source.now) (own_spelling name.now self.old)) ∥₁ }
+        ensures ok { OnOk result (own_spelling name.now self.new
+            ≡ option_map (owned_raw source.now) (own_spelling name.now self.old)) }
+        ensures err { OnErr result (self.new ≡ self.old) }
+    {
+        let Spelled::ByRepr(repr) = self else {
+            return Ok(());
+        };
+        if starts_bare(repr, source.as_str()) {
+            *self = Spelled::ByName;
+            return Ok(());
+        }
+        repr.despan(alloc, source)
+    }
+}
+
+/// Returns `true` if it is a span of the source that begins with a byte of a bare key.
+#[inline(always)]
+fn starts_bare(repr: &Repr, source: &str) -> bool
+    ensures { result ≡ begins_bare source.now repr.now }
+{
+    match repr.span() {
+        Some(span) => is_bare(byte_at(source, span.start)),
+        None => false,
+    }
+}
+
+/// Returns the name of the key that the text spells from `start` up to `end`, or `None` if it does
+/// not begin as a bare key.
+///
+/// # Errors
+///
+/// Returns an `AllocError` if out of memory.
+#[doc(hidden)]
+#[inline(always)]
+pub fn bare_name(alloc: Global, text: &str, start: usize, end: usize) -> Mem<Option<InternalString>>
+    requires { RawFits text.now (span start end) }
+    ensures { IfOk result (λ o. IfSome o
+        (λ name. (k : Text) → SpellsKey k (cut_out text.now start end) → name ≡ k)) }
+{
+    if is_bare(byte_at(text, start)) {
+        Ok(Some(InternalString::from_part(alloc, text, start, end)?))
+    } else {
+        Ok(None)
     }
 }
 
@@ -353,19 +487,19 @@ impl Printed for Key {
 }
 
 /// Makes a key of this name, with the default spelling and no decor.
-impl From<String> for Key {
-    ghost from_gives = { λ text key. key ≡ new_key (string_bytes text) };
+impl From<InternalString> for Key {
+    ghost from_gives = { λ text key. key ≡ new_key text };
 
-    fn from(text: String) -> Key {
-        Key::new(text)
+    fn from(text: InternalString) -> Key {
+        Key::of_name(text)
     }
 }
 
 /// Returns the name.
-impl From<Key> for String {
-    ghost from_gives = { λ key text. string_bytes text ≡ key.name };
+impl From<Key> for InternalString {
+    ghost from_gives = { λ key text. text ≡ key.name };
 
-    fn from(key: Key) -> String {
+    fn from(key: Key) -> InternalString {
         key.into_text()
     }
 }
@@ -574,7 +708,7 @@ fn default_spelling(alloc: Global, name: &str) -> Mem<Repr>
     ensures spelled { SpellsKey name.now (key_spelling name.now) }
 {
     let spelling = print(alloc, &DefaultSpelling { name })?;
-    Ok(Repr::new(RawString::from(spelling)))
+    Ok(Repr::new(RawString::from_string(spelling)?))
 }
 
 /// Returns the spelling if it is a text, else the default one of the name.

@@ -3,4 +3,4 @@
 
 pub mod key;
 
-pub use key::{Key, KeyMut};
+pub use key::{Key, KeyMut, bare_name};

@@ -13,6 +13,7 @@ use Rattle.toml_edit_error.specs.declared.toml_error.ParseFault.{ParseFault}
 use Rattle.toml_edit_syntax.specs.declared.event.Event.{Event}
 use Rattle.toml_edit_syntax.specs.declared.event.Span.{Span}
 use Rattle.toml_edit_syntax.specs.declared.event.EventKind.TheVariants.{Key as key_kind, BeforeDot, AfterDot}
+use Rattle.toml_edit_syntax.specs.Events.{IsSpanOf}
 use Rattle.toml_edit_syntax.specs.ValueEvents.{event, path_events}
 use Rattle.toml_edit_parser.specs.declared.key.KeyPath.{KeyPath}
 use Rattle.toml_edit_parser.specs.PairRead.{IsEndOfPath, PathView, key_with, leaf_of, path_of, split_dot}
@@ -115,6 +116,20 @@ behind-dot-in t path after inside (a ∷ b ∷ es) dot h =
     let dots = same_dots after a.span (path_of inside) _ dot in (
       subst (AreIn t) (sym (ap (λ (v : PathView). v.events) dots.1)) h.1.1,
       let n = ap (λ (v : PathView). length v.events) dots.1 in omega arith,
+    )
+
+-- so do the texts on both sides of the dot, and those around the path stay
+pub after-dot-in : (t : Text) (path : KeyPath) (after : Span) (inside : KeyPath) (rest : List Event)
+    → ◌≡◌ {A = Option (Span × PathView)} (Some (after, path_of inside)) (split_dot path rest) → AreIn t rest
+    → IsSpanOf t after × IsSpanOf t inside.before × (inside.prefix ≡ path.prefix) × (inside.suffix ≡ path.suffix)
+after-dot-in t path after inside [] dot h = absurd cc
+after-dot-in t path after inside (a ∷ []) dot h = absurd cc
+after-dot-in t path after inside (a ∷ b ∷ es) dot h =
+    let dots = same_dots after a.span (path_of inside) _ dot in (
+      subst (IsSpanOf t) (sym dots.0) h.0,
+      subst (IsSpanOf t) (sym (ap (λ (v : PathView). v.before) dots.1)) h.1.0,
+      ap (λ (v : PathView). v.prefix) dots.1,
+      ap (λ (v : PathView). v.suffix) dots.1,
     )
 
 abbrev decor_in : PathView → Decor

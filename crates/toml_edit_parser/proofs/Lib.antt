@@ -2,6 +2,7 @@ pub mod SpellingLaws
 pub mod ReadLaws
 pub mod ListedLaws
 pub mod SplitLaws
+pub mod NearLaws
 pub mod ReadFits
 pub mod HeadLaws
 pub mod ElementsLaws

@@ -205,6 +205,11 @@ third-in t (a ∷ []) d some all = let n : 3 ≤ 1 = some in absurd (omega (arit
 third-in t (a ∷ b ∷ []) d some all = let n : 3 ≤ 2 = some in absurd (omega (arith, n))
 third-in t (a ∷ b ∷ e ∷ es) d some all = all.1.1.0
 
+-- so does the first
+pub first-of-three : (t : Text) (es : List Event) (d : Event) → 3 ≤ length es → AreIn t es → IsSpanOf t (get_or es 0 d).span
+first-of-three t [] d some all = let n : 3 ≤ 0 = some in absurd (omega (arith, n))
+first-of-three t (a ∷ es) d some all = all.0
+
 -- a header is read where its path is short
 pub header-read : (mode : Mode) (source : Text) (h : Header) (end : Text) (start : ℕ) (more : List Event) (opening d : Event)
     (path behind : List Event) (parts : HeaderSpans) (rest : List Event) → IsPath h.path

@@ -14,3 +14,4 @@ pub mod StatementRead
 pub mod DocumentRead
 -- Cited inside this crate alone.
 pub mod ScalarRead
+pub mod Near

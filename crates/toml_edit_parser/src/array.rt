@@ -10,6 +10,7 @@ ghost use Rattle.toml_edit_syntax.specs.Events.{IsSpanOf};
 ghost use Rattle.toml_edit_syntax.specs.ValueEvents.{event};
 ghost use Rattle.toml_edit_syntax.specs.declared.event.EventKind.TheVariants.{After};
 ghost use Rattle.toml_edit_tree.specs.Containers.{array_node};
+ghost use Rattle.toml_edit_parser.specs.Near.{IsNear};
 ghost use Rattle.toml_edit_parser.specs.ValueRead as spec;
 ghost use Rattle.toml_edit_parser.specs.ValueRead.{span_at, AreIn, ReadsElement, ReadsElements, ReadsValue, IfArrayNext, IfElementsNext, IfElementNext, IfScalarNext, Leaves, LeavesBeside, LeavesRest};
 ghost use Rattle.toml_edit_tree.specs.View.{array_view, items_view, value_view};
@@ -221,6 +222,7 @@ fn close_array<'a>(
 
 /// Makes the value of an array.
 fn array_value(opening: Span, close: Close, values: Vec<Item>) -> Value
+    requires { IsNear close.inner }
     ensures { value_view result
         ≡ array_node (spec.array_of opening.start close (items_view values.items)) }
 {
@@ -229,6 +231,7 @@ fn array_value(opening: Span, close: Close, values: Vec<Item>) -> Value
 
 /// Makes the array of these values.
 fn new_array(opening: Span, close: Close, values: Vec<Item>) -> Array
+    requires { IsNear close.inner }
     ensures { array_view result ≡ spec.array_of opening.start close (items_view values.items) }
 {
     Array::spanned(

@@ -25,7 +25,7 @@ use crate::document::building::{Building, starts_statement, trailing, whole};
 use crate::document::room::room_for_root;
 use crate::document::statement::read_in_version;
 use crate::fault::refusal_of_all;
-use crate::reader::Reader;
+use crate::reader::{Reader, is_short};
 use std::alloc::Global;
 use toml_edit_error::ParseFault;
 use toml_edit_repr::{Mode, RawString};
@@ -52,7 +52,8 @@ fn ends_open(events: &[Event]) -> bool
 ///
 /// Returns the slots of the root, whose keys and values are spans of the text, the text after the
 /// last statement, and whether that statement has no newline. Fails if the text is refused, or if
-/// out of memory.
+/// out of memory, also
+/// for a text of 4 GiB or more.
 #[doc(hidden)]
 pub fn parse_with(
     alloc: Global,
@@ -67,6 +68,9 @@ pub fn parse_with(
         → IsOk result ⊎ IsErrOf result ParseFault.Memory }
     ensures refused { IfErr result (λ e. IfToml e (IsRefusalIn (grammar version) source.now)) }
 {
+    if !is_short(source) {
+        return Err(ParseFault::Memory);
+    }
     let reader = Reader {
         alloc,
         source,
@@ -92,7 +96,7 @@ pub fn parse_with(
         match batch.end {
             BatchEnd::MoreStatements => batch = next_batch(&reader, &mut events, batch.rest)?,
             BatchEnd::WholeText => {
-                let after = trailing(left);
+                let after = trailing(&reader, left);
                 let open_end = ends_open(events.as_slice());
                 let mut slots = whole(building);
                 put_in_order(&mut slots)?;

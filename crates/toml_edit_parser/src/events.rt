@@ -5,6 +5,7 @@ ghost use Rattle.toml_edit_model.specs.TreeOf.{span_of};
 ghost use Rattle.toml_edit_syntax.specs.Events.{IsSpanOf};
 ghost use Rattle.toml_edit_syntax.specs.ValueEvents.{are_deep};
 ghost use Rattle.toml_edit_parser.specs.ValueRead as spec;
+ghost use Rattle.toml_edit_parser.specs.Near.{IsNear};
 ghost use Rattle.toml_edit_model.specs.OwnedForm.{RawFits};
 
 use toml_edit_repr::RawString;
@@ -21,6 +22,7 @@ pub(crate) struct Close {
 
 /// Makes a raw text of the span, empty if nothing is there.
 pub(crate) fn raw(span: Span) -> RawString
+    requires { IsNear span }
     ensures raw { result ≡ spec.spanned_raw span }
     ensures span { (t : Text) → span.end ≡ span.start + length t → result ≡ span_of span.start t }
     ensures fits { (t : Text) → IsSpanOf t span → RawFits t result }

@@ -16,12 +16,13 @@ ghost use Rattle.toml_edit_model.specs.OwnedForm.{NodeFits};
 use crate::events::are_cut_short;
 use crate::fault::{Fault, refusal, refusal_of_all, refusal_with};
 use crate::options::ParseOptions;
-use crate::reader::Reader;
+use crate::reader::{Reader, is_short};
 use crate::value::read_value;
 use std::alloc::Global;
 use toml_edit_error::ParseFault;
 use toml_edit_repr::Mode;
 use toml_edit_syntax::{Event, SyntaxFault, Version, late_part_of_value, lone_events};
+use toml_edit_text::SharedText;
 use toml_edit_tree::{Item, Value};
 
 /// A type that can be parsed from a text that holds one value of it.
@@ -161,6 +162,9 @@ fn read_lone_text(alloc: Global, text: &str, version: Version) -> Result<Value, 
         → IsOk result ⊎ IsErrOf result ParseFault.Memory }
     ensures refused { IfErr result (λ e. IfToml e (IsLoneRefusalIn (grammar version) text.now)) }
 {
+    if !is_short(text) {
+        return Err(ParseFault::Memory);
+    }
     let reader = Reader {
         alloc,
         source: text,
@@ -236,6 +240,7 @@ fn end_lone(reader: &Reader<'_>, events: &[Event], value: &mut Value) -> Result<
         return Err(refusal_of_all(reader));
     }
     value.undecorate();
-    value.despan(reader.alloc, reader.source)?;
+    let source = SharedText::from_text(reader.alloc, reader.source)?;
+    value.despan(reader.alloc, &source)?;
     Ok(())
 }

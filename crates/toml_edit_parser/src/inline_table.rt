@@ -12,6 +12,7 @@ ghost use Rattle.toml_edit_syntax.specs.Events.{IsSpanOf};
 ghost use Rattle.toml_edit_tree.specs.Containers.{inline_node};
 ghost use Rattle.toml_edit_parser.specs.PairRead as spec;
 ghost use Rattle.toml_edit_parser.specs.PairRead.{AddsBelow, AddsEntry, AddsPathInside, EndsInline, EndsPair, ReadsPair, ReadsPairs, IfInlineNext, IfPairsNext, IfPairNext, IfPairEnds, IfPathNext, IsPathIn};
+ghost use Rattle.toml_edit_parser.specs.Near.{IsNear};
 ghost use Rattle.toml_edit_parser.specs.ValueRead.{split_close, AreIn, ReadsValue, Leaves, LeavesBeside, LeavesRest};
 ghost use Rattle.toml_edit_tree.specs.View.{inline_view, item_view, slots_view, value_view};
 ghost use Rattle.toml_edit_model.specs.OwnedForm.{KeyFits, NodeFits, SlotsFit};
@@ -344,6 +345,7 @@ fn close_inline<'a>(
 
 /// Makes the value of an inline table.
 fn inline_value(opening: Span, close: Close, slots: Slots<Item>) -> Value
+    requires { IsNear close.inner }
     ensures { value_view result
         ≡ inline_node (spec.inline_of opening.start close (slots_view slots)) }
 {
@@ -352,6 +354,7 @@ fn inline_value(opening: Span, close: Close, slots: Slots<Item>) -> Value
 
 /// Makes the inline table of these slots.
 fn new_inline(opening: Span, close: Close, slots: Slots<Item>) -> InlineTable
+    requires { IsNear close.inner }
     ensures { inline_view result ≡ spec.inline_of opening.start close (slots_view slots) }
 {
     InlineTable::spanned(

@@ -9,6 +9,7 @@ ghost use Rattle.toml_edit_parser.specs.ScalarRead.{ReadsName};
 ghost use Rattle.toml_edit_parser.specs.PairRead as spec;
 ghost use Rattle.toml_edit_parser.specs.PairRead.{key_with, IsEndOfPath};
 ghost use Rattle.toml_edit_parser.specs.ValueRead.{spanned_raw, AreIn};
+ghost use Rattle.toml_edit_parser.specs.Near.{IsNear};
 ghost use Rattle.toml_edit_model.specs.OwnedForm.{KeyFits, cut_out};
 ghost use Rattle.toml_edit_parser.specs.Listed.{Refuses};
 ghost use Rattle.toml_edit_model.specs.Syntax.{Segment, path_text};
@@ -20,10 +21,10 @@ use crate::fault::malformed;
 use crate::reader::Reader;
 use std::borrow::CowStr;
 use toml_edit_error::ParseFault;
-use toml_edit_key::Key;
-use toml_edit_repr::{Decor, RawString};
+use toml_edit_key::{Key, bare_name};
+use toml_edit_repr::{Decor, InternalString, RawString};
 use toml_edit_syntax::{Event, EventKind, NESTING_LIMIT, Span, text_at};
-use toml_edit_token::{decode_key, decode_name};
+use toml_edit_token::decode_name;
 
 /// The number of events of the longest path: one for each key, and two for each dot between them.
 pub(crate) const MOST_PATH_EVENTS: usize = 3 * NESTING_LIMIT - 2;
@@ -129,12 +130,18 @@ pub(crate) fn next_key<'a>(
     reader: &Reader<'_>,
     path: KeyPath<'a>,
 ) -> Result<PathKey<'a>, ParseFault>
-    requires { AreIn reader.now.source.now path.events.now }
+    requires spans { AreIn reader.now.source.now path.events.now }
+    requires prefix { IsNear path.prefix }
+    requires suffix { IsNear path.suffix }
+    requires before { IsNear path.before }
     ensures key { (own : Decor) (p : List Segment) (start : ℕ) → IsEndOfPath p
         → Stands reader.now.source.now start (path_text p)
         → IsPathFrom own start p path.entry → ReadsKey own start p result }
     ensures refused { Refuses reader.now.source.now result }
     ensures span { IfOk result (λ r. IsSpanOf reader.now.source.now r.span) }
+    ensures near { IfOk result
+        (λ r. IfSome r.rest
+        (λ inside. IsNear inside.prefix × IsNear inside.suffix × IsNear inside.before)) }
     ensures rest { IfOk result
         (λ r. IfSome r.rest
         (λ inside. AreIn reader.now.source.now inside.events.now
@@ -221,14 +228,28 @@ pub(crate) fn split_dot<'a>(path: KeyPath<'a>, events: &'a [Event]) -> Option<(S
 
 /// Reads the name of the key that is spelled at the span.
 #[inline(always)]
-pub(crate) fn read_name(reader: &Reader<'_>, span: Span) -> Result<String, ParseFault>
+pub(crate) fn read_name(reader: &Reader<'_>, span: Span) -> Result<InternalString, ParseFault>
     requires { IsSpanOf reader.now.source.now span }
     ensures name { (k : Text) → SpellsKey k (cut_out reader.now.source.now span.start span.end)
-        → ReadsName string_bytes k result }
+        → ReadsName (λ name. name) k result }
     ensures refused { Refuses reader.now.source.now result }
 {
-    match decode_key(reader.alloc, text_at(reader.source, span))? {
+    match bare_name(reader.alloc, reader.source, span.start, span.end)? {
         Some(name) => Ok(name),
+        None => decoded_name(reader, span),
+    }
+}
+
+/// Reads the name of the key that is spelled at the span, with or without quotes.
+fn decoded_name(reader: &Reader<'_>, span: Span) -> Result<InternalString, ParseFault>
+    requires { IsSpanOf reader.now.source.now span }
+    ensures name { (k : Text) → SpellsKey k (cut_out reader.now.source.now span.start span.end)
+        → ReadsName (λ name. name) k result }
+    ensures refused { Refuses reader.now.source.now result }
+{
+    match decode_name(reader.alloc, text_at(reader.source, span))? {
+        Some(CowStr::Borrowed(name)) => Ok(InternalString::from_text(reader.alloc, name)?),
+        Some(CowStr::Owned(name)) => Ok(InternalString::from_string(name)?),
         None => Err(malformed(reader)),
     }
 }
@@ -250,9 +271,13 @@ pub(crate) fn read_name_in_place<'s>(
 }
 
 /// Makes the last key of a path, with this name, spelled at the span.
-pub(crate) fn last_key(name: String, span: Span, path: KeyPath<'_>) -> Key
+pub(crate) fn last_key(name: InternalString, span: Span, path: KeyPath<'_>) -> Key
+    requires span { IsNear span }
+    requires prefix { IsNear path.prefix }
+    requires suffix { IsNear path.suffix }
+    requires before { IsNear path.before }
     ensures key { result
-        ≡ key_with (string_bytes name) span (spec.leaf_of path.entry)
+        ≡ key_with name span (spec.leaf_of path.entry)
         (spanned_raw path.entry.before) (owned []) }
     ensures fits { (t : Text) → IsSpanOf t span → IsSpanOf t path.entry.prefix
         → IsSpanOf t path.entry.suffix → IsSpanOf t path.entry.before → KeyFits t result }
@@ -264,9 +289,12 @@ pub(crate) fn last_key(name: String, span: Span, path: KeyPath<'_>) -> Key
 
 /// Makes a key that a path passes through, with this name, spelled at the span, between these
 /// texts.
-pub(crate) fn passed_key(name: String, span: Span, before: Span, after: Span) -> Key
+pub(crate) fn passed_key(name: InternalString, span: Span, before: Span, after: Span) -> Key
+    requires span { IsNear span }
+    requires before { IsNear before }
+    requires after { IsNear after }
     ensures key { result
-        ≡ key_with (string_bytes name) span unset (spanned_raw before) (spanned_raw after) }
+        ≡ key_with name span unset (spanned_raw before) (spanned_raw after) }
     ensures fits { (t : Text) → IsSpanOf t span → IsSpanOf t before → IsSpanOf t after
         → KeyFits t result }
 {

@@ -1,5 +1,5 @@
 //! Parsing a text that is one key or one path.
-ghost use Rattle.std.specs.Prelude.{◌≡◌, List, IfErr, IfOk, MatchResult, option_map};
+ghost use Rattle.std.specs.Prelude.{◌≡◌, ◌<◌, ◌^◌, List, length, IfErr, IfOk, MatchResult, option_map};
 ghost use Rattle.toml_edit_model.specs.Text.{Text};
 ghost use Rattle.toml_edit_model.specs.Syntax.{Segment};
 ghost use Rattle.toml_edit_model.specs.Spelling.{SpellsKey};
@@ -15,12 +15,13 @@ ghost use Rattle.toml_edit_parser.specs.ValueRead.{AreIn};
 use crate::fault::{refusal_of_all, refusal_with};
 use crate::from_str::FromStr;
 use crate::key::{KeyPath, MOST_PATH_EVENTS, PathKey, next_key};
-use crate::reader::Reader;
+use crate::reader::{Reader, is_short};
 use std::alloc::Global;
 use toml_edit_error::ParseFault;
 use toml_edit_key::Key;
-use toml_edit_repr::{Decor, Mem, Mode, RawString};
+use toml_edit_repr::{Decor, InternalString, Mem, Mode, RawString};
 use toml_edit_syntax::{LonePath, Span, SyntaxFault, Version, key_mistake, lone_path};
+use toml_edit_text::SharedText;
 use toml_edit_token::decode_key;
 
 /// A type such that a text that holds one path can be parsed to a list of it, key by key.
@@ -77,8 +78,12 @@ impl FromStr for Key {
         ensures refused { IfErr result
             (λ e. IfToml e (λ r. MayRefuseKey (fault_of r) × (r.input ≡ text.now))) }
     {
+        if !is_short(text) {
+            return Err(ParseFault::Memory);
+        }
         match decode_key(alloc, text)? {
             Some(name) => {
+                let name = InternalString::from_string(name)?;
                 let key = Key::spanned(name, 0, text.len(), Decor::default(), Decor::default());
                 Ok(with_texts(alloc, text, key)?)
             }
@@ -118,6 +123,9 @@ impl ParsePath for Key {
         ensures refused { IfErr result
             (λ e. IfToml e (λ r. MayRefusePath text.now (fault_of r) × (r.input ≡ text.now))) }
     {
+        if !is_short(text) {
+            return Err(ParseFault::Memory);
+        }
         let reader = lone_reader(alloc, text);
         match lone_path(alloc, text) {
             Ok(path) => {
@@ -136,6 +144,7 @@ impl ParsePath for Key {
 
 /// Returns a reader of a lone text. What keys mean is the same in each version and mode.
 fn lone_reader(alloc: Global, text: &str) -> Reader<'_>
+    requires { length text.now < 2 ^ 32 }
     ensures { result.source.now ≡ text.now }
 {
     Reader {
@@ -154,7 +163,8 @@ fn with_texts(alloc: Global, source: &str, key: Key) -> Mem<Key>
     ensures { IfOk result (λ k. k ≡ owned_key source.now key) }
 {
     let mut key = key;
-    key.despan(alloc, source)?;
+    let shared = SharedText::from_text(alloc, source)?;
+    key.despan(alloc, &shared)?;
     Ok(key)
 }
 

@@ -1,4 +1,6 @@
 //! The text that is parsed, and how.
+ghost use Rattle.std.specs.Prelude.{◌<◌, ◌↔◌, ◌^◌, IsTrue, length};
+
 use std::alloc::Global;
 use toml_edit_repr::Mode;
 use toml_edit_syntax::Version;
@@ -14,4 +16,17 @@ pub(crate) struct Reader<'a> {
     pub(crate) version: Version,
     /// What happens to line endings.
     pub(crate) mode: Mode,
+    // So the places of its spans take 32 bits.
+    ghost short: { length source.now < 2 ^ 32 },
+}
+
+/// The greatest length of a text that is parsed.
+const MOST_BYTES: usize = 0xFFFF_FFFF;
+
+/// Returns `true` if the text is no longer than one that is parsed.
+#[inline(always)]
+pub(crate) fn is_short(text: &str) -> bool
+    ensures { IsTrue result ↔ (length text.now < 2 ^ 32) }
+{
+    text.len() <= MOST_BYTES
 }

@@ -39,7 +39,7 @@ fn with_header(alloc: Global, key: &Key, inline: &InlineTable) -> Mem<Table>
         (λ table. table_node (table_view table) ≡ headed_table key.now (inline_view inline.now)) }
 {
     let above = text_of(key.leaf_decor().prefix());
-    let prefix = RawString::from(format!(in alloc; "\n{above}")?);
+    let prefix = RawString::from_string(format!(in alloc; "\n{above}")?)?;
     let suffix = RawString::from_text(alloc, text_of(inline.decor().suffix()))?;
     let mut table = inline.clone(alloc)?.into_table();
     *table.decor_mut() = Decor::new(prefix, suffix);

@@ -2,15 +2,9 @@
 use Rattle.std.specs.Prelude.{ℕ, Bool, false, ◌&&◌, ◌==◌, List, ◌++◌, Option}
 use Rattle.std.specs.Option.{option_eq}
 use Rattle.std.specs.Hash as fed
-use Rattle.toml_edit_model.specs.Text.{same_text}
-use Rattle.toml_edit_model.specs.Tree.{Raw, owned, span, Decor}
+use Rattle.toml_edit_model.specs.Tree.{Raw, Decor}
 use Rattle.toml_edit_repr.specs.Views.{FormattedView}
-
--- they are one text, or one span
-abbrev pub same_raw : Raw → Raw → Bool
-same_raw (owned s) (owned t) = same_text s t
-same_raw (span i j) (span k l) = i == k && j == l
-same_raw _ _ = false
+pub use Rattle.toml_edit_text.specs.RawText.{same_raw, raw_hash_input}
 
 -- both are unset, or both are set, and equal
 abbrev pub same_side : Option Raw → Option Raw → Bool
@@ -23,11 +17,6 @@ same_decor a b = same_side a.prefix b.prefix && same_side a.suffix b.suffix
 abbrev pub same_formatted : {X : Type 0} → (X → X → Bool) → FormattedView X → FormattedView X → Bool
 same_formatted same a b =
     same a.value b.value && (same_side a.repr b.repr && same_decor a.decor b.decor)
-
--- a mark of the kind, and then the text or the two places
-abbrev pub raw_hash_input : Raw → List (List ℕ)
-raw_hash_input (owned t) = fed.u8 0 ++ fed.str t
-raw_hash_input (span i j) = fed.u8 1 ++ (fed.usize i ++ fed.usize j)
 
 abbrev pub side_hash_input : Option Raw → List (List ℕ)
 side_hash_input = fed.option raw_hash_input

@@ -8,13 +8,13 @@ ghost use Rattle.toml_edit_model.specs.Text.{has_byte, line_feed};
 ghost use Rattle.toml_edit_model.specs.Trivia.{is_blank, is_visible};
 ghost use Rattle.toml_edit_repr.specs.CommentPlaces.{IsHashPlace};
 
-use crate::raw_string::{Mem, RawString};
 use crate::repr::Decor;
 use crate::write::side_text;
 use memchr::{memchr, memrchr};
 use std::alloc::{AllocError, Global};
 use std::error::Error;
 use std::fmt;
+use toml_edit_text::{Mem, RawString};
 
 /// The error of a change of a comment that is refused.
 #[derive(Clone, Copy, Debug, PartialEq, Eq, Hash)]
@@ -153,7 +153,7 @@ impl Decor {
             return Err(CommentFault::Text);
         }
         let suffix = put_first_comment(alloc, text_of_side(self.suffix()), comment)?;
-        self.set_suffix(RawString::from(suffix));
+        self.set_suffix(RawString::from_string(suffix)?);
         Ok(())
     }
 
@@ -191,7 +191,8 @@ impl Decor {
             return Err(CommentFault::Text);
         }
         let prefix = add_comment_line(alloc, text_of_side(self.prefix()), comment)?;
-        self.set_prefix(RawString::from(prefix));
+        let raw = RawString::from_string(prefix)?;
+        self.set_prefix(raw);
         Ok(())
     }
 
@@ -214,7 +215,8 @@ impl Decor {
             return Ok(());
         };
         let prefix = remove_comment_lines(alloc, text)?;
-        self.set_prefix(RawString::from(prefix));
+        let raw = RawString::from_string(prefix)?;
+        self.set_prefix(raw);
         Ok(())
     }
 }

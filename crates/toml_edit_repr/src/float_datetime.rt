@@ -1,9 +1,9 @@
 //! Floats, dates and times as scalar values.
-use crate::raw_string::{Mem, RawString};
 use crate::repr::{Repr, ScalarValue, ValueRepr, default_repr_of};
 use std::alloc::Global;
 use toml_edit_datetime::{Datetime, FloatText};
 use toml_edit_io::{Printed, Sink};
+use toml_edit_text::{Mem, RawString};
 
 impl ScalarValue for FloatText {
     ghost use Rattle.toml_edit_model.specs.Scalars.{float};

@@ -6,15 +6,15 @@
 
 pub mod comments;
 pub mod float_datetime;
+pub mod internal_string;
 pub mod mode;
-pub mod raw_string;
 pub mod repr;
-mod short_text;
 pub mod string_integer_boolean;
 pub mod write;
 
 pub use comments::{CommentFault, Comments};
+pub use internal_string::InternalString;
 pub use mode::Mode;
-pub use raw_string::{Mem, RawString};
-pub use repr::{Decor, Formatted, Repr, ScalarValue, ValueRepr, clone_spelling, despan_spelling};
+pub use repr::{Decor, Formatted, Repr, ScalarValue, ValueRepr};
+pub use toml_edit_text::{Mem, RawString};
 pub use write::{put_last_comma, put_raw, put_scalar, put_side, spelling_text};

@@ -1,5 +1,5 @@
 //! Spellings, decors, and scalars with their spelling and their decor.
-ghost use Rattle.std.specs.Prelude.{◌≡◌, ◌↔◌, IsTrue, None, Some, IsSome, IsOkAnd, IfOk, OnOk, OnErr, option_map, option_and_then, string_bytes};
+ghost use Rattle.std.specs.Prelude.{◌≡◌, ◌↔◌, ◌<◌, ◌^◌, IsTrue, None, Some, IsSome, IsOkAnd, IfOk, OnOk, OnErr, option_map, option_and_then, string_bytes};
 ghost use Rattle.std.specs.Option.{option_copied};
 ghost use Rattle.std.specs.Cow.{cow_str_bytes, IsBorrowedStr};
 ghost use Rattle.std.specs.Fmt.{WritesInCalls};
@@ -9,7 +9,6 @@ ghost use Rattle.toml_edit_model.specs.Tree.{owned, span, unset, HasTrueSpelling
 ghost use Rattle.toml_edit_model.specs.OwnedForm.{RawFits, OptionFits, DecorFits, owned_raw, owned_decor};
 
 use crate::mode::Mode;
-use crate::raw_string::{Mem, RawString};
 use crate::write::{put_scalar, put_side, spelling_text};
 use std::alloc::Global;
 use std::borrow::CowStr;
@@ -17,8 +16,10 @@ use std::fmt;
 use std::fmt::{Formatter, Write};
 use std::hash::{Hash, Hasher};
 use std::marker::Model;
+use std::mem::size_of;
 use std::ops::Range;
 use toml_edit_io::{Printed, Sink, print, show};
+use toml_edit_text::{Mem, RawString, SharedText, Side};
 
 /// The spelling of a scalar or a key: its representation in TOML, such as `0xFF` or `'a b'`.
 ///
@@ -64,6 +65,32 @@ impl Repr {
         ensures { IfOk result (λ copy. copy ≡ self.now) }
     {
         Ok(Repr::new(self.raw.clone(alloc)?))
+    }
+
+    /// Replaces a span of `source` by the text that it cuts.
+    ///
+    /// # Errors
+    ///
+    /// Returns an `AllocError` if out of memory, and then stays as it was.
+    #[doc(hidden)]
+    #[inline(always)]
+    pub fn despan(&mut self, alloc: Global, source: &SharedText) -> Mem<()>
+        requires { RawFits source.now self.old }
+        ensures ok { OnOk result (self.new ≡ owned_raw source.now self.old) }
+        ensures err { OnErr result (self.new ≡ self.old) }
+    {
+        self.raw.despan(alloc, source)
+    }
+
+    /// Copies the text, if it is a part of a document's source, so that it does not keep the source.
+    ///
+    /// # Errors
+    ///
+    /// Returns an `AllocError` if out of memory, and then keeps the source.
+    pub fn detach(&mut self, alloc: Global) -> Mem<()>
+        ensures { self.new ≡ self.old }
+    {
+        self.raw.detach(alloc)
     }
 
     /// Returns the raw text or span.
@@ -134,22 +161,16 @@ impl Hash for Repr {
 ///
 /// From `replace_value` of the crate `toml_edit_guide`.
 pub struct Decor {
-    // Each side has a flag beside it, since two options would take a word more. An unset side is
-    // empty.
-    prefix: RawString,
-    suffix: RawString,
-    has_prefix: bool,
-    has_suffix: bool,
+    prefix: Side,
+    suffix: Side,
 }
+
+// A slot of a table holds three of them.
+const _: () = prove!(size_of::<Decor>() == 32);
 
 impl Drop for Decor {
     fn drop(self) {
-        let Decor {
-            prefix,
-            suffix,
-            has_prefix: _,
-            has_suffix: _,
-        } = self;
+        let Decor { prefix, suffix } = self;
         drop(prefix);
         drop(suffix);
     }
@@ -157,14 +178,10 @@ impl Drop for Decor {
 
 impl Model for Decor {
     ghost use Rattle.toml_edit_model.specs.Tree.{Decor as DecorView};
-    ghost use Rattle.std.specs.Bool.{then_some};
 
     ghost Value = { DecorView };
 
-    ghost view = { λ a. record {
-      prefix = then_some a.has_prefix a.prefix;
-      suffix = then_some a.has_suffix a.suffix;
-    } };
+    ghost view = { λ a. record { prefix = a.prefix; suffix = a.suffix } };
 }
 
 impl Decor {
@@ -175,10 +192,8 @@ impl Decor {
         ensures { result ≡ record { prefix = Some prefix; suffix = Some suffix } }
     {
         Decor {
-            prefix,
-            suffix,
-            has_prefix: true,
-            has_suffix: true,
+            prefix: Side::of(prefix),
+            suffix: Side::of(suffix),
         }
     }
 
@@ -193,8 +208,6 @@ impl Decor {
         Ok(Decor {
             prefix: self.prefix.clone(alloc)?,
             suffix: self.suffix.clone(alloc)?,
-            has_prefix: self.has_prefix,
-            has_suffix: self.has_suffix,
         })
     }
 
@@ -212,11 +225,7 @@ impl Decor {
     pub fn prefix(&self) -> Option<&RawString>
         ensures { option_copied result ≡ self.now.prefix }
     {
-        if self.has_prefix {
-            Some(&self.prefix)
-        } else {
-            None
-        }
+        self.prefix.get()
     }
 
     /// Sets the whitespace and the comments before the key, value or header.
@@ -226,8 +235,7 @@ impl Decor {
     pub fn set_prefix(&mut self, prefix: RawString)
         ensures { self.new ≡ record self.old { prefix = Some prefix } }
     {
-        self.prefix = prefix;
-        self.has_prefix = true;
+        self.prefix = Side::of(prefix);
     }
 
     /// Returns the whitespace and the comments after the key, value or header, or `None` if unset.
@@ -237,11 +245,7 @@ impl Decor {
     pub fn suffix(&self) -> Option<&RawString>
         ensures { option_copied result ≡ self.now.suffix }
     {
-        if self.has_suffix {
-            Some(&self.suffix)
-        } else {
-            None
-        }
+        self.suffix.get()
     }
 
     /// Sets the whitespace and the comments after the key, value or header.
@@ -251,8 +255,7 @@ impl Decor {
     pub fn set_suffix(&mut self, suffix: RawString)
         ensures { self.new ≡ record self.old { suffix = Some suffix } }
     {
-        self.suffix = suffix;
-        self.has_suffix = true;
+        self.suffix = Side::of(suffix);
     }
 
     /// Replaces spans of `source` by the texts that they cut.
@@ -261,17 +264,12 @@ impl Decor {
     ///
     /// Returns an `AllocError` if out of memory. Either side may still be a span then: drop the document.
     #[doc(hidden)]
-    pub fn despan(&mut self, alloc: Global, source: &str) -> Mem<()>
+    pub fn despan(&mut self, alloc: Global, source: &SharedText) -> Mem<()>
         requires { DecorFits source.now self.old }
         ensures { OnOk result (self.new ≡ owned_decor source.now self.old) }
     {
-        if self.has_prefix {
-            self.prefix.despan(alloc, source)?;
-        }
-        if self.has_suffix {
-            self.suffix.despan(alloc, source)?;
-        }
-        Ok(())
+        self.prefix.despan(alloc, source)?;
+        self.suffix.despan(alloc, source)
     }
 }
 
@@ -291,10 +289,8 @@ impl Default for Decor {
 
     fn default() -> Decor {
         Decor {
-            prefix: RawString::default(),
-            suffix: RawString::default(),
-            has_prefix: false,
-            has_suffix: false,
+            prefix: Side::unset(),
+            suffix: Side::unset(),
         }
     }
 }
@@ -341,15 +337,14 @@ impl Hash for Decor {
 /// # Errors
 ///
 /// Fails if memory runs out, and then leaves the spelling as it was.
-#[doc(hidden)]
-pub fn despan_spelling(alloc: Global, repr: &mut Option<Repr>, source: &str) -> Mem<()>
+fn despan_spelling(alloc: Global, repr: &mut Option<Repr>, source: &SharedText) -> Mem<()>
     requires { OptionFits source.now repr.old }
     ensures ok { OnOk result (repr.new ≡ option_map (owned_raw source.now) repr.old) }
     ensures err { OnErr result (repr.new ≡ repr.old) }
 {
     match repr {
         None => Ok(()),
-        Some(repr) => repr.raw.despan(alloc, source),
+        Some(repr) => repr.despan(alloc, source),
     }
 }
 
@@ -358,7 +353,7 @@ pub fn despan_spelling(alloc: Global, repr: &mut Option<Repr>, source: &str) -> 
 /// # Errors
 ///
 /// Returns an `AllocError` if out of memory.
-pub fn clone_spelling(alloc: Global, repr: &Option<Repr>) -> Mem<Option<Repr>>
+fn clone_spelling(alloc: Global, repr: &Option<Repr>) -> Mem<Option<Repr>>
     ensures { IfOk result (λ copy. copy ≡ repr.now) }
 {
     match repr {
@@ -462,7 +457,7 @@ fn default_text<T: ScalarValue>(alloc: Global, value: &T) -> Mem<String>
 pub(crate) fn default_repr_of<T: ScalarValue>(alloc: Global, value: &T) -> Mem<Repr>
     ensures { IfOk result (λ repr. repr ≡ owned (default_spelling (T.scalar value.now))) }
 {
-    Ok(Repr::new(RawString::from(default_text(alloc, value)?)))
+    Ok(Repr::new(RawString::from_string(default_text(alloc, value)?)?))
 }
 
 /// A scalar value with its spelling and its decor.
@@ -590,6 +585,8 @@ impl<T: ValueRepr> Formatted<T> {
 
     /// Makes a scalar that was parsed, spelled by the bytes of the source from `start` up to `end`.
     pub fn spanned(value: T, start: usize, end: usize, decor: Decor) -> Formatted<T>
+        requires start { start < 2 ^ 32 }
+        requires end { end < 2 ^ 32 }
         ensures { result ≡ record { value = value; repr = Some (span start end); decor = decor } }
     {
         Formatted {
@@ -724,7 +721,7 @@ impl<T: ValueRepr> Formatted<T> {
     ///
     /// Returns an `AllocError` if out of memory. Spans may be left then: drop the document.
     #[doc(hidden)]
-    pub fn despan(&mut self, alloc: Global, source: &str) -> Mem<()>
+    pub fn despan(&mut self, alloc: Global, source: &SharedText) -> Mem<()>
         requires spelling { OptionFits source.now self.old.repr }
         requires decor { DecorFits source.now self.old.decor }
         requires spelled { ∥ HasTrueSpelling (λ t. T.spells t self.old.value)

@@ -1,7 +1,7 @@
 //! Putting spellings, decors and trailing texts into sinks.
 #![tactic(auto, using(toml_edit_io::proofs::Puts::put_steps))]
 
-ghost use Rattle.std.specs.Prelude.{◌≡◌, ◌<◌, false, [], ◌++◌, if◌then◌else◌, length, option_and_then, IfSome, MatchOption};
+ghost use Rattle.std.specs.Prelude.{codes, IsTrue, ◌↔◌, ◌≡◌, ◌<◌, false, [], ◌++◌, if◌then◌else◌, length, option_and_then, IfSome, MatchOption};
 ghost use Rattle.std.specs.Option.{option_copied};
 ghost use Rattle.std.specs.Fmt.{WritesInCalls};
 ghost use Rattle.toml_edit_model.specs.Text.{without_returns};
@@ -12,10 +12,10 @@ ghost use Rattle.toml_edit_repr.specs.Modes.{mode_of};
 ghost use Rattle.toml_edit_repr.specs.Views.{text_of};
 
 use crate::mode::Mode;
-use crate::raw_string::{RawString, is_space};
 use crate::repr::{Formatted, Repr, ValueRepr};
 use memchr::memchr;
 use toml_edit_io::Sink;
+use toml_edit_text::RawString;
 
 /// Puts the spelling of the scalar, or the default one of its value if it has none that is a text.
 pub fn put_scalar<S: Sink, T: ValueRepr>(out: &mut S, scalar: &Formatted<T>)
@@ -140,4 +140,14 @@ fn split_at_return(text: &str) -> Option<(&str, &str)>
 {
     let at = memchr(b'\r', text.as_bytes())?;
     Some((&text[..at], &text[at + 1..]))
+}
+
+/// Returns whether the text is one space.
+///
+/// By its bytes: one comparison of texts takes ten instructions, and most sides are one space.
+#[inline(always)]
+fn is_space(text: &str) -> bool
+    ensures { IsTrue result ↔ (text.now ≡ codes " ") }
+{
+    matches!(text.as_bytes(), [b' '])
 }

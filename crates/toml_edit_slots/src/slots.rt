@@ -11,6 +11,7 @@ use std::marker::Model;
 use std::{fmt, mem};
 use toml_edit_key::{Key, KeyMut};
 use toml_edit_repr::{Decor, Mem};
+use toml_edit_text::SharedText;
 
 mod insert;
 pub mod rearrange;
@@ -505,7 +506,7 @@ impl<T> Slots<T> {
     ///
     /// Fails only if memory runs out. Some of the spans may then be left, and the whole document
     /// must be dropped.
-    pub fn despan_key(&mut self, at: usize, alloc: Global, source: &str) -> Mem<()>
+    pub fn despan_key(&mut self, at: usize, alloc: Global, source: &SharedText) -> Mem<()>
         requires at { at < length self.old }
         requires fits { ForSome (slice_get self.old at) (λ slot. KeyFits source.now slot.key) }
         requires spelled { ForSome (slice_get self.old at) (λ slot.

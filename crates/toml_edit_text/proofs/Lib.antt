@@ -1,3 +1,4 @@
+mod FilledLaws
 mod ShownLaws
 mod StripBytes
 mod StripFields

@@ -1,4 +1,10 @@
-pub mod BoxedText
-pub mod LeakedText
+pub mod Packed
+pub mod Form
+pub mod RawView
+pub mod RawText
+pub mod RawTextLaws
+pub mod Block
+pub mod Leaked
+pub mod SharedText
 pub mod Shown
 pub mod Strip

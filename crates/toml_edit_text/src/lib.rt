@@ -1,13 +1,19 @@
-//! Owned texts of two words: one in a block of its own size, and one that is never freed.
+//! Texts of two words: a short one is stored in place, a long one is a part of a text that is held
+//! in common, or in a block of its own size.
 //!
-//! This is the only crate with raw pointers. A `String` takes three words, as it has room to grow.
+//! This is the only crate with `unsafe` code. A `String` takes three words, as it has room to grow.
 #![tactic(auto)]
 
-mod boxed_text;
+mod block;
 mod deed;
-mod leaked_text;
+mod leaked;
+mod packed_text;
+mod raw_string;
+mod shared_text;
+mod short_text;
 mod shown;
 mod strip;
 
-pub use boxed_text::BoxedText;
-pub use leaked_text::LeakedText;
+pub use packed_text::PackedText;
+pub use raw_string::{Mem, RawString, Side};
+pub use shared_text::SharedText;

@@ -17,12 +17,13 @@ use crate::value::Value;
 use std::alloc::Global;
 use toml_edit_repr::Mem;
 use toml_edit_slots::Slots;
+use toml_edit_text::SharedText;
 
 /// Replaces the spans in an item, and in all that it holds.
 // Most items are values without parts: the loops below handle those with no further call.
 #[cycle(despan)]
 #[inline(always)]
-pub(crate) fn despan_item(item: &mut Item, alloc: Global, source: &str) -> Mem<()>
+pub(crate) fn despan_item(item: &mut Item, alloc: Global, source: &SharedText) -> Mem<()>
     requires fits { NodeFits source.now (item_view item.old) }
     requires spelled { ∥ IsWellMade (owned_node source.now (item_view item.old)) ∥₁ }
     ensures { OnOk result (item_view item.new ≡ owned_node source.now (item_view item.old)) }
@@ -38,7 +39,7 @@ pub(crate) fn despan_item(item: &mut Item, alloc: Global, source: &str) -> Mem<(
 /// Replaces the spans of a value: of its spelling, its decor and what it holds.
 #[cycle(despan)]
 #[inline(always)]
-pub(crate) fn despan_value(value: &mut Value, alloc: Global, source: &str) -> Mem<()>
+pub(crate) fn despan_value(value: &mut Value, alloc: Global, source: &SharedText) -> Mem<()>
     requires fits { NodeFits source.now (value_view value.old) }
     requires spelled { ∥ IsWellMade (owned_node source.now (value_view value.old)) ∥₁ }
     ensures { OnOk result (value_view value.new ≡ owned_node source.now (value_view value.old)) }
@@ -56,7 +57,7 @@ pub(crate) fn despan_value(value: &mut Value, alloc: Global, source: &str) -> Me
 
 /// Replaces the spans in an array, and forgets where in the source it was.
 #[cycle(despan)]
-fn despan_array(array: &mut Array, alloc: Global, source: &str) -> Mem<()>
+fn despan_array(array: &mut Array, alloc: Global, source: &SharedText) -> Mem<()>
     requires fits { NodeFits source.now (array_node (array_view array.old)) }
     requires spelled { ∥ IsWellMade (owned_node source.now (array_node (array_view array.old))) ∥₁ }
     ensures { OnOk result
@@ -72,7 +73,7 @@ fn despan_array(array: &mut Array, alloc: Global, source: &str) -> Mem<()>
 
 /// Replaces the spans in an inline table, and forgets where in the source it was.
 #[cycle(despan)]
-fn despan_inline(table: &mut InlineTable, alloc: Global, source: &str) -> Mem<()>
+fn despan_inline(table: &mut InlineTable, alloc: Global, source: &SharedText) -> Mem<()>
     requires fits { NodeFits source.now (inline_node (inline_view table.old)) }
     requires spelled { ∥ IsWellMade
         (owned_node source.now (inline_node (inline_view table.old))) ∥₁ }
@@ -89,7 +90,7 @@ fn despan_inline(table: &mut InlineTable, alloc: Global, source: &str) -> Mem<()
 
 /// Replaces the spans in a table, and forgets where in the source it was.
 #[cycle(despan)]
-pub(crate) fn despan_table(table: &mut Table, alloc: Global, source: &str) -> Mem<()>
+pub(crate) fn despan_table(table: &mut Table, alloc: Global, source: &SharedText) -> Mem<()>
     requires fits { NodeFits source.now (table_node (table_view table.old)) }
     requires spelled { ∥ IsWellMade (owned_node source.now (table_node (table_view table.old))) ∥₁ }
     ensures { OnOk result
@@ -104,7 +105,7 @@ pub(crate) fn despan_table(table: &mut Table, alloc: Global, source: &str) -> Me
 
 /// Replaces the spans in an array of tables, and forgets where in the source it was.
 #[cycle(despan)]
-fn despan_tables(tables: &mut ArrayOfTables, alloc: Global, source: &str) -> Mem<()>
+fn despan_tables(tables: &mut ArrayOfTables, alloc: Global, source: &SharedText) -> Mem<()>
     requires fits { NodeFits source.now (tables_node (tables_view tables.old)) }
     requires spelled { ∥ IsWellMade
         (owned_node source.now (tables_node (tables_view tables.old))) ∥₁ }
@@ -119,7 +120,7 @@ fn despan_tables(tables: &mut ArrayOfTables, alloc: Global, source: &str) -> Mem
 
 /// Replaces the spans of each item of an array.
 #[cycle(despan)]
-fn despan_items(items: &mut Vec<Item>, alloc: Global, source: &str) -> Mem<()>
+fn despan_items(items: &mut Vec<Item>, alloc: Global, source: &SharedText) -> Mem<()>
     requires fits { ItemsFit source.now (items_view items.old.items) }
     requires spelled { ∥ ItemsAreWellMade (owned_items source.now (items_view items.old.items)) ∥₁ }
     ensures { OnOk result
@@ -133,7 +134,7 @@ fn despan_items(items: &mut Vec<Item>, alloc: Global, source: &str) -> Mem<()>
 
 /// Replaces the spans of each key and of its item.
 #[cycle(despan)]
-fn despan_slots(slots: &mut Slots<Item>, alloc: Global, source: &str) -> Mem<()>
+fn despan_slots(slots: &mut Slots<Item>, alloc: Global, source: &SharedText) -> Mem<()>
     requires fits { SlotsFit source.now (slots_view slots.old) }
     requires spelled { ∥ SlotsAreWellMade (owned_slots source.now (slots_view slots.old)) ∥₁ }
     ensures { OnOk result (slots_view slots.new ≡ owned_slots source.now (slots_view slots.old)) }

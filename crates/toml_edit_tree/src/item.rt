@@ -694,6 +694,19 @@ impl Item {
         }
     }
 
+    /// Copies the texts that are parts of a document's source, so that the item does not keep the
+    /// source.
+    ///
+    /// # Errors
+    ///
+    /// Returns an `AllocError` if out of memory, and then keeps the source.
+    pub fn detach(&mut self, alloc: Global) -> Mem<()>
+        ensures { item_view self.new ≡ item_view self.old }
+    {
+        *self = self.clone(alloc)?;
+        Ok(())
+    }
+
     /// Copies the item, with all spellings, decors, spans and positions.
     ///
     /// The copy of a table that has a position is printed beside its original: see

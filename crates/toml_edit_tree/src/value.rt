@@ -1,7 +1,7 @@
 //! Values: the type, its kinds, its decor, and what it is made of.
 ghost use Rattle.std.specs.Borrow.{sem};
 ghost use Rattle.std.specs.Iterator.{Drains, IsFinite};
-ghost use Rattle.std.specs.Prelude.{[], ◌≡◌, IfOk, List, None, OnOk, Some, is_some, map, option_map, string_bytes};
+ghost use Rattle.std.specs.Prelude.{[], ◌≡◌, ◌<◌, ◌^◌, IfOk, List, None, OnOk, Some, is_some, map, option_map, string_bytes};
 ghost use Rattle.toml_edit_datetime.specs.DateView.{date_view};
 ghost use Rattle.toml_edit_datetime.specs.DatetimeView.{datetime_view};
 ghost use Rattle.toml_edit_datetime.specs.TimeView.{time_view};
@@ -33,6 +33,7 @@ use toml_edit_io::{Printed, Sink, show};
 use toml_edit_key::Key;
 use toml_edit_repr::{Decor, Formatted, Mem, RawString};
 use toml_edit_slots::Slots;
+use toml_edit_text::SharedText;
 use toml_edit_token::Scalar;
 
 /// A value with its spelling and its decor (TOML, "Key/Value Pair").
@@ -132,9 +133,12 @@ impl Value {
         }
     }
 
-    /// Makes a scalar whose spelling spans the bytes from `start` to `end` of the source.
+    /// Makes a scalar whose spelling spans the bytes from `start` to `end` of the source, which are
+    /// below 4 GiB.
     #[doc(hidden)]
     pub fn spanned(scalar: Scalar, start: usize, end: usize, decor: Decor) -> Value
+        requires start { start < 2 ^ 32 }
+        requires end { end < 2 ^ 32 }
         ensures { value_view result ≡ leaf (scalar_view scalar) (Some (span start end)) decor }
     {
         match scalar {
@@ -473,7 +477,7 @@ impl Value {
     /// Returns an `AllocError` if out of memory. Some spans may be left then, so the document has
     /// to be dropped.
     #[doc(hidden)]
-    pub fn despan(&mut self, alloc: Global, source: &str) -> Mem<()>
+    pub fn despan(&mut self, alloc: Global, source: &SharedText) -> Mem<()>
         requires fits { NodeFits source.now (value_view self.old) }
         requires spelled { ∥ IsWellMade (owned_node source.now (value_view self.old)) ∥₁ }
         ensures { OnOk result (value_view self.new ≡ owned_node source.now (value_view self.old)) }

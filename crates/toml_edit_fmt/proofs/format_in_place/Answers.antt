@@ -11,5 +11,5 @@ returns-clause-tree c =
     document-formatted r c.args.document.now c.as_table_mut.result.now c.as_table.result.now c.format_tree.new.root c.is_bare-is_bare.result
     c.text_of_raw-text.result.now c.trailing.result.now _ _ c.as_table_mut.ensures.fields c.as_table_mut.ensures.slots
     (c.is_bare-is_bare.ensures r) c.as_table.ensures.fields c.as_table.ensures.slots c.in_ok-format_tree.ensures.fields
-    c.in_ok-format_tree.ensures.slots c.trailing.ensures c.text_of_raw-text.ensures (c.from.ensures ∙ ap owned c.in_ok-trailing.ensures)
+    c.in_ok-format_tree.ensures.slots c.trailing.ensures c.text_of_raw-text.ensures (c.in_ok-from_string.ensures.ok ∙ ap owned c.in_ok-trailing.ensures)
     c.set_trailing.ensures.tree

@@ -7,11 +7,12 @@ ghost use Rattle.toml_edit_laws.specs.PlaceOrder.{slots_by_place};
 ghost use Rattle.toml_edit_syntax.specs.ValueEvents.{event};
 ghost use Rattle.toml_edit_syntax.specs.declared.event.EventKind.TheVariants.{Final};
 ghost use Rattle.toml_edit_tree.specs.View.{slots_view};
-ghost use Rattle.toml_edit_parser.specs.ValueRead.{split_leading};
+ghost use Rattle.toml_edit_parser.specs.ValueRead.{AreIn, split_leading};
 ghost use Rattle.toml_edit_parser.specs.StatementRead.{IsHeld};
 
 use crate::document::block::swap_block;
 use crate::events::raw;
+use crate::reader::Reader;
 use std::alloc::Global;
 use std::borrow::CowStr;
 use toml_edit_repr::RawString;
@@ -81,7 +82,8 @@ pub(crate) fn whole(building: Building<'_>) -> Slots<Item>
 }
 
 /// Returns the text after the last statement, which alone is left.
-pub(crate) fn trailing(events: &[Event]) -> RawString
+pub(crate) fn trailing(reader: &Reader<'_>, events: &[Event]) -> RawString
+    requires { AreIn reader.now.source.now events.now }
     ensures { (start : ℕ) (t : Text) → events.now ≡ event Final start t ∷ []
         → result ≡ span_of start t }
 {

@@ -9,6 +9,8 @@ ghost use Rattle.toml_edit_model.specs.Text.{Text};
 ghost use Rattle.toml_edit_syntax.specs.Events.{IsSpanOf};
 ghost use Rattle.toml_edit_repr.specs.Modes.{mode_of};
 ghost use Rattle.toml_edit_parser.specs.StatementParts.{ReadsHeader, ReadsLineParts, ReadsLineValue, suffix_span, IfKeyLineNext, ReadsAnyLineValue, IfLineScalarNext, IfHeaderNext};
+ghost use Rattle.toml_edit_parser.specs.Near.{IsNear};
+ghost use Rattle.toml_edit_parser.specs.PairRead.{IsPathIn};
 ghost use Rattle.toml_edit_parser.specs.ValueRead.{AreIn, Leaves, LeavesBeside};
 ghost use Rattle.toml_edit_tree.specs.View.{item_view};
 ghost use Rattle.toml_edit_parser.specs.Listed.{Refuses};
@@ -48,7 +50,7 @@ pub(crate) fn read_key_line<'a>(
         (ReadsLineParts (mode_of reader.now.mode) reader.now.source.now f v end start more
         (item_view item.new) result) }
     ensures refused { Refuses reader.now.source.now result }
-    ensures path { IfOk result (λ r. AreIn reader.now.source.now r.0.events.now) }
+    ensures path { IfOk result (λ r. IsPathIn reader.now.source.now r.0) }
     ensures rest { LeavesBeside reader.now.source.now events.now result }
 {
     let Some((frame, rest)) = split_frame(leading, events) else {
@@ -98,7 +100,8 @@ fn read_line_value<'a>(
     events: &'a [Event],
     item: &mut Item,
 ) -> Result<&'a [Event], ParseFault>
-    requires { AreIn reader.now.source.now events.now }
+    requires before { IsSpanOf reader.now.source.now before }
+    requires spans { AreIn reader.now.source.now events.now }
     ensures value { ReadsAnyLineValue reader.now before events.now (item_view item.new) result }
     ensures refused { Refuses reader.now.source.now result }
     ensures rest { Leaves reader.now.source.now events.now result }
@@ -117,6 +120,7 @@ fn read_line_scalar<'a>(
     events: &'a [Event],
     item: &mut Item,
 ) -> Result<&'a [Event], ParseFault>
+    requires before { IsSpanOf reader.now.source.now before }
     requires span { IsSpanOf reader.now.source.now span }
     requires spans { AreIn reader.now.source.now events.now }
     ensures value { (s : Scalar) (t : Text) (start : ℕ) (after suffix : Text) (more : List Event)
@@ -159,7 +163,8 @@ fn read_line_list<'a>(
     events: &'a [Event],
     item: &mut Item,
 ) -> Result<&'a [Event], ParseFault>
-    requires { AreIn reader.now.source.now events.now }
+    requires before { IsSpanOf reader.now.source.now before }
+    requires spans { AreIn reader.now.source.now events.now }
     ensures value { ReadsAnyLineValue reader.now before events.now (item_view item.new) result }
     ensures refused { Refuses reader.now.source.now result }
     ensures rest { Leaves reader.now.source.now events.now result }
@@ -186,7 +191,8 @@ pub(crate) fn read_header<'a>(
         → IfHeaderNext reader.now.source.now events.now h end start more
         (ReadsHeader (mode_of reader.now.mode) reader.now.source.now h end start more result) }
     ensures refused { Refuses reader.now.source.now result }
-    ensures path { IfOk result (λ r. AreIn reader.now.source.now r.0.path.events.now) }
+    ensures path { IfOk result (λ r. IsPathIn reader.now.source.now r.0.path) }
+    ensures trailing { IfOk result (λ r. IsNear r.0.trailing) }
     ensures rest { LeavesBeside reader.now.source.now events.now result }
 {
     let Some((opening, inside)) = split_first(events) else {

@@ -9,7 +9,7 @@ ghost use Rattle.toml_edit_laws.specs.FlatTree.{with_slot};
 ghost use Rattle.toml_edit_slots.specs.Slots.{place};
 ghost use Rattle.toml_edit_syntax.specs.Events.{IsSpanOf};
 ghost use Rattle.toml_edit_parser.specs.Listed.{Refuses};
-ghost use Rattle.toml_edit_parser.specs.ValueRead.{AreIn};
+ghost use Rattle.toml_edit_parser.specs.PairRead.{IsPathIn};
 ghost use Rattle.toml_edit_tree.specs.Containers.{table_node, tables_node};
 ghost use Rattle.toml_edit_tree.specs.View.{item_view, slots_view, table_view, tables_view};
 ghost use Rattle.toml_edit_parser.specs.TableRead as spec;
@@ -70,7 +70,7 @@ pub(crate) fn add_path(
     item: &mut Item,
     slots: &mut Slots<Item>,
 ) -> Result<(), ParseFault>
-    requires { AreIn adding.now.reader.now.source.now path.events.now }
+    requires { IsPathIn adding.now.reader.now.source.now path }
     ensures added { (mode : Mode) (s : Source) (ms : List (Mention Source))
         → IfAdded mode adding.now s ms (item_view item.old) path.entry
         (AddsPath mode adding.now.reader.now.source.now (addition_for adding.now.kind
@@ -109,7 +109,7 @@ pub(crate) fn add_value(
     item: &mut Item,
     slots: &mut Slots<Item>,
 ) -> Result<(), ParseFault>
-    requires { AreIn reader.now.source.now path.events.now }
+    requires { IsPathIn reader.now.source.now path }
     ensures added { (mode : Mode) (s : Source) (ms : List (Mention Source))
         → IsPathOf mode reader.now.source.now s ms path.entry
         → AddsPath mode reader.now.source.now (a_value (item_view item.old)) ms
@@ -145,7 +145,7 @@ fn add_below(
     slots: &mut Slots<Item>,
 ) -> Result<(), ParseFault>
     requires new { place key.name slots.old ≡ None }
-    requires path { AreIn adding.now.reader.now.source.now path.events.now }
+    requires path { IsPathIn adding.now.reader.now.source.now path }
     ensures added { (mode : Mode) (s : Source) (ms : List (Mention Source))
         → IfAdded mode adding.now s ms (item_view item.old) path.entry
         (AddsBelow mode adding.now.reader.now.source.now (addition_for adding.now.kind
@@ -180,7 +180,7 @@ fn add_in_passed(
     item: &mut Item,
     holder: &mut Item,
 ) -> Result<(), ParseFault>
-    requires { AreIn adding.now.reader.now.source.now path.events.now }
+    requires { IsPathIn adding.now.reader.now.source.now path }
     ensures added { (mode : Mode) (s : Source) (ms : List (Mention Source)) (f : TableFields)
         → item_view holder.old ≡ table_of f no_slots
         → IfAdded mode adding.now s ms (item_view item.old) path.entry
@@ -206,7 +206,7 @@ fn add_in_item(
     holder: &mut Item,
 ) -> Result<(), ParseFault>
     requires span { IsSpanOf adding.now.reader.now.source.now span }
-    requires path { AreIn adding.now.reader.now.source.now path.events.now }
+    requires path { IsPathIn adding.now.reader.now.source.now path }
     ensures added { AddsPathInside adding.now span path.entry (item_view item.old)
         (item_view holder.old) (item_view holder.new) result }
     ensures refused { Refuses adding.now.reader.now.source.now result }
@@ -230,7 +230,7 @@ fn add_in_table(
     table: &mut Table,
 ) -> Result<(), ParseFault>
     requires span { IsSpanOf adding.now.reader.now.source.now span }
-    requires path { AreIn adding.now.reader.now.source.now path.events.now }
+    requires path { IsPathIn adding.now.reader.now.source.now path }
     ensures added { AddsPathInside adding.now span path.entry (item_view item.old)
         (table_node (table_view table.old)) (table_node (table_view table.new)) result }
     ensures refused { Refuses adding.now.reader.now.source.now result }
@@ -255,7 +255,7 @@ fn add_in_tables(
     tables: &mut ArrayOfTables,
 ) -> Result<(), ParseFault>
     requires span { IsSpanOf adding.now.reader.now.source.now span }
-    requires path { AreIn adding.now.reader.now.source.now path.events.now }
+    requires path { IsPathIn adding.now.reader.now.source.now path }
     ensures added { AddsPathInside adding.now span path.entry (item_view item.old)
         (tables_node (tables_view tables.old)) (tables_node (tables_view tables.new)) result }
     ensures refused { Refuses adding.now.reader.now.source.now result }
@@ -279,7 +279,7 @@ fn add_in_element(
     holder: &mut Item,
 ) -> Result<(), ParseFault>
     requires span { IsSpanOf adding.now.reader.now.source.now span }
-    requires path { AreIn adding.now.reader.now.source.now path.events.now }
+    requires path { IsPathIn adding.now.reader.now.source.now path }
     ensures added { (mode : Mode) (s : Source) (m : Mention Source) (ms : List (Mention Source))
         (k : Key) (way : Node)
         → IfAddedAfter mode adding.now s m k span ms (item_view item.old) path.entry
@@ -302,7 +302,7 @@ fn add_in_slots(
     item: &mut Item,
     table: &mut Table,
 ) -> Result<(), ParseFault>
-    requires { AreIn adding.now.reader.now.source.now path.events.now }
+    requires { IsPathIn adding.now.reader.now.source.now path }
     ensures added { (mode : Mode) (s : Source) (ms : List (Mention Source))
         → IfAdded mode adding.now s ms (item_view item.old) path.entry
         (AddsInTable mode adding.now.reader.now.source.now (addition_for adding.now.kind

@@ -13,12 +13,13 @@ ghost use Rattle.toml_edit_syntax.specs.Events.{IsSpanOf, has_deep_value};
 ghost use Rattle.toml_edit_syntax.specs.Grammar.{grammar};
 ghost use Rattle.toml_edit_tree.specs.View.{item_view};
 ghost use Rattle.toml_edit_repr.specs.Modes.{mode_of};
-ghost use Rattle.toml_edit_parser.specs.PairRead.{IsEndOfPath};
+ghost use Rattle.toml_edit_parser.specs.PairRead.{IsEndOfPath, IsPathIn};
 ghost use Rattle.toml_edit_parser.specs.PathRead.{IsPathFrom};
 ghost use Rattle.toml_edit_parser.specs.Listed.{Refuses, RefusesIn};
 ghost use Rattle.toml_edit_parser.specs.ValueRead.{AreIn, Leaves};
 ghost use Rattle.toml_edit_parser.specs.StatementRead.{AreHeaderParts, OpensBlock, ReadsInVersion, ReadsNames, ReadsStatement, kind_of, IfHeaderDue, IfHeaderRead, IfLineDue, IfStatementDue, IfStatementNext};
 ghost use Rattle.toml_edit_parser.specs.TableRead.{IsHeaded};
+ghost use Rattle.toml_edit_parser.specs.Near.{IsNear};
 
 use crate::document::block::swap_block;
 use crate::document::building::Building;
@@ -166,6 +167,7 @@ fn add_header<'s, 'a>(
     building: &mut Building<'s>,
     events: &'a [Event],
 ) -> Result<&'a [Event], ParseFault>
+    requires leading { IsSpanOf reader.now.source.now leading }
     requires spans { AreIn reader.now.source.now events.now }
     ensures header { (b : Builder) (h : Header) (end : Text) (more : List Event)
         → IfHeaderDue reader.now.source.now building.old leading is_array opening events.now b h end
@@ -205,7 +207,9 @@ fn open_block<'s>(
     behind: Behind<'_>,
     building: &mut Building<'s>,
 ) -> Result<(), ParseFault>
-    requires path { AreIn reader.now.source.now header.path.events.now }
+    requires leading { IsNear header.leading }
+    requires path { IsPathIn reader.now.source.now header.path }
+    requires trailing { IsNear header.trailing }
     ensures opens { (mode : modes.Mode) (b : Builder) (h : Header) (end : Text)
         → IfHeaderRead mode reader.now.source.now building.old header.entry b h end
         (OpensBlock mode reader.now.source.now b (syntax.header h end) building.new result) }
@@ -263,6 +267,8 @@ fn header_kind(header: HeaderParts<'_>) -> Kind
 /// Puts the table of the header of this number in the item's place, without slots, but with room
 /// for so many.
 fn head_item(alloc: Global, header: HeaderParts<'_>, position: isize, room: usize, item: &mut Item)
+    requires leading { IsNear header.leading }
+    requires trailing { IsNear header.trailing }
     ensures { (mode : modes.Mode) (b : Builder) (h : Header) (end : Text)
         → AreHeaderParts mode h end b.start header.entry → position ≡ pos (suc b.headers)
         → IsHeaded mode (source_at b (syntax.header h end)) (item_view item.new) }
@@ -272,6 +278,8 @@ fn head_item(alloc: Global, header: HeaderParts<'_>, position: isize, room: usiz
 
 /// Makes the table of the header of this number, without slots, but with room for so many.
 fn headed_item(alloc: Global, header: HeaderParts<'_>, position: isize, room: usize) -> Item
+    requires leading { IsNear header.leading }
+    requires trailing { IsNear header.trailing }
     ensures { (mode : modes.Mode) (b : Builder) (h : Header) (end : Text)
         → AreHeaderParts mode h end b.start header.entry → position ≡ pos (suc b.headers)
         → IsHeaded mode (source_at b (syntax.header h end)) (item_view result) }

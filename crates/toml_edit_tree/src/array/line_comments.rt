@@ -167,7 +167,7 @@ fn with_comment(
     ensures err { IfErr result (λ fault. fault ≡ Memory) }
 {
     let mut decor = Decor::default();
-    decor.set_suffix(RawString::from(text));
+    decor.set_suffix(RawString::from_string(text)?);
     decor.set_comment_after(alloc, comment)?;
     let text = RawString::from_text(alloc, text_of(decor.suffix()))?;
     Ok(text)
@@ -197,5 +197,5 @@ fn uncommented(alloc: Global, text: &str) -> Mem<RawString>
     decor.set_prefix(RawString::from_text(alloc, after)?);
     decor.remove_comments_before(alloc)?;
     let whole = join_three(alloc, line, text_of(decor.prefix()), "")?;
-    Ok(RawString::from(whole))
+    RawString::from_string(whole)
 }

@@ -31,7 +31,8 @@ pub(crate) fn gaps_of_line(
     let start = join_three(alloc, above, newline, indent)?;
     let before = join_three(alloc, line, start.as_str(), "")?;
     let after = join_three(alloc, after, next, "")?;
-    Ok((RawString::from(before), RawString::from(after)))
+    let before = RawString::from_string(before)?;
+    Ok((before, RawString::from_string(after)?))
 }
 
 /// Returns the gap, or else a newline and the indentation, if the gap has no newline.
@@ -183,7 +184,7 @@ pub(crate) fn decor_taken(
     let (line, _) = split_first_line(after);
     let suffix = join_three(alloc, suffix, line, "")?;
     let prefix = RawString::from_text(alloc, split_first_line(before).1)?;
-    Ok(Some(Decor::new(prefix, RawString::from(suffix))))
+    Ok(Some(Decor::new(prefix, RawString::from_string(suffix)?)))
 }
 
 /// Returns the text after the comment of the first line of what was before it, if there is one.

@@ -386,7 +386,7 @@ fn parts_removed(array: &Array, at: usize) -> Mem<(RawString, Option<Decor>)>
     let rest = left_of(alloc, before.as_str(), after.as_str(), is_last)?;
     let left = join_three(alloc, suffix_left(array, at), rest.as_str(), "")?;
     let decor = decor_taken(alloc, before.as_str(), suffix, after.as_str())?;
-    Ok((RawString::from(left), decor))
+    Ok((RawString::from_string(left)?, decor))
 }
 
 /// Returns what is after the value before the one at the place, if the array then ends in it.

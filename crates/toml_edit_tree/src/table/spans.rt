@@ -13,6 +13,7 @@ use std::alloc::Global;
 use std::ops::Range;
 use toml_edit_repr::{Decor, Mem};
 use toml_edit_slots::Slots;
+use toml_edit_text::SharedText;
 
 impl Table {
     /// Makes the root of a parsed document of these slots.
@@ -90,7 +91,7 @@ impl Table {
     /// Returns an `AllocError` if out of memory. Some spans may be left then, so the document has
     /// to be dropped.
     #[doc(hidden)]
-    pub fn despan(&mut self, alloc: Global, source: &str) -> Mem<()>
+    pub fn despan(&mut self, alloc: Global, source: &SharedText) -> Mem<()>
         requires decor { DecorFits source.now (fields_view self.old).decor }
         requires slots { SlotsFit source.now (table_slots self.old) }
         requires spelled { ∥ SlotsAreWellMade (owned_slots source.now (table_slots self.old)) ∥₁ }

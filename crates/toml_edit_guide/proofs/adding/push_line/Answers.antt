@@ -30,7 +30,7 @@ returns-clause-items c =
     c.indent_of-indent.ensures ∙ ap indent_of (c.text_of-2.ensures ∙ ap side_text c.before_last.ensures) in
     let bytes : string_bytes c.in_ok-format.field-0 ≡ c.trim_end-comment.result.now ++ newline ++ c.indent_of-indent.result.now =
     c.in_ok-format.ensures.ok ∙ sym (append_assoc c.trim_end-comment.result.now newline c.indent_of-indent.result.now) in
-    let prefix : c.from-prefix.result ≡ owned (line_prefix f value) = c.from-prefix.ensures
+    let prefix : c.in_ok-prefix.prefix ≡ owned (line_prefix f value) = c.in_ok-prefix.ensures.ok
     ∙ ap owned (bytes ∙ (λ i. comment i ++ newline ++ indent i)) in
     let seen : value_view c.decorated-value.result ≡ v =
     c.decorated-value.ensures ∙ (λ i. with_decor (both_sides (prefix i) (c.default.ensures i)) (c.in_ok-string.ensures i)) in

@@ -3,6 +3,7 @@ use Rattle.toml_edit_tree.specs.View.{items_view, value_view}
 use Rattle.toml_edit_parser.proofs.ReadLaws.{same_closes}
 use Rattle.toml_edit_parser.proofs.ReadFits.{close_in, fits-array}
 use Rattle.toml_edit_parser.proofs.ArrayLaws.{made_array}
+use Rattle.toml_edit_parser.proofs.NearLaws.{near}
 use Rattle.toml_edit_parser.proofs.array.close_array.Goals as goal
 
 pub returns-clause-value : goal.returns-clause-value
@@ -17,3 +18,8 @@ returns-clause-fits c =
     λ fits. fits-array c.args.reader.now.source.now (value_view c.array_value.result) c.args.opening.start c.in-Some.close
     (items_view c.args.values.items) c.array_value.ensures
     (close_in c.args.reader.now.source.now c.args.events.now c.in-Some.close c.in-Some.rest.now c.in-Some.ensures c.requires).0 fits
+
+pub array_value-requires : goal.array_value-requires
+array_value-requires c =
+    near c.args.reader.now.source.now c.in-Some.close.inner c.args.reader.now.short
+    (close_in c.args.reader.now.source.now c.args.events.now c.in-Some.close c.in-Some.rest.now c.in-Some.ensures c.requires).0

@@ -14,6 +14,7 @@ use Rattle.toml_edit_parser.specs.ValueRead.{spanned_raw}
 use Rattle.toml_edit_parser.proofs.ScalarElements.{place_cut, scalar_refusal, scalar_added, scalar_fits}
 use Rattle.toml_edit_parser.proofs.SplitLaws.{first_in}
 use Rattle.toml_edit_parser.proofs.ViewLaws.{view-Integer}
+use Rattle.toml_edit_parser.proofs.NearLaws.{near}
 use Rattle.toml_edit_parser.proofs.array.read_scalar_element.Goals as goal
 
 pub returns-in-Some-decode_integer-clause-element : goal.returns-in-Some-decode_integer-clause-element
@@ -121,3 +122,12 @@ returns-in-None-clause-element c =
 
 pub returns-in-None-clause-refused : goal.returns-in-None-clause-refused
 returns-in-None-clause-refused c = c.refusal_with.ensures.refused v1_1 (inr c.range_message.ensures.listed)
+
+pub raw-requires : goal.raw-requires
+raw-requires c = near c.args.reader.now.source.now c.args.before c.args.reader.now.short c.requires.before
+
+pub raw-requires-2 : goal.raw-requires-2
+raw-requires-2 c =
+    let t = c.args.reader.now.source.now in
+    near t c.in-Some.after.span c.args.reader.now.short
+    (first_in t c.args.events.now c.in-Some.after c.in-Some.rest.now c.in-Some.ensures c.requires.spans).0

@@ -155,3 +155,6 @@ returns-in-TooManyBrackets-clause-refused c =
     ∙ c.statements-test.false) in
     e.deep c.in-TooManyBrackets.is)
     (c.refusal_of_all.ensures.refused version)
+
+pub trailing-after-requires : goal.trailing-after-requires
+trailing-after-requires c = c.statements.invariant.spans

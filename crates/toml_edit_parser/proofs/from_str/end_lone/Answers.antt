@@ -1,6 +1,7 @@
 -- A value that was read, in owned form.
 use Rattle.std.proofs.Common.{sym, ap, ◌∙◌, subst}
 use Rattle.toml_edit_model.specs.Version.{v1_1}
+use Rattle.toml_edit_model.specs.Text.{Text}
 use Rattle.toml_edit_model.specs.Tree.{Node, unset, IsWellMade}
 use Rattle.toml_edit_tree.specs.View.{value_view}
 use Rattle.toml_edit_parser.proofs.LoneValueLaws.{brackets_refused, lone_made, lone_read, no_value, refused_whole}
@@ -25,17 +26,20 @@ returns-then-are_cut_short-clause-refused c =
 pub despan-requires-clause-fits : goal.despan-requires-clause-fits
 despan-requires-clause-fits c =
     let P : Node → Type 0 = λ n. NodeFits c.args.reader.now.source.now n in
-    subst P (sym c.undecorate.ensures) (fits-with_decor c.args.reader.now.source.now (value_view c.args.value.now) unset c.requires.fits (tt, tt))
+    subst (λ (t : Text). NodeFits t (value_view c.undecorate.new.self)) (sym c.in_ok-source.ensures)
+    (subst P (sym c.undecorate.ensures) (fits-with_decor c.args.reader.now.source.now (value_view c.args.value.now) unset c.requires.fits (tt, tt)))
 
 pub despan-requires-clause-spelled : goal.despan-requires-clause-spelled
 despan-requires-clause-spelled c =
     let P : Node → Type 0 = λ n. IsWellMade (owned_node c.args.reader.now.source.now n) in
-    ∣ subst P (sym c.undecorate.ensures) (lone_made c.args.reader.now.source.now c.args.events.now c.requires.cut (value_view c.args.value.now)
+    ∣ subst (λ (t : Text). IsWellMade (owned_node t (value_view c.undecorate.new.self))) (sym c.in_ok-source.ensures)
+    (subst P (sym c.undecorate.ensures) (lone_made c.args.reader.now.source.now c.args.events.now c.requires.cut (value_view c.args.value.now)
     c.requires.read.0 c.requires.read.1
-    (sym c.are_cut_short.ensures ∙ c.if-are_cut_short.false)) ∣₁
+    (sym c.are_cut_short.ensures ∙ c.if-are_cut_short.false))) ∣₁
 
 pub returns-clause-read : goal.returns-clause-read
 returns-clause-read c =
     lone_read c.args.reader.now.source.now c.args.events.now c.requires.cut (value_view c.args.value.now) _ c.requires.read.0 c.requires.read.1
     (sym c.are_cut_short.ensures ∙ c.if-are_cut_short.false)
-    (c.in_ok-despan.ensures ∙ ap (owned_node c.args.reader.now.source.now) c.undecorate.ensures)
+    (c.in_ok-despan.ensures ∙ ap (λ (t : Text). owned_node t (value_view c.undecorate.new.self)) c.in_ok-source.ensures
+    ∙ ap (owned_node c.args.reader.now.source.now) c.undecorate.ensures)

@@ -1,5 +1,5 @@
 -- Each exit of the descent along a path.
-use Rattle.std.proofs.Common.{List, refl, ap, sym, subst, ◌∙◌, arith, rules, Some, string_bytes, lit<, inr}
+use Rattle.std.proofs.Common.{List, refl, ap, sym, subst, ◌∙◌, arith, rules, Some, lit<, inr}
 use Rattle.std.proofs.lemmas.Result.{err_from_is_err_and}
 use Rattle.toml_edit_model.specs.Version.{v1_1}
 use Rattle.toml_edit_model.specs.Faults.{duplicate_key}
@@ -17,6 +17,7 @@ use Rattle.toml_edit_parser.proofs.DescentLaws.{below-refused, dot_in, fits-belo
 use Rattle.toml_edit_parser.proofs.DescentLaws.{on_ok, same-way, stops-empty, stops-other, went-in}
 use Rattle.toml_edit_parser.proofs.EntryLaws.{below-added, inside-added, last-added, some-key, stopped}
 use Rattle.toml_edit_parser.proofs.SplitLaws.{first_in}
+use Rattle.toml_edit_parser.proofs.NearLaws.{near}
 use Rattle.toml_edit_parser.proofs.inline_table.+add.Goals as goal
 use Rattle.toml_edit_model.specs.OwnedForm.{SlotsFit}
 
@@ -35,7 +36,7 @@ add_entry-returns-in_err-name-clause-entry t c =
 pub add_entry-returns-in-None-clause-entry : goal.add_entry-returns-in-None-clause-entry
 add_entry-returns-in-None-clause-entry t c =
     λ e p start above are stands at.
-    last-added c.args.reader.now.source.now e p start above c.args.path c.in-Some.first c.in-Some.rest.now (string_bytes c.in_ok-name.name)
+    last-added c.args.reader.now.source.now e p start above c.args.path c.in-Some.first c.in-Some.rest.now c.in_ok-name.name
     c.last_key.result
     (item_view c.args.item.now) (slots_view c.args.slots.now) (slots_view c.add_last.new.slots) c.add_last.result
     (record { are = are; stands = stands; at = at; split = c.in-Some.ensures; told = c.in_ok-name.ensures.name })
@@ -74,7 +75,7 @@ pub add_entry-returns-in-Some-find-clause-entry : goal.add_entry-returns-in-Some
 add_entry-returns-in-Some-find-clause-entry t c =
     λ e p start above are stands at.
     let named = c.get.ensures.name ∙ ap (λ (k : Key). k.name) c.passed_key-key.ensures.key in
-    inside-added c.args.reader.now.source.now e p start above c.args.path c.in-Some.first c.in-Some.rest.now (string_bytes c.in_ok-name.name)
+    inside-added c.args.reader.now.source.now e p start above c.args.path c.in-Some.first c.in-Some.rest.now c.in_ok-name.name
     c.in-Some-split_dot.after c.in-Some-split_dot.inside c.args.slots.now c.in-Some-find.at c.item_mut.result.now c.add_inside.new.holder
     (item_view c.args.item.now)
     c.add_inside.result
@@ -94,7 +95,7 @@ pub add_entry-returns-in-None-find-clause-entry : goal.add_entry-returns-in-None
 add_entry-returns-in-None-find-clause-entry t c =
     λ e p start above are stands at.
     let named = c.get.ensures.name ∙ ap (λ (k : Key). k.name) c.passed_key-key.ensures.key in
-    below-added c.args.reader.now.source.now e p start above c.args.path c.in-Some.first c.in-Some.rest.now (string_bytes c.in_ok-name.name)
+    below-added c.args.reader.now.source.now e p start above c.args.path c.in-Some.first c.in-Some.rest.now c.in_ok-name.name
     c.in-Some-split_dot.after c.in-Some-split_dot.inside c.args.slots.now c.passed_key-key.result (item_view c.args.item.now)
     (slots_view c.add_below.new.slots)
     c.add_below.result
@@ -197,3 +198,38 @@ add_in_value-returns-in_default-clause-refused t c = c.refusal.ensures.refused v
 
 pub add_in_table-returns-else-is_dotted-clause-refused : goal.add_in_table-returns-else-is_dotted-clause-refused
 add_in_table-returns-else-is_dotted-clause-refused t c = c.refusal.ensures.refused v1_1 (inr (0, lit< tt, refl))
+
+-- ---- the spans of the keys
+
+pub add_entry-last_key-requires-clause-span : goal.add_entry-last_key-requires-clause-span
+add_entry-last_key-requires-clause-span t c =
+    near c.args.reader.now.source.now c.in-Some.first.span c.args.reader.now.short
+    (first_in c.args.reader.now.source.now c.args.path.events.now c.in-Some.first c.in-Some.rest.now c.in-Some.ensures c.requires.path.events).0
+
+pub add_entry-last_key-requires-clause-prefix : goal.add_entry-last_key-requires-clause-prefix
+add_entry-last_key-requires-clause-prefix t c =
+    near c.args.reader.now.source.now c.args.path.prefix c.args.reader.now.short c.requires.path.prefix
+
+pub add_entry-last_key-requires-clause-suffix : goal.add_entry-last_key-requires-clause-suffix
+add_entry-last_key-requires-clause-suffix t c =
+    near c.args.reader.now.source.now c.args.path.suffix c.args.reader.now.short c.requires.path.suffix
+
+pub add_entry-last_key-requires-clause-before : goal.add_entry-last_key-requires-clause-before
+add_entry-last_key-requires-clause-before t c =
+    near c.args.reader.now.source.now c.args.path.before c.args.reader.now.short c.requires.path.before
+
+pub add_entry-passed_key-key-requires-clause-span : goal.add_entry-passed_key-key-requires-clause-span
+add_entry-passed_key-key-requires-clause-span t c =
+    near c.args.reader.now.source.now c.in-Some.first.span c.args.reader.now.short
+    (first_in c.args.reader.now.source.now c.args.path.events.now c.in-Some.first c.in-Some.rest.now c.in-Some.ensures c.requires.path.events).0
+
+pub add_entry-passed_key-key-requires-clause-before : goal.add_entry-passed_key-key-requires-clause-before
+add_entry-passed_key-key-requires-clause-before t c =
+    near c.args.reader.now.source.now c.args.path.before c.args.reader.now.short c.requires.path.before
+
+pub add_entry-passed_key-key-requires-clause-after : goal.add_entry-passed_key-key-requires-clause-after
+add_entry-passed_key-key-requires-clause-after t c =
+    near c.args.reader.now.source.now c.in-Some-split_dot.after c.args.reader.now.short
+    (dot_in c.args.reader.now.source.now c.args.path c.in-Some-split_dot.after c.in-Some-split_dot.inside c.in-Some.rest.now
+    c.in-Some-split_dot.ensures (first_in c.args.reader.now.source.now c.args.path.events.now c.in-Some.first c.in-Some.rest.now c.in-Some.ensures c.requires.path.events).1
+    c.requires.path.prefix c.requires.path.suffix).0

@@ -3,6 +3,7 @@ use Rattle.toml_edit_tree.specs.View.{slots_view, value_view}
 use Rattle.toml_edit_parser.proofs.ReadLaws.{same_closes}
 use Rattle.toml_edit_parser.proofs.ReadFits.{close_in}
 use Rattle.toml_edit_parser.proofs.InlineLaws.{fits-inline, made_inline}
+use Rattle.toml_edit_parser.proofs.NearLaws.{near}
 use Rattle.toml_edit_parser.proofs.inline_table.close_inline.Goals as goal
 
 pub returns-clause-value : goal.returns-clause-value
@@ -17,3 +18,8 @@ returns-clause-fits c =
     λ fits. fits-inline c.args.reader.now.source.now (value_view c.inline_value.result) c.args.opening.start c.in-Some.close (slots_view c.args.slots)
     c.inline_value.ensures
     (close_in c.args.reader.now.source.now c.args.events.now c.in-Some.close c.in-Some.rest.now c.in-Some.ensures c.requires).0 fits
+
+pub inline_value-requires : goal.inline_value-requires
+inline_value-requires c =
+    near c.args.reader.now.source.now c.in-Some.close.inner c.args.reader.now.short
+    (close_in c.args.reader.now.source.now c.args.events.now c.in-Some.close c.in-Some.rest.now c.in-Some.ensures c.requires).0

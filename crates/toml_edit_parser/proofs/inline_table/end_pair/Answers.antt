@@ -14,6 +14,7 @@ use Rattle.toml_edit_parser.proofs.ReadFits.{fits-with_decor}
 use Rattle.toml_edit_parser.proofs.ReadLaws.{same_parts}
 use Rattle.toml_edit_parser.proofs.SplitLaws.{first_in}
 use Rattle.toml_edit_parser.proofs.StatementPartLaws.{path-from}
+use Rattle.toml_edit_parser.proofs.NearLaws.{near}
 use Rattle.toml_edit_parser.proofs.inline_table.end_pair.Goals as goal
 use Rattle.toml_edit_model.specs.OwnedForm.{NodeFits}
 
@@ -81,3 +82,12 @@ add_entry-requires c =
         events = subst (AreIn t) (sym (ap (λ (v : PathView). v.events) is)) c.requires.path;
       };
     }
+
+pub raw-requires : goal.raw-requires
+raw-requires c = near c.args.reader.now.source.now c.args.frame.after_equals c.args.reader.now.short c.requires.after_equals
+
+pub raw-requires-2 : goal.raw-requires-2
+raw-requires-2 c =
+    let t = c.args.reader.now.source.now in
+    near t c.in-Some.after.span c.args.reader.now.short
+    (first_in t c.args.events.now c.in-Some.after c.in-Some.rest.now c.in-Some.ensures c.requires.spans).0

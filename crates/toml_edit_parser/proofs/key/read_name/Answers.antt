@@ -1,13 +1,11 @@
-use Rattle.std.proofs.Common.{◌≡◌, IsSomeAnd, string_bytes, sym, subst}
+-- A bare key is its own name.
+use Rattle.std.proofs.Common.{◌≡◌, IfSome, subst}
+use Rattle.toml_edit_model.specs.Text.{Text}
 use Rattle.toml_edit_model.specs.Spelling.{SpellsKey}
+use Rattle.toml_edit_model.specs.OwnedForm.{cut_out}
 use Rattle.toml_edit_parser.proofs.key.read_name.Goals as goal
 
 pub returns-in-Some-clause-name : goal.returns-in-Some-clause-name
 returns-in-Some-clause-name c =
-    λ k h. let told = c.in_ok-name.ensures.only k (subst (SpellsKey k) (sym c.text_at.ensures) h) in
-    sym (subst (λ o. IsSomeAnd o (λ s. k ≡ string_bytes s)) c.in-Some.is told)
-
-pub returns-in-None-clause-name : goal.returns-in-None-clause-name
-returns-in-None-clause-name c =
-    λ k h. let told = c.in_ok-name.ensures.only k (subst (SpellsKey k) (sym c.text_at.ensures) h) in
-    absurd (subst (λ o. IsSomeAnd o (λ s. k ≡ string_bytes s)) c.in-None.is told)
+    subst (λ o. IfSome o (λ name. (k : Text) → SpellsKey k (cut_out c.args.reader.now.source.now c.args.span.start c.args.span.end) → name ≡ k))
+    c.in-Some.is c.in_ok-name.ensures

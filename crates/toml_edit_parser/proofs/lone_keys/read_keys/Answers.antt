@@ -1,12 +1,15 @@
 -- The keys of the path, one after another.
-use Rattle.std.proofs.Common.{List, [], ◌∷◌, ◌++◌, length, option_map, refl, sym, ap, subst, ◌∙◌}
+use Rattle.std.proofs.Common.{◌<◌, ◌^◌, List, [], ◌∷◌, ◌++◌, arith, length, option_map, refl, sym, ap, subst, ◌∙◌}
+use Rattle.std.proofs.lemmas.List.{length-append}
 use Rattle.std.proofs.lemmas.Result.{err_from_is_err_and}
 use Rattle.toml_edit_model.specs.OwnedForm.{KeyFits, owned_key, owned_raw}
 use Rattle.toml_edit_model.specs.Spelling.{SpellsKey}
-use Rattle.toml_edit_model.specs.Syntax.{Segment}
+use Rattle.toml_edit_model.specs.Syntax.{Segment, path_text}
+use Rattle.toml_edit_model.specs.Text.{Text}
 use Rattle.toml_edit_model.specs.Tree.{Decor, Key, HasTrueSpelling}
 use Rattle.toml_edit_syntax.specs.declared.event.Span.{Span}
 use Rattle.toml_edit_parser.specs.declared.key.KeyPath.{KeyPath}
+use Rattle.toml_edit_parser.specs.Near.{IsNear}
 use Rattle.toml_edit_parser.proofs.LoneKeyLaws.{KeysLeft, keys-begin, keys-end, keys-next}
 use Rattle.toml_edit_parser.proofs.LonePathLaws.{memory_alone}
 use Rattle.toml_edit_parser.proofs.lone_keys.read_keys.Goals as goal
@@ -18,9 +21,16 @@ segments-init c =
     let before = c.args.path.now.before.now in
     let after = c.args.path.now.after.now in
     let at : Span = record { start = length before; end = length before } in
+    let whole = ap (λ (t : Text). length t) are.is.parts ∙ length-append before (path_text are.path ++ after) in
+    let short = c.args.reader.now.short in
+    let within : length before < 2 ^ 32 = omega (arith, whole, short) in
+    let front : IsNear at = record { start = within; end = within } in
     let left : KeyPath = record { prefix = at; suffix = at; before = at; events = c.as_slice.result } in
     record {
       spans = rw c.as_slice.ensures.value c.requires.spans;
+      prefix = front;
+      suffix = front;
+      before = front;
       keys = λ p is. subst (λ (q : List Segment). KeysLeft source before after q c.new-keys.result.items left)
           (sym (are.only before p after is).1)
           (keys-begin source before after c.args.path.now.events.items c.new-keys.result.items left are refl c.as_slice.ensures.value
@@ -56,6 +66,9 @@ pub segments-preserved : goal.segments-preserved
 segments-preserved c =
     record {
       spans = let inside = rw c.in-Some.is at c.in_ok-key.ensures.rest in inside.0;
+      prefix = let inside = rw c.in-Some.is at c.in_ok-key.ensures.near in inside.0;
+      suffix = let inside = rw c.in-Some.is at c.in_ok-key.ensures.near in inside.1;
+      before = let inside = rw c.in-Some.is at c.in_ok-key.ensures.near in inside.2;
       keys = λ p is.
           let n = c.segments.invariant.keys p is in
           let first = c.in_ok-key.ensures.key n.own n.segments n.start n.ends n.stands n.read in

@@ -46,10 +46,10 @@ despan_items-despan_item-requires t c =
     ∙ sym c.index_mut.ensures.value in
     let first_within : at < length first = omega (arith, long, within) in
     let deep : size-Item x ≤ most item_depth first = rw (← here) (deepest_item first at x first_within) in (
-      omega (arith, c.requires.1.0, deep),
+      omega (arith, c.decreases, deep),
       (
-        subst (λ y. NodeFits s (item_view y)) here (item-fits s first at x first_within c.requires.1.1.0),
-        subst (λ y. ∥ IsWellMade (owned_node s (item_view y)) ∥₁) here (item-spelled s first at x first_within c.requires.1.1.1),
+        subst (λ y. NodeFits s (item_view y)) here (item-fits s first at x first_within c.requires.fits),
+        subst (λ y. ∥ IsWellMade (owned_node s (item_view y)) ∥₁) here (item-spelled s first at x first_within c.requires.spelled),
       ),
     )
 
@@ -91,7 +91,7 @@ despan_slots-despan_key-requires-clause-fits t c =
     let within : at < length es = omega (arith, long, c.len-at-end.ensures, c.loop-at-test.true) in
     let here : get_or first at no_slot ≡ e =
     sym (same (on_item item_view) (owned_slot s) es first at c.loop-at.invariant within no_slot) ∙ sym (slot-there es at no_slot e is) in
-    subst (λ y. KeyFits s y.key) here (slot-fits s first at no_slot (omega (arith, long, within)) c.requires.1.1.0).0
+    subst (λ y. KeyFits s y.key) here (slot-fits s first at no_slot (omega (arith, long, within)) c.requires.fits).0
 
 pub despan_slots-despan_key-requires-clause-spelled : goal.despan_slots-despan_key-requires-clause-spelled
 despan_slots-despan_key-requires-clause-spelled t c =
@@ -105,7 +105,7 @@ despan_slots-despan_key-requires-clause-spelled t c =
     let here : get_or first at no_slot ≡ e =
     sym (same (on_item item_view) (owned_slot s) es first at c.loop-at.invariant within no_slot) ∙ sym (slot-there es at no_slot e is) in
     subst (λ y. ∥ HasTrueSpelling (SpellsKey y.key.name) (option_map (owned_raw s) y.key.spelling) ∥₁) here
-    (key-spelled s first at no_slot (omega (arith, long, within)) c.requires.1.1.1)
+    (key-spelled s first at no_slot (omega (arith, long, within)) c.requires.spelled)
 
 pub despan_slots-despan_item-requires : goal.despan_slots-despan_item-requires
 despan_slots-despan_item-requires t c =
@@ -123,10 +123,10 @@ despan_slots-despan_item-requires t c =
     ap (λ y. y.item) (sym (same (on_item item_view) (owned_slot s) es first at c.loop-at.invariant within no_slot)) ∙ sym there in
     let first_within : at < length first = omega (arith, long, within) in
     let deep : size-Item x ≤ most slot_depth first = rw (← here) (deepest first at no_slot first_within) in (
-      omega (arith, c.requires.1.0, deep),
+      omega (arith, c.decreases, deep),
       (
-        subst (λ y. NodeFits s (item_view y)) here (slot-fits s first at no_slot first_within c.requires.1.1.0).1,
-        subst (λ y. ∥ IsWellMade (owned_node s (item_view y)) ∥₁) here (slot-spelled s first at no_slot first_within c.requires.1.1.1),
+        subst (λ y. NodeFits s (item_view y)) here (slot-fits s first at no_slot first_within c.requires.fits).1,
+        subst (λ y. ∥ IsWellMade (owned_node s (item_view y)) ∥₁) here (slot-spelled s first at no_slot first_within c.requires.spelled),
       ),
     )
 
@@ -175,28 +175,28 @@ despan_value-despan-requires-clause-spelled t c =
     let P : FormattedView (String Global) → Type 0 =
     λ f. ∥ HasTrueSpelling (SpellsInRange (string (string_bytes f.value))) (option_map (owned_raw s) f.repr) ∥₁ in
     subst P (sym c.in-String.scalar-is)
-    (spelled s c.args.value.now _ _ _ (ap value_view c.in-String.is ∙ view-String c.in-String.scalar) c.requires.1.1.1)
+    (spelled s c.args.value.now _ _ _ (ap value_view c.in-String.is ∙ view-String c.in-String.scalar) c.requires.spelled)
 
 pub despan_value-despan-requires-in-Integer-clause-spelled : goal.despan_value-despan-requires-in-Integer-clause-spelled
 despan_value-despan-requires-in-Integer-clause-spelled t c =
     let s = c.args.source.now in
     let P : FormattedView (ℤ) → Type 0 = λ f. ∥ HasTrueSpelling (SpellsInRange (integer f.value)) (option_map (owned_raw s) f.repr) ∥₁ in
     subst P (sym c.in-Integer.scalar-is)
-    (spelled s c.args.value.now _ _ _ (ap value_view c.in-Integer.is ∙ view-Integer c.in-Integer.scalar) c.requires.1.1.1)
+    (spelled s c.args.value.now _ _ _ (ap value_view c.in-Integer.is ∙ view-Integer c.in-Integer.scalar) c.requires.spelled)
 
 pub despan_value-despan-requires-in-Float-clause-spelled : goal.despan_value-despan-requires-in-Float-clause-spelled
 despan_value-despan-requires-in-Float-clause-spelled t c =
     let s = c.args.source.now in
     let P : FormattedView (Text) → Type 0 = λ f. ∥ HasTrueSpelling (SpellsInRange (float f.value)) (option_map (owned_raw s) f.repr) ∥₁ in
     subst P (sym c.in-Float.scalar-is)
-    (spelled s c.args.value.now _ _ _ (ap value_view c.in-Float.is ∙ view-Float c.in-Float.scalar) c.requires.1.1.1)
+    (spelled s c.args.value.now _ _ _ (ap value_view c.in-Float.is ∙ view-Float c.in-Float.scalar) c.requires.spelled)
 
 pub despan_value-despan-requires-in-Boolean-clause-spelled : goal.despan_value-despan-requires-in-Boolean-clause-spelled
 despan_value-despan-requires-in-Boolean-clause-spelled t c =
     let s = c.args.source.now in
     let P : FormattedView (Bool) → Type 0 = λ f. ∥ HasTrueSpelling (SpellsInRange (boolean f.value)) (option_map (owned_raw s) f.repr) ∥₁ in
     subst P (sym c.in-Boolean.scalar-is)
-    (spelled s c.args.value.now _ _ _ (ap value_view c.in-Boolean.is ∙ view-Boolean c.in-Boolean.scalar) c.requires.1.1.1)
+    (spelled s c.args.value.now _ _ _ (ap value_view c.in-Boolean.is ∙ view-Boolean c.in-Boolean.scalar) c.requires.spelled)
 
 pub despan_value-despan-requires-in-Datetime-clause-spelled : goal.despan_value-despan-requires-in-Datetime-clause-spelled
 despan_value-despan-requires-in-Datetime-clause-spelled t c =
@@ -204,7 +204,7 @@ despan_value-despan-requires-in-Datetime-clause-spelled t c =
     let P : FormattedView (code.Datetime) → Type 0 =
     λ f. ∥ HasTrueSpelling (SpellsInRange (datetime (datetime_view f.value))) (option_map (owned_raw s) f.repr) ∥₁ in
     subst P (sym c.in-Datetime.scalar-is)
-    (spelled s c.args.value.now _ _ _ (ap value_view c.in-Datetime.is ∙ view-Datetime c.in-Datetime.scalar) c.requires.1.1.1)
+    (spelled s c.args.value.now _ _ _ (ap value_view c.in-Datetime.is ∙ view-Datetime c.in-Datetime.scalar) c.requires.spelled)
 
 -- a scalar in owned form
 abbrev owned_scalar : {A : Type 0} → Text → FormattedView A → FormattedView A

@@ -3,13 +3,16 @@ use Rattle.std.proofs.Common.{◌≡◌, ◌<◌, List, length, drop, sym, ap, s
 use Rattle.std.proofs.lemmas.List.{take_rest}
 use Rattle.toml_edit_model.specs.Version.{v1_1}
 use Rattle.toml_edit_syntax.specs.declared.event.Event.{Event}
+use Rattle.toml_edit_syntax.specs.Events.{IsSpanOf}
 use Rattle.toml_edit_syntax.specs.ValueEvents.{shortened}
 use Rattle.toml_edit_repr.specs.Modes.{mode_of}
+use Rattle.toml_edit_parser.specs.Near.{IsNear}
 use Rattle.toml_edit_parser.specs.PairRead.{PathView}
 use Rattle.toml_edit_parser.specs.ValueRead.{AreIn}
 use Rattle.toml_edit_parser.proofs.PairLaws.{fewer, in_drop, in_take, path-too-long}
 use Rattle.toml_edit_parser.proofs.SplitLaws.{first_in}
-use Rattle.toml_edit_parser.proofs.StatementPartLaws.{header-first, header-path, header-read, header_end, key_at, no-header, no-path, third-in}
+use Rattle.toml_edit_parser.proofs.StatementPartLaws.{header-first, header-path, header-read, header_end, first-of-three, key_at, no-header, no-path, third-in}
+use Rattle.toml_edit_parser.proofs.NearLaws.{suffix-near}
 use Rattle.toml_edit_parser.proofs.document.parts.read_header.Goals as goal
 
 pub returns-in_default-clause-header : goal.returns-in_default-clause-header
@@ -56,9 +59,30 @@ returns-clause-header c =
 pub returns-clause-path : goal.returns-clause-path
 returns-clause-path c =
     let s = c.args.reader.now.source.now in
-    let inside = (first_in s c.args.events.now c.in-Some.opening c.in-Some.inside.now c.in-Some.ensures c.requires.spans).1 in
-    let path = in_take s c.in-Some-path_end.end_of_path c.in-Some.inside.now inside in
-    subst (AreIn s) (sym (ap (λ (v : PathView). v.events) c.path_behind.ensures ∙ c.split_at.ensures.front)) path
+    let inside = first_in s c.args.events.now c.in-Some.opening c.in-Some.inside.now c.in-Some.ensures c.requires.spans in
+    let path = in_take s c.in-Some-path_end.end_of_path c.in-Some.inside.now inside.1 in
+    let behind : AreIn s c.split_at.result.1.now =
+    subst (AreIn s) (sym c.split_at.ensures.back) (in_drop s c.in-Some-path_end.end_of_path c.in-Some.inside.now inside.1) in
+    let closing = first-of-three s c.split_at.result.1.now _ c.in-len3-up.len_at_least behind in
+    let opening = inside.0 in
+    let is = c.path_behind.ensures in
+    record {
+      prefix = subst (IsSpanOf s) (sym (ap (λ (v : PathView). v.prefix) is)) opening;
+      suffix = subst (IsSpanOf s) (sym (ap (λ (v : PathView). v.suffix) is)) closing;
+      before = subst (IsSpanOf s) (sym (ap (λ (v : PathView). v.before) is))
+          (record { start = opening.end; end = opening.end; order = omega arith });
+      events = subst (AreIn s) (sym (ap (λ (v : PathView). v.events) is ∙ c.split_at.ensures.front)) path;
+    }
+
+pub returns-clause-trailing : goal.returns-clause-trailing
+returns-clause-trailing c =
+    let s = c.args.reader.now.source.now in
+    let inside = first_in s c.args.events.now c.in-Some.opening c.in-Some.inside.now c.in-Some.ensures c.requires.spans in
+    let behind : AreIn s c.split_at.result.1.now =
+    subst (AreIn s) (sym c.split_at.ensures.back) (in_drop s c.in-Some-path_end.end_of_path c.in-Some.inside.now inside.1) in
+    subst IsNear (sym c.suffix.ensures)
+    (suffix-near (mode_of c.args.reader.now.mode) s _ c.args.reader.now.short
+    (third-in s c.split_at.result.1.now _ c.in-len3-up.len_at_least behind))
 
 pub returns-clause-rest : goal.returns-clause-rest
 returns-clause-rest c =

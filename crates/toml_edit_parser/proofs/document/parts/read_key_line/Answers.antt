@@ -6,6 +6,7 @@ use Rattle.toml_edit_model.specs.Mode.{with_return}
 use Rattle.toml_edit_model.specs.Syntax.{frame_text, value_text}
 use Rattle.toml_edit_model.specs.TreeOf.{spanned_form, frame_leaf}
 use Rattle.toml_edit_laws.proofs.common.StandingLaws.{stands-left}
+use Rattle.toml_edit_syntax.specs.Events.{IsSpanOf}
 use Rattle.toml_edit_syntax.specs.ValueEvents.{value_at_byte}
 use Rattle.toml_edit_repr.specs.Modes.{mode_of}
 use Rattle.toml_edit_parser.specs.PairRead.{FrameParts, PathView, parts_of}
@@ -61,16 +62,29 @@ returns-clause-line c =
     c.path_behind-path.result is.1 c.path_behind-path.ensures own (ap (λ (q : FrameParts). q.leading) parts.0)
     (ap (λ (q : FrameParts). q.path) parts.0))
 
-pub read_line_value-requires : goal.read_line_value-requires
-read_line_value-requires c =
+pub read_line_value-requires-clause-spans : goal.read_line_value-requires-clause-spans
+read_line_value-requires-clause-spans c =
     (frame-in c.args.reader.now.source.now c.args.leading c.args.events.now (parts_of c.in-Some.frame) c.in-Some.rest.now c.in-Some.ensures
     c.requires.spans).others
 
 pub returns-clause-path : goal.returns-clause-path
 returns-clause-path c =
-    subst (AreIn c.args.reader.now.source.now) (sym (ap (λ (v : PathView). v.events) c.path_behind-path.ensures))
-    (frame-in c.args.reader.now.source.now c.args.leading c.args.events.now (parts_of c.in-Some.frame) c.in-Some.rest.now
-    c.in-Some.ensures c.requires.spans).path
+    let t = c.args.reader.now.source.now in
+    let frame = frame-in t c.args.leading c.args.events.now (parts_of c.in-Some.frame) c.in-Some.rest.now c.in-Some.ensures c.requires.spans in
+    let leading : IsSpanOf t c.in-Some.frame.leading = subst (IsSpanOf t) (sym frame.front) c.requires.leading in
+    let is = c.path_behind-path.ensures in
+    record {
+      prefix = subst (IsSpanOf t) (sym (ap (λ (v : PathView). v.prefix) is)) leading;
+      suffix = subst (IsSpanOf t) (sym (ap (λ (v : PathView). v.suffix) is)) frame.before_equals;
+      before = subst (IsSpanOf t) (sym (ap (λ (v : PathView). v.before) is))
+          (record { start = leading.end; end = leading.end; order = omega arith });
+      events = subst (AreIn t) (sym (ap (λ (v : PathView). v.events) is)) frame.path;
+    }
+
+pub read_line_value-requires-clause-before : goal.read_line_value-requires-clause-before
+read_line_value-requires-clause-before c =
+    (frame-in c.args.reader.now.source.now c.args.leading c.args.events.now (parts_of c.in-Some.frame) c.in-Some.rest.now c.in-Some.ensures
+    c.requires.spans).after_equals
 
 pub returns-clause-rest : goal.returns-clause-rest
 returns-clause-rest c =

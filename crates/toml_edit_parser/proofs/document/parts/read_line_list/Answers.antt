@@ -11,12 +11,14 @@ use Rattle.toml_edit_tree.specs.Casts.{both_sides}
 use Rattle.toml_edit_tree.specs.View.{item_view}
 use Rattle.toml_edit_tree.specs.declared.item.Item.{Item}
 use Rattle.toml_edit_repr.specs.Modes.{mode_of}
+use Rattle.toml_edit_parser.specs.Near.{IsNear}
 use Rattle.toml_edit_parser.specs.StatementParts.{suffix_span}
 use Rattle.toml_edit_parser.specs.ValueRead.{IsRead, split_first}
 use Rattle.toml_edit_parser.proofs.ReadLaws.{same_parts}
 use Rattle.toml_edit_parser.proofs.SplitLaws.{first_in}
 use Rattle.toml_edit_parser.proofs.StatementPartLaws.{line-value}
 use Rattle.toml_edit_parser.proofs.ViewLaws.{view-Value}
+use Rattle.toml_edit_parser.proofs.NearLaws.{near, suffix-near}
 use Rattle.toml_edit_parser.proofs.document.parts.read_line_list.Goals as goal
 
 pub returns-in_err-value-clause-value : goal.returns-in_err-value-clause-value
@@ -53,3 +55,13 @@ returns-clause-rest c =
     let two = c.in_ok-value.ensures.rest.1 in
     let three = behind.2 in
     (behind.1, omega (arith, two, three))
+
+pub raw-requires : goal.raw-requires
+raw-requires c = near c.args.reader.now.source.now c.args.before c.args.reader.now.short c.requires.before
+
+pub raw-requires-2 : goal.raw-requires-2
+raw-requires-2 c =
+    let t = c.args.reader.now.source.now in
+    subst IsNear (sym c.suffix.ensures)
+    (suffix-near (mode_of c.args.reader.now.mode) t c.in-Some.end.span c.args.reader.now.short
+    (first_in t c.in_ok-value.rest.now c.in-Some.end c.in-Some.rest.now c.in-Some.ensures c.in_ok-value.ensures.rest.0).0)

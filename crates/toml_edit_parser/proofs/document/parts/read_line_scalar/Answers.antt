@@ -15,11 +15,13 @@ use Rattle.toml_edit_tree.specs.declared.item.Item.{Item}
 use Rattle.toml_edit_tree.specs.declared.value.Value.TheVariants as values
 use Rattle.toml_edit_syntax.specs.declared.event.Span.{Span}
 use Rattle.toml_edit_repr.specs.Modes.{mode_of}
+use Rattle.toml_edit_parser.specs.Near.{IsNear}
 use Rattle.toml_edit_parser.specs.StatementParts.{IsLineValue}
 use Rattle.toml_edit_parser.specs.ValueRead.{spanned_raw, split_first}
 use Rattle.toml_edit_parser.proofs.ScalarElements.{place_cut, scalar_put, scalar_refusal}
 use Rattle.toml_edit_parser.proofs.SplitLaws.{first_in}
 use Rattle.toml_edit_parser.proofs.ViewLaws.{view-Integer}
+use Rattle.toml_edit_parser.proofs.NearLaws.{near, suffix-near}
 use Rattle.toml_edit_parser.proofs.document.parts.read_line_scalar.Goals as goal
 
 pub returns-in_default-clause-value : goal.returns-in_default-clause-value
@@ -108,3 +110,13 @@ returns-in-None-clause-value c =
 
 pub returns-in-None-clause-refused : goal.returns-in-None-clause-refused
 returns-in-None-clause-refused c = c.refusal_with.ensures.refused v1_1 (inr c.range_message.ensures.listed)
+
+pub raw-requires : goal.raw-requires
+raw-requires c = near c.args.reader.now.source.now c.args.before c.args.reader.now.short c.requires.before
+
+pub raw-requires-2 : goal.raw-requires-2
+raw-requires-2 c =
+    let t = c.args.reader.now.source.now in
+    subst IsNear (sym c.suffix.ensures)
+    (suffix-near (mode_of c.args.reader.now.mode) t c.in-Some.end.span c.args.reader.now.short
+    (first_in t c.args.events.now c.in-Some.end c.in-Some.rest.now c.in-Some.ensures c.requires.spans).0)

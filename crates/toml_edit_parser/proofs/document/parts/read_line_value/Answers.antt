@@ -29,14 +29,14 @@ returns-in-Some-clause-value c =
 pub returns-in-Some-clause-rest : goal.returns-in-Some-clause-rest
 returns-in-Some-clause-rest c =
     let inside = scalar_in c.args.reader.now.source.now c.args.events.now c.in-Some.span c.in-Some.behind.now c.in-Some.ensures
-    c.requires in
+    c.requires.spans in
     shorter c.args.reader.now.source.now c.in-Some.behind.now c.args.events.now c.read_line_scalar.result inside.2
     c.read_line_scalar.ensures.rest
 
 pub read_line_scalar-requires-clause-span : goal.read_line_scalar-requires-clause-span
 read_line_scalar-requires-clause-span c =
-    (scalar_in c.args.reader.now.source.now c.args.events.now c.in-Some.span c.in-Some.behind.now c.in-Some.ensures c.requires).0
+    (scalar_in c.args.reader.now.source.now c.args.events.now c.in-Some.span c.in-Some.behind.now c.in-Some.ensures c.requires.spans).0
 
 pub read_line_scalar-requires-clause-spans : goal.read_line_scalar-requires-clause-spans
 read_line_scalar-requires-clause-spans c =
-    (scalar_in c.args.reader.now.source.now c.args.events.now c.in-Some.span c.in-Some.behind.now c.in-Some.ensures c.requires).1
+    (scalar_in c.args.reader.now.source.now c.args.events.now c.in-Some.span c.in-Some.behind.now c.in-Some.ensures c.requires.spans).1

@@ -1,5 +1,5 @@
 -- Each exit of the descent along a path.
-use Rattle.std.proofs.Common.{ℕ, ◌≡◌, ◌-◌, length, refl, ap, sym, ◌∙◌, arith, rules, Some, get_or, set, slice_get, vec_len, inr, None, string_bytes}
+use Rattle.std.proofs.Common.{ℕ, ◌≡◌, ◌-◌, length, refl, ap, sym, ◌∙◌, arith, rules, Some, get_or, set, slice_get, vec_len, inr, None}
 use Rattle.std.proofs.lemmas.Result.{err_from_is_err_and}
 use Rattle.toml_edit_model.specs.Version.{v1_1}
 use Rattle.toml_edit_model.specs.Faults.{duplicate_key}
@@ -18,13 +18,14 @@ use Rattle.toml_edit_parser.specs.PairRead.{key_with}
 use Rattle.toml_edit_parser.specs.TableRead.{addition_for}
 use Rattle.toml_edit_parser.specs.ValueRead.{spanned_raw}
 use Rattle.toml_edit_parser.proofs.EntryLaws.{some-key}
-use Rattle.toml_edit_parser.proofs.KeyPathLaws.{behind-dot-in}
+use Rattle.toml_edit_parser.proofs.DescentLaws.{dot_in}
 use Rattle.toml_edit_parser.proofs.ItemLaws.{last-at, last-set, no-items, tables-set, tables-is, value-node}
 use Rattle.toml_edit_parser.proofs.PathLaws.{below-put, empty-stops, header-in, header-stops, in-passed, in-slots, last-here, last-step, line-in}
 use Rattle.toml_edit_parser.proofs.PathLaws.{name-step, new-here, nothing-stops, passed-step, stopped, tables-in, tables-stop}
 use Rattle.toml_edit_parser.proofs.PathLaws.{there-here, value-stops}
 use Rattle.toml_edit_parser.proofs.SlotLaws.{node-none, node-some, pushed-item, pushed-length, pushed-with, with-place}
 use Rattle.toml_edit_parser.proofs.SplitLaws.{first_in}
+use Rattle.toml_edit_parser.proofs.NearLaws.{near}
 use Rattle.toml_edit_parser.proofs.document.path.+path.Goals as goal
 use Rattle.toml_edit_parser.proofs.document.path.+path.Goals.{add_in_table-then-is_line+else-not-is_implicit, add_in_table-else-is_line}
 use Rattle.toml_edit_parser.proofs.ViewLaws.{view-None, view-Value, view-Table}
@@ -45,7 +46,7 @@ add_path-returns-in_err-name-clause-added t c =
 pub add_path-put_last-requires : goal.add_path-put_last-requires
 add_path-put_last-requires t c =
     (first_in c.args.adding.now.reader.now.source.now c.args.path.events.now c.in-Some.first c.in-Some.rest.now c.in-Some.ensures
-    c.requires).0
+    c.requires.events).0
 
 pub add_path-returns-in-None-clause-added : goal.add_path-returns-in-None-clause-added
 add_path-returns-in-None-clause-added t c =
@@ -55,19 +56,19 @@ add_path-returns-in-None-clause-added t c =
     let k : PathKey = record { key = c.last_key.result; span = first.span; rest = None } in
     last-here mode source c.put_last.result s ms k (addition_for c.args.adding.now.kind (item_view c.args.item.now))
     (slots_view c.args.slots.now) _
-    (last-step mode source s ms c.args.path first c.in-Some.rest.now (string_bytes c.in_ok-name.name) c.last_key.result c.in-Some.ensures
+    (last-step mode source s ms c.args.path first c.in-Some.rest.now c.in_ok-name.name c.last_key.result c.in-Some.ensures
     c.in_ok-name.ensures.name c.in-None.ensures c.last_key.ensures.key at) refl
     (λ m is. c.put_last.ensures.put mode s m head is)
 
 pub add_path-add_below-requires : goal.add_path-add_below-requires
 add_path-add_below-requires t c =
     let source = c.args.adding.now.reader.now.source.now in
-    let first = first_in source c.args.path.events.now c.in-Some.first c.in-Some.rest.now c.in-Some.ensures c.requires in
-    let dot = behind-dot-in source c.args.path c.in-Some-split_dot.after c.in-Some-split_dot.inside c.in-Some.rest.now
-    c.in-Some-split_dot.ensures first.1 in
-    let new = sym (c.in-None-place_of.ensures.place ∙ ap (λ (x : Text). place x c.args.slots.now) (c.as_str.ensures.value
+    let first = first_in source c.args.path.events.now c.in-Some.first c.in-Some.rest.now c.in-Some.ensures c.requires.events in
+    let dot = dot_in source c.args.path c.in-Some-split_dot.after c.in-Some-split_dot.inside c.in-Some.rest.now
+    c.in-Some-split_dot.ensures first.1 c.requires.prefix c.requires.suffix in
+    let new = sym (c.in-None-place_of.ensures.place ∙ ap (λ (x : Text). place x c.args.slots.now) (c.as_str.ensures
     ∙ sym (ap (λ (k : Key). k.name) c.passed_key-key.ensures.key))) in
-    (omega (arith, c.decreases, first.2, dot.1), (new, dot.0))
+    (omega (arith, c.decreases, first.2, dot.2), (new, dot.1))
 
 pub add_path-returns-in-None-place_of-clause-added : goal.add_path-returns-in-None-place_of-clause-added
 add_path-returns-in-None-place_of-clause-added t c =
@@ -79,33 +80,33 @@ add_path-returns-in-None-place_of-clause-added t c =
     let es = c.args.slots.now in
     new-here mode source c.add_below.result s ms k inside
     (addition_for c.args.adding.now.kind (item_view c.args.item.now)) (slots_view es) _
-    (passed-step mode source s ms c.args.path first c.in-Some.rest.now (string_bytes c.in_ok-name.name) c.passed_key-key.result
+    (passed-step mode source s ms c.args.path first c.in-Some.rest.now c.in_ok-name.name c.passed_key-key.result
     c.in-Some-split_dot.after inside c.in-Some.ensures c.in_ok-name.ensures.name c.in-Some-split_dot.ensures c.passed_key-key.ensures.key
     at) refl
-    (node-none c.passed_key-key.result.name es (sym (c.in-None-place_of.ensures.place ∙ ap (λ (x : Text). place x es) (c.as_str.ensures.value
+    (node-none c.passed_key-key.result.name es (sym (c.in-None-place_of.ensures.place ∙ ap (λ (x : Text). place x es) (c.as_str.ensures
     ∙ sym (ap (λ (k : Key). k.name) c.passed_key-key.ensures.key)))))
     (λ q path. c.add_below.ensures.added mode s q head path)
 
 pub add_path-add_in_item-requires : goal.add_path-add_in_item-requires
 add_path-add_in_item-requires t c =
     let source = c.args.adding.now.reader.now.source.now in
-    let first = first_in source c.args.path.events.now c.in-Some.first c.in-Some.rest.now c.in-Some.ensures c.requires in
-    let dot = behind-dot-in source c.args.path c.in-Some-split_dot.after c.in-Some-split_dot.inside c.in-Some.rest.now
-    c.in-Some-split_dot.ensures first.1 in
-    (omega (arith, c.decreases, first.2, dot.1), (first.0, dot.0))
+    let first = first_in source c.args.path.events.now c.in-Some.first c.in-Some.rest.now c.in-Some.ensures c.requires.events in
+    let dot = dot_in source c.args.path c.in-Some-split_dot.after c.in-Some-split_dot.inside c.in-Some.rest.now
+    c.in-Some-split_dot.ensures first.1 c.requires.prefix c.requires.suffix in
+    (omega (arith, c.decreases, first.2, dot.2), (first.0, dot.1))
 
 pub add_path-returns-in-Some-place_of-clause-added : goal.add_path-returns-in-Some-place_of-clause-added
 add_path-returns-in-Some-place_of-clause-added t c =
     λ mode s ms head at.
     let source = c.args.adding.now.reader.now.source.now in
     let first = c.in-Some.first in
-    let name = string_bytes c.in_ok-name.name in
+    let name = c.in_ok-name.name in
     let after = c.in-Some-split_dot.after in
     let inside = c.in-Some-split_dot.inside in
     let key = key_with name first.span unset (spanned_raw c.args.path.before) (spanned_raw after) in
     let k : PathKey = record { key = key; span = first.span; rest = Some inside } in
     let es = c.args.slots.now in
-    let here = sym (c.in-Some-place_of.ensures.place ∙ ap (λ (x : Text). place x es) c.as_str.ensures.value) in
+    let here = sym (c.in-Some-place_of.ensures.place ∙ ap (λ (x : Text). place x es) c.as_str.ensures) in
     there-here mode source c.add_in_item.result s ms k inside
     (addition_for c.args.adding.now.kind (item_view c.args.item.now))
     (item_view c.item_mut.result.now) (item_view c.add_in_item.new.holder) (slots_view es) _
@@ -264,3 +265,38 @@ add_in_slots-returns-clause-added t c =
 
 pub add_in_item-returns-in-Value-clause-refused : goal.add_in_item-returns-in-Value-clause-refused
 add_in_item-returns-in-Value-clause-refused t c = c.refusal.ensures.refused v1_1 (inr c.extending.ensures.listed)
+
+-- ---- the spans of the keys
+
+pub add_path-last_key-requires-clause-span : goal.add_path-last_key-requires-clause-span
+add_path-last_key-requires-clause-span t c =
+    near c.args.adding.now.reader.now.source.now c.in-Some.first.span c.args.adding.now.reader.now.short
+    (first_in c.args.adding.now.reader.now.source.now c.args.path.events.now c.in-Some.first c.in-Some.rest.now c.in-Some.ensures c.requires.events).0
+
+pub add_path-last_key-requires-clause-prefix : goal.add_path-last_key-requires-clause-prefix
+add_path-last_key-requires-clause-prefix t c =
+    near c.args.adding.now.reader.now.source.now c.args.path.prefix c.args.adding.now.reader.now.short c.requires.prefix
+
+pub add_path-last_key-requires-clause-suffix : goal.add_path-last_key-requires-clause-suffix
+add_path-last_key-requires-clause-suffix t c =
+    near c.args.adding.now.reader.now.source.now c.args.path.suffix c.args.adding.now.reader.now.short c.requires.suffix
+
+pub add_path-last_key-requires-clause-before : goal.add_path-last_key-requires-clause-before
+add_path-last_key-requires-clause-before t c =
+    near c.args.adding.now.reader.now.source.now c.args.path.before c.args.adding.now.reader.now.short c.requires.before
+
+pub add_path-passed_key-key-requires-clause-span : goal.add_path-passed_key-key-requires-clause-span
+add_path-passed_key-key-requires-clause-span t c =
+    near c.args.adding.now.reader.now.source.now c.in-Some.first.span c.args.adding.now.reader.now.short
+    (first_in c.args.adding.now.reader.now.source.now c.args.path.events.now c.in-Some.first c.in-Some.rest.now c.in-Some.ensures c.requires.events).0
+
+pub add_path-passed_key-key-requires-clause-before : goal.add_path-passed_key-key-requires-clause-before
+add_path-passed_key-key-requires-clause-before t c =
+    near c.args.adding.now.reader.now.source.now c.args.path.before c.args.adding.now.reader.now.short c.requires.before
+
+pub add_path-passed_key-key-requires-clause-after : goal.add_path-passed_key-key-requires-clause-after
+add_path-passed_key-key-requires-clause-after t c =
+    near c.args.adding.now.reader.now.source.now c.in-Some-split_dot.after c.args.adding.now.reader.now.short
+    (dot_in c.args.adding.now.reader.now.source.now c.args.path c.in-Some-split_dot.after c.in-Some-split_dot.inside c.in-Some.rest.now
+    c.in-Some-split_dot.ensures (first_in c.args.adding.now.reader.now.source.now c.args.path.events.now c.in-Some.first c.in-Some.rest.now c.in-Some.ensures c.requires.events).1
+    c.requires.prefix c.requires.suffix).0

@@ -1,5 +1,5 @@
 -- A path of one event is one key; another goes the long way.
-use Rattle.std.proofs.Common.{◌∙◌, None, eqb-true, length, refl, string_bytes, sym}
+use Rattle.std.proofs.Common.{◌∙◌, None, eqb-true, length, refl, sym}
 use Rattle.std.proofs.lemmas.Result.{err_from_is_err_and}
 use Rattle.toml_edit_laws.specs.AddPath.{a_value}
 use Rattle.toml_edit_tree.specs.View.{item_view, slots_view}
@@ -7,6 +7,7 @@ use Rattle.toml_edit_parser.specs.declared.key.PathKey.{PathKey}
 use Rattle.toml_edit_parser.proofs.EntryLaws.{some-key}
 use Rattle.toml_edit_parser.proofs.PathLaws.{last-here, last-step, line-put, name-step, no-dot}
 use Rattle.toml_edit_parser.proofs.SplitLaws.{first_in}
+use Rattle.toml_edit_parser.proofs.NearLaws.{near}
 use Rattle.toml_edit_parser.proofs.document.path.add_value.Goals as goal
 use Rattle.toml_edit_parser.proofs.ReadLaws.{mapped}
 
@@ -26,7 +27,7 @@ pub add_last-requires : goal.add_last-requires
 add_last-requires c =
     record {
       span =
-          (first_in c.args.reader.now.source.now c.args.path.events.now c.in-Some.first c.in-Some.rest.now c.in-Some.ensures c.requires).0;
+          (first_in c.args.reader.now.source.now c.args.path.events.now c.in-Some.first c.in-Some.rest.now c.in-Some.ensures c.requires.events).0;
     }
 
 pub returns-clause-added : goal.returns-clause-added
@@ -39,10 +40,27 @@ returns-clause-added c =
     let rest = c.in-Some.rest.now in
     let k : PathKey = record { key = c.last_key.result; span = first.span; rest = None } in
     last-here mode t c.add_last.result s ms k (a_value n) ss _
-    (last-step mode t s ms c.args.path first rest (string_bytes c.in_ok-name.name) c.last_key.result c.in-Some.ensures
+    (last-step mode t s ms c.args.path first rest c.in_ok-name.name c.last_key.result c.in-Some.ensures
     c.in_ok-name.ensures.name (no-dot c.args.path rest
     (eqb-true (length rest) 0 (sym c.is_empty.ensures ∙ c.if-not-is_empty.false))) c.last_key.ensures.key at) refl
     (λ m is. line-put mode t c.add_last.result s m k.key k.span n ss _ is c.add_last.ensures.last)
 
 pub returns-then-not-is_empty-clause-added : goal.returns-then-not-is_empty-clause-added
 returns-then-not-is_empty-clause-added c = λ mode s ms at. c.add_path.ensures.added mode s ms tt at
+
+pub last_key-requires-clause-span : goal.last_key-requires-clause-span
+last_key-requires-clause-span c =
+    near c.args.reader.now.source.now c.in-Some.first.span c.args.reader.now.short
+    (first_in c.args.reader.now.source.now c.args.path.events.now c.in-Some.first c.in-Some.rest.now c.in-Some.ensures c.requires.events).0
+
+pub last_key-requires-clause-prefix : goal.last_key-requires-clause-prefix
+last_key-requires-clause-prefix c =
+    near c.args.reader.now.source.now c.args.path.prefix c.args.reader.now.short c.requires.prefix
+
+pub last_key-requires-clause-suffix : goal.last_key-requires-clause-suffix
+last_key-requires-clause-suffix c =
+    near c.args.reader.now.source.now c.args.path.suffix c.args.reader.now.short c.requires.suffix
+
+pub last_key-requires-clause-before : goal.last_key-requires-clause-before
+last_key-requires-clause-before c =
+    near c.args.reader.now.source.now c.args.path.before c.args.reader.now.short c.requires.before

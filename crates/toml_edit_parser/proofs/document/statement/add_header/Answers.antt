@@ -6,6 +6,7 @@ use Rattle.toml_edit_laws.specs.Building.{clash_at}
 use Rattle.toml_edit_laws.specs.TableClash.{table_way_faults}
 use Rattle.toml_edit_repr.specs.Modes.{mode_of}
 use Rattle.toml_edit_parser.proofs.StatementLaws.{header-is-added, later-named, own-named, parts-are}
+use Rattle.toml_edit_parser.proofs.NearLaws.{near}
 use Rattle.toml_edit_parser.proofs.document.statement.add_header.Goals as goal
 
 pub returns-in_err-header-clause-header : goal.returns-in_err-header-clause-header
@@ -38,3 +39,6 @@ returns-clause-header c =
     (c.in_ok-open_block.ensures.opens (mode_of c.args.reader.now.mode) b h end is stands held
     (parts-are (mode_of c.args.reader.now.mode) b h end more c.args.leading c.args.opening c.args.is_array c.in_ok-header.header
     c.in_ok-header.rest.now leading array opening read))
+
+pub open_block-requires-clause-leading : goal.open_block-requires-clause-leading
+open_block-requires-clause-leading c = near c.args.reader.now.source.now c.args.leading c.args.reader.now.short c.requires.leading

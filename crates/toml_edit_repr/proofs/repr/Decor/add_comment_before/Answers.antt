@@ -10,6 +10,6 @@ returns-clause-suits c =
     add-suits c.args.comment.now c.args.self.now c.set_prefix.new.self (Ok tt) (
       sym c.is_comment.ensures ∙ c.if-not-is_comment.false,
       prefix-set c.args.self.now c.set_prefix.new.self c.args.comment.now c.text_of_side.result.now (string_bytes c.in_ok-prefix.prefix)
-          c.from.result c.set_prefix.ensures c.from.ensures c.in_ok-prefix.ensures
+          c.in_ok-raw.raw c.set_prefix.ensures c.in_ok-raw.ensures.ok c.in_ok-prefix.ensures
           (c.text_of_side.ensures ∙ ap side_text c.prefix.ensures),
     )

@@ -11,12 +11,12 @@ returns-in_default-clause-ok c = prefix-left c.args.self.now (c.in_default.ensur
 
 pub returns-clause-ok : goal.returns-clause-ok
 returns-clause-ok c =
-    prefix-cut c.args.self.now c.set_prefix.new.self c.in-Some.text.now (string_bytes c.in_ok-prefix.prefix) c.from.result
-    c.set_prefix.ensures c.from.ensures c.in_ok-prefix.ensures (c.in-Some.ensures ∙ ap (option_and_then text_of) c.prefix.ensures)
+    prefix-cut c.args.self.now c.set_prefix.new.self c.in-Some.text.now (string_bytes c.in_ok-prefix.prefix) c.in_ok-raw.raw
+    c.set_prefix.ensures c.in_ok-raw.ensures.ok c.in_ok-prefix.ensures (c.in-Some.ensures ∙ ap (option_and_then text_of) c.prefix.ensures)
 
 pub returns-clause-suits : goal.returns-clause-suits
 returns-clause-suits c =
     let cut : c.set_prefix.new.self ≡ without_comments_before c.args.self.now =
-    prefix-cut c.args.self.now c.set_prefix.new.self c.in-Some.text.now (string_bytes c.in_ok-prefix.prefix) c.from.result
-    c.set_prefix.ensures c.from.ensures c.in_ok-prefix.ensures (c.in-Some.ensures ∙ ap (option_and_then text_of) c.prefix.ensures) in
+    prefix-cut c.args.self.now c.set_prefix.new.self c.in-Some.text.now (string_bytes c.in_ok-prefix.prefix) c.in_ok-raw.raw
+    c.set_prefix.ensures c.in_ok-raw.ensures.ok c.in_ok-prefix.ensures (c.in-Some.ensures ∙ ap (option_and_then text_of) c.prefix.ensures) in
     remove-suits c.args.self.now c.set_prefix.new.self cut

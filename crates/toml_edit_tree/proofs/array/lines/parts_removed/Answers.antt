@@ -25,7 +25,7 @@ returns-clause-left c =
     let left : string_bytes c.in_ok-left.left ≡ gap_left at f xs =
     c.in_ok-left.ensures ∙ (λ i. c.suffix_left.ensures i ++ (rest i ++ []))
     ∙ ap (λ t. front ++ t) (append-nil (left_of (gap at f xs) (gap (suc at) f xs) (is_last at xs))) in
-    c.from.ensures ∙ ap owned left
+    c.in_ok-from_string.ensures.ok ∙ ap owned left
 
 pub returns-clause-decor : goal.returns-clause-decor
 returns-clause-decor c =
