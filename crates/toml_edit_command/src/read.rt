@@ -33,7 +33,7 @@ pub fn read_document<I: Input>(
     ensures err_end { IfErr result (HasReadAll (I.remaining input.new)) }
 {
     let text = text_of(alloc, input)?;
-    match document_of(alloc, text.as_str(), options) {
+    match document_of(alloc, text, options) {
         Ok(document) => Ok(document),
         Err(ParseFault::Toml(error)) => match error.to_string(alloc) {
             Ok(excerpt) => Err(RunError::Refused(excerpt)),
@@ -57,7 +57,11 @@ fn text_of<I: Input>(alloc: Global, input: &mut I) -> Result<String, RunError>
 {
     match read_to_end(alloc, input) {
         Ok(bytes) => match String::from_utf8(bytes) {
-            Ok(text) => Ok(text),
+            Ok(mut text) => {
+                // The document keeps it, so it takes no more room than it needs.
+                text.shrink_to_fit();
+                Ok(text)
+            }
             Err(_) => Err(RunError::NotUtf8),
         },
         Err(ReadFault::Memory) => Err(RunError::Memory),
@@ -66,13 +70,17 @@ fn text_of<I: Input>(alloc: Global, input: &mut I) -> Result<String, RunError>
 }
 
 /// Parses the text by these options.
-fn document_of(alloc: Global, text: &str, options: ParseOptions) -> Result<DocumentMut, ParseFault>
+fn document_of(
+    alloc: Global,
+    text: String,
+    options: ParseOptions,
+) -> Result<DocumentMut, ParseFault>
     ensures ok { IfOk result
-        (λ m. IsHeldOf (mode_of options) (version_of options) text.now (held m)) }
+        (λ m. IsHeldOf (mode_of options) (version_of options) (string_bytes text) (held m)) }
     ensures mode { IfOk result (λ m. mode_owned m ≡ mode_of options) }
     ensures refused { IfErr result
-        (λ e. IfToml e (λ r. IsRefused (version_of options) text.now
-        × IsRefusalIn (version_of options) text.now r)) }
+        (λ e. IfToml e (λ r. IsRefused (version_of options) (string_bytes text)
+        × IsRefusalIn (version_of options) (string_bytes text) r)) }
 {
     let document = Document::parse_with(alloc, text, options)?;
     Ok(document.into_mut(alloc)?)
