@@ -76,7 +76,7 @@ no-mistake version text NoSuchElement m is why = why
 no-mistake version text Taken m is why = why
 no-mistake version text Comment m is why = why
 
--- a mistake in what is said of the tree
+-- a mistake about the tree
 in-tree : (a : Action) (h : Held) (stop : Stop) (m : CommandError) → mistake_of stop ≡ Some m → StopsMaking a h stop → InTree h.mode a h.tree m
 in-tree a h NoSuchPath m is why = let same : mistakes.NoSuchPath ≡ m = cc in subst (InTree h.mode a h.tree) same why
 in-tree a h WrongKind m is why = let same : mistakes.WrongKind ≡ m = cc in subst (InTree h.mode a h.tree) same why

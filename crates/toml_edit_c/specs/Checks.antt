@@ -38,7 +38,7 @@ pub record TellsRefusalIn (version : Version) (text : Text) (place : Place) (ans
   pub reason : IsRefusalIn version text report
   pub at : place ≡ place_of report
   pub needed : answer.needed ≡ length report.message
-  pub told : IsAtFront report.message old new ⊎ IsTooLong report.message old new
+  pub message : IsAtFront report.message old new ⊎ IsTooLong report.message old new
 
 -- ---- by the flags
 

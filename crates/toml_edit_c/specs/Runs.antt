@@ -16,7 +16,7 @@ abbrev pub filled : Text → OutputChange
 filled x = record { old = Some []; new = Some x; failed = false }
 
 -- The command ends with this status on this input, and these are its output and its errors. Words
--- that are none are not told of a refused input, but that they are mistaken.
+-- that are none are mistaken, whatever the input is.
 abbrev pub Ends : Request → Text → ℕ → Text → Text → Type 0
 Ends q input status out err =
     ((status ≡ 0) × Does q (Some input) (filled out) × (err ≡ []))

@@ -91,10 +91,10 @@ fn check_text(
         }
         Err(ParseFault::Toml(error)) => {
             *place = place_in(&error);
-            let told = put(error.message().as_bytes(), room);
+            let message = put(error.message().as_bytes(), room);
             Answer {
                 status: Stop::Refused.status(),
-                needed: told.needed,
+                needed: message.needed,
             }
         }
         Err(ParseFault::Memory) => silent(Stop::Memory.status()),

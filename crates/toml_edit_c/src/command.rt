@@ -74,7 +74,7 @@ fn ended_by(alloc: Global, words: &[String], input: &[u8]) -> Option<Ended>
             output,
             errors: String::new(alloc),
         }),
-        Err(miss) => told(alloc, options, words, input, miss),
+        Err(miss) => without_output(alloc, options, words, input, miss),
     }
 }
 
@@ -179,7 +179,7 @@ fn form_with_value<'a>(name: &str, path: &'a str, value: &'a str) -> Option<Form
 }
 
 /// Returns how a command without an output ends, or `None` if out of memory.
-fn told(
+fn without_output(
     alloc: Global,
     options: ParseOptions,
     words: &[String],

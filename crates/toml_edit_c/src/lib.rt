@@ -1,8 +1,8 @@
 //! Short calls on TOML texts for programs in C and in languages that call C.
 //!
-//! Each call reads a whole text and gives a text back. The caller lends the room for it, and is
-//! told how many bytes it has: if they do not fit, nothing is written and the call can be made
-//! again with more room. No call keeps anything, so any thread may make it.
+//! Each call reads a whole text and gives a text back. The caller lends the room for it, and learns
+//! how many bytes it has: if they do not fit, nothing is written and the call can be made again
+//! with more room. No call keeps anything, so any thread may make it.
 //!
 //! The header `bindings/c/toml_edit.h` says how C declares these functions. A slice is a pointer
 //! and a length there, and an allocator is nothing.

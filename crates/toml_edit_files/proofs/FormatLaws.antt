@@ -23,7 +23,7 @@ use Rattle.toml_edit_script.specs.declared.fault.EditFault.TheVariants.{Memory, 
 use Rattle.toml_edit_files.proofs.EditLaws.{left}
 use Rattle.toml_edit_files.specs.Edited.{IsLeft, IsRead, IsWritten, mark_of, mode_by}
 use Rattle.toml_edit_files.specs.Folders.{OnlyLooks}
-use Rattle.toml_edit_files.specs.FormatFiles.{ArePlanned, ArePut, ArePutBefore, IsFormatted, IsFormattedOnly, IsPlanned, IsPut, StopsFormatting, passing_over, formatted_by, rules_by, sorted_by, told}
+use Rattle.toml_edit_files.specs.FormatFiles.{ArePlanned, ArePut, ArePutBefore, IsFormatted, IsFormattedOnly, IsPlanned, IsPut, StopsFormatting, passing_over, formatted_by, rules_by, sorted_by, output_for}
 use Rattle.toml_edit_files.specs.Stops.{IsFor}
 use Rattle.toml_edit_files.specs.declared.fmt.Plan.{Plan}
 use Rattle.toml_edit_files.specs.declared.stop.Reason.{Reason}
@@ -116,10 +116,10 @@ pub opened : {A : Type 0} (xs : List A) (i : ℕ) (x : A) → i < length xs → 
 opened xs i x below is = drop_more xs i x below ∙ ap (λ y. y ∷ drop (i + 1) xs) (sym is)
 
 module _ (check : Bool) (ps : List Plan) (i : ℕ) (p : Plan) (below : i < length ps) (is : p ≡ get_or ps i p) where
-  pub told_turn : (done all : Text) → done ++ flat_map (told check) (drop i ps) ≡ all
-      → (done ++ told check p) ++ flat_map (told check) (drop (i + 1) ps) ≡ all
-  told_turn done all so =
-      append_assoc done _ _ ∙ ap (λ (t : Text). done ++ t) (sym (ap (flat_map (told check)) (opened ps i p below is))) ∙ so
+  pub output_turn : (done all : Text) → done ++ flat_map (output_for check) (drop i ps) ≡ all
+      → (done ++ output_for check p) ++ flat_map (output_for check) (drop (i + 1) ps) ≡ all
+  output_turn done all so =
+      append_assoc done _ _ ∙ ap (λ (t : Text). done ++ t) (sym (ap (flat_map (output_for check)) (opened ps i p below is))) ∙ so
 
 module _ (reading : Reading) (style : Style) (fs : List (Bor Text)) (i : ℕ) (d : Bor Text) (p : Plan) (done : List Plan)
     (start before after : Option (List Event)) (below : i < length fs) where

@@ -123,7 +123,7 @@ ArePutBefore (p ∷ ps) old new =
     IsNotPut p old new
     ⊎ ((put : Option (List Event)) × IsPut p old put × ArePutBefore ps put new)
 
--- ---- what is said of files
+-- ---- the output
 
 -- one that is not refused, and under `--check` does not change
 abbrev pub is_fine : Bool → Plan → Bool
@@ -133,12 +133,12 @@ is_fine check (Formatted file before text) =
 
 -- why it is refused, under `--check` the name of one that would change, and else the text of standard
 -- input
-abbrev pub told : Bool → Plan → Text
-told check (Refused line) = string_bytes line
-told true (Formatted file before text) =
+abbrev pub output_for : Bool → Plan → Text
+output_for check (Refused line) = string_bytes line
+output_for true (Formatted file before text) =
     if bytes_eq (string_bytes before) (string_bytes text) then []
     else file.now ++ codes ": not formatted\n"
-told false (Formatted file before text) = if is_stream file.now then string_bytes text else []
+output_for false (Formatted file before text) = if is_stream file.now then string_bytes text else []
 
 -- ---- the command
 
@@ -150,7 +150,7 @@ pub record FormatsFiles (reading : Reading) (c : Fmt) (old new : Option (List Ev
   pub planned : ArePlanned reading c.style (map (λ f. f.now) c.files.items) plans old read
   pub puts : MatchBool c.check (new ≡ read) (ArePut plans read new)
   pub answer : is_yes ≡ list_all (is_fine c.check) plans
-  pub says : output ≡ flat_map (told c.check) plans
+  pub says : output ≡ flat_map (output_for c.check) plans
 
 -- Nothing is written where the words are mistaken or what is read is refused. Where memory ran out or
 -- a call failed, the files before one may be replaced.

@@ -4,7 +4,7 @@ ghost use Rattle.std.specs.List.{list_all};
 ghost use Rattle.toml_edit.specs.DocumentView.{IsPrintedAs, mode_owned, open_owned, tree_owned};
 ghost use Rattle.toml_edit_files.specs.Edited.{IsRead, mode_by};
 ghost use Rattle.toml_edit_files.specs.Folders.{OnlyLooks, is_stream};
-ghost use Rattle.toml_edit_files.specs.FormatFiles.{ArePlanned, ArePut, ArePutBefore, FormatsFiles, IsFormatted, IsNotPut, IsPlanFor, IsPlanned, IsPut, StopsFormatting, is_fine, passing_over, rules_by, sorted_by, told};
+ghost use Rattle.toml_edit_files.specs.FormatFiles.{ArePlanned, ArePut, ArePutBefore, FormatsFiles, IsFormatted, IsNotPut, IsPlanFor, IsPlanned, IsPut, StopsFormatting, is_fine, passing_over, rules_by, sorted_by, output_for};
 ghost use Rattle.toml_edit_files.specs.Stops.{IsFor, reason_of};
 ghost use Rattle.toml_edit_files.specs.declared.stop.Reason.TheVariants.{Failed, Refused};
 ghost use Rattle.toml_edit_script.specs.Lists.{effect};
@@ -254,7 +254,7 @@ fn is_fine(check: bool, plan: &Plan<'_>) -> bool
 
 /// Returns what goes to standard output.
 fn output_of(alloc: Global, check: bool, plans: &[Plan<'_>]) -> Mem<String>
-    ensures { IfOk result (λ s. string_bytes s ≡ flat_map (told check) plans.now) }
+    ensures { IfOk result (λ s. string_bytes s ≡ flat_map (output_for check) plans.now) }
 {
     let mut output = String::new(alloc);
     'plans: for plan in plans {
@@ -266,7 +266,7 @@ fn output_of(alloc: Global, check: bool, plans: &[Plan<'_>]) -> Mem<String>
 /// Appends what goes to standard output of a file.
 fn tell(output: &mut String, check: bool, plan: &Plan<'_>) -> Mem<()>
     ensures { OnOk result (string_bytes output.new
-        ≡ string_bytes output.old ++ told check plan.now) }
+        ≡ string_bytes output.old ++ output_for check plan.now) }
 {
     match plan {
         Plan::Refused(line) => output.push_str(line.as_str())?,

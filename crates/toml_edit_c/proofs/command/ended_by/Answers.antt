@@ -15,5 +15,5 @@ returns-in-Ok c =
 
 pub returns-in-Err : goal.returns-in-Err
 returns-in-Err c =
-    subst (λ q. IfSome c.told.result (λ e. (e.status ≤ 2) × Ends q c.args.input.now e.status (string_bytes e.output) (string_bytes e.errors)))
-    c.options_of.ensures c.told.ensures
+    subst (λ q. IfSome c.without_output.result (λ e. (e.status ≤ 2) × Ends q c.args.input.now e.status (string_bytes e.output) (string_bytes e.errors)))
+    c.options_of.ensures c.without_output.ensures

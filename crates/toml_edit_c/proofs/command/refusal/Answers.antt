@@ -1,4 +1,4 @@
--- The excerpt of the fault is told.
+-- The answer has the excerpt of the fault.
 use Rattle.std.proofs.Common.{string_bytes, subst}
 use Rattle.toml_edit_command.specs.Run.{IsExcerptOf, IsRefused, TellsRefusal}
 use Rattle.toml_edit_command.specs.Words.{Request}

@@ -6,7 +6,7 @@ use Rattle.toml_edit_replace.specs.Events.{Text}
 use Rattle.toml_edit_script.specs.declared.edit.Edit.{Edit}
 use Rattle.toml_edit_files.proofs.FormatLaws.{formats_looking, formats_putting}
 use Rattle.toml_edit_files.proofs.StopLaws.{passed}
-use Rattle.toml_edit_files.specs.FormatFiles.{ArePlanned, ArePut, StopsFormatting, is_fine, told}
+use Rattle.toml_edit_files.specs.FormatFiles.{ArePlanned, ArePut, StopsFormatting, is_fine, output_for}
 use Rattle.toml_edit_files.specs.Stops.{reason_of}
 use Rattle.toml_edit_files.specs.declared.fmt.Plan.{Plan}
 use Rattle.toml_edit_files.specs.declared.stop.Stop.TheVariants.{Memory}
@@ -47,5 +47,5 @@ returns-clause-formats g c =
           c.in_ok-plans.ensures.planned;
       puts = subst (λ (ps : List Plan). MatchBool command.check (new ≡ read) (ArePut ps read new)) same c.in_ok-put_all.ensures.puts;
       answer = c.are_fine-yes.ensures ∙ ap (list_all (is_fine command.check)) same;
-      says = c.in_ok-output.ensures ∙ ap (flat_map (told command.check)) same;
+      says = c.in_ok-output.ensures ∙ ap (flat_map (output_for command.check)) same;
     }

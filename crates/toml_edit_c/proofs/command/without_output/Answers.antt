@@ -10,7 +10,7 @@ use Rattle.toml_edit_c.specs.Runs.{Ends, filled}
 use Rattle.toml_edit_c.specs.declared.command.Miss.TheVariants.{Call}
 use Rattle.toml_edit_c.specs.declared.stop.Stop.TheVariants.{Refused, NotUtf8}
 use Rattle.toml_edit_c.proofs.Ending.{mistaken-by, right-words, some-weaker, tells}
-use Rattle.toml_edit_c.proofs.command.told.Goals as goal
+use Rattle.toml_edit_c.proofs.command.without_output.Goals as goal
 
 pub returns-in-Refused : goal.returns-in-Refused
 returns-in-Refused c =
