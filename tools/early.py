@@ -60,6 +60,7 @@ def place(rt, crates, wanted):
         if crate.name not in wanted or crate.is_program or crate.is_static or any(below.name not in had for below in crate.below()):
             continue
         if is_placed(crate):
+            kept.is_built(crate)
             had.add(crate.name)
             continue
         key = kept.key(crate)
