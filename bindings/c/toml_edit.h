@@ -17,8 +17,8 @@
  *
  * A call takes some 20 KB of stack for most documents, and up to 300 KB for one at the limits, which
  * are 80 keys in a path and 80 brackets in one another. A document or a value of both, as 80 inline
- * tables in one another, each behind a path of 80 keys, has some 13 KB and takes 7.5 MB; where it is
- * copied, as `toml_edit_edit` copies values and `toml_edit_get` arrays of tables, it takes 31 MB.
+ * tables in one another, each behind a path of 80 keys, has some 13 KB and takes 9 MB; where it is
+ * copied, as `toml_edit_edit` copies values and `toml_edit_get` arrays of tables, it takes 23 MB.
  * Lend 32 MB to a thread that reads texts of others.
  *
  * A call may not be made from a signal handler, or from the child of a fork of a process with
