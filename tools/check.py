@@ -5,7 +5,7 @@
     tools/check.py --numbers    prints the numbers that pages may give
 
 - docs/api is as tools/api.py makes it.
-- Each function of a ```rust block in README, GUIDE, PROVING and MIGRATING is in a crate to the letter, and its imports are in that file.
+- Each function of a ```rust block in README, GUIDE, PROVING and MIGRATING is in a crate to the letter, and its imports are those of that file, group by group.
   A function that is shown without a contract is compared without one. So is each ```agda block, with the definitions and proofs.
 - Each example of a doc comment is in the function that the comment names.
 - Links, their anchors, paths in backticks, and pages that sources name lead somewhere.
@@ -125,13 +125,13 @@ class Check:
         return equal
 
     def imports(self, file, item):
-        """Whether a file, or the root of its crate, has an import."""
+        """Whether a file, or the root of its crate, has an import, with all names of its group."""
         root = "/".join(file.split("/")[:3]) + "/lib.rt"
         modules = [module for module in self.library.modules() if module.file in (file, root)]
         if item.kind == "ghost":
             return any(item.lines == other.lines for module in modules for other in module.items)
-        wanted = {(path, alias) for alias, (path, _, _) in sources.uses_of([item]).items()}
-        return any(wanted <= {(path, alias) for alias, (path, _, _) in module.uses.items()} for module in modules)
+        wanted = sources.uses_of([item]).items()
+        return any(wanted == sources.uses_of([other]).items() for module in modules for other in module.items if other.kind == "use")
 
     def examples(self):
         """Each example of a doc comment is in its function."""

@@ -155,6 +155,11 @@ def stale_function(copy):
     copy.replace(["docs/GUIDE.md", "README.md"], shown, r"\1    stale();\n")
 
 
+def dropped_import(copy):
+    """A block of the guide drops the trait that its call needs."""
+    copy.replace(["docs/GUIDE.md", "README.md"], r"(use toml_edit::\{.*), ParsePath", r"\1")
+
+
 def dead_edit(copy):
     """A must-fail edit has a text that its file lost."""
     copy.replace(copy.names("crates/toml_edit_key/must-fail/*.edit"), r"old: ", "old: lost ")
@@ -199,6 +204,7 @@ FAULTS = {
     long_sentence: "a sentence of",
     unlisted_duplicate: "share code",
     stale_function: "differs from that of",
+    dropped_import: "is not in crates/",
     dead_edit: "its text 1 is in",
     edit_of_two: "make it two edits",
     edit_of_a_constant: "changes no function",
