@@ -1,5 +1,5 @@
 //! The commands `set` and `remove`.
-ghost use Rattle.std.specs.Prelude.{◌≡◌, false, map, IfErr, OnOk};
+ghost use Rattle.std.specs.Prelude.{◌≡◌, false, IfErr, OnOk};
 ghost use Rattle.toml_edit.specs.DocumentView.{IsPrintedAs, tree_owned};
 ghost use Rattle.toml_edit_paths.specs.Changes.{Changes};
 ghost use Rattle.toml_edit_tree.specs.View.{value_view};
@@ -8,13 +8,14 @@ ghost use Rattle.toml_edit_command.specs.Run.{written};
 ghost use Rattle.toml_edit_command.specs.Steps.{Printed, StopsActing, StopsPrinting, Wrote, error_for};
 ghost use Rattle.toml_edit_command.specs.Words.{removing, setting};
 ghost use Rattle.toml_edit_command.specs.Written.{held};
-ghost use Rattle.toml_edit_model.specs.Keys.{names, new_key};
+ghost use Rattle.toml_edit_model.specs.Keys.{names};
 
 use crate::act::print;
 use crate::error::{CommandError, RunError};
 use std::alloc::Global;
 use toml_edit::{ChangeFault, DocumentMut, Key, Value};
 use toml_edit_io::Output;
+use toml_edit_paths::reset_keys;
 
 /// Puts the value at the path, and writes the document. A missing key gets its default spelling, as
 /// PATH may be spelled as TOML 1.0 does not allow.
@@ -49,16 +50,6 @@ fn put(document: &mut DocumentMut, path: &mut [Key], value: Value) -> Result<(),
 {
     reset_keys(path);
     document.set_at(path, value)
-}
-
-/// Resets the spelling and the decors of each key.
-fn reset_keys(keys: &mut [Key])
-    ensures { keys.new ≡ map new_key (names keys.old) }
-{
-    if let Some((first, rest)) = keys.split_first_mut() {
-        first.fmt();
-        reset_keys(rest);
-    }
 }
 
 /// Removes the item at the path, and writes the document.

@@ -1,5 +1,6 @@
-//! Renaming and moving the last key of a path.
-ghost use Rattle.toml_edit_model.specs.Keys.{names};
+//! Renaming and moving the last key of a path, and the spelling of its keys.
+ghost use Rattle.std.specs.Prelude.{◌≡◌, map};
+ghost use Rattle.toml_edit_model.specs.Keys.{names, new_key};
 ghost use Rattle.toml_edit_edit_laws.specs.KeyCalls.{key_changed, moved_where, renamed_where, slots_changed};
 ghost use Rattle.toml_edit_tree.specs.Containers.{table_node};
 ghost use Rattle.toml_edit_tree.specs.Indexed.{shown_slots};
@@ -120,5 +121,18 @@ fn move_in_slots(slots: &mut Slots<Item>, key: &Key, at: usize) -> bool
     match filled_item(slots, key.get()) {
         Some(_) => slots.move_to(key.get(), at.min(last)),
         None => false,
+    }
+}
+
+/// Resets the spelling and the decors of each key.
+///
+/// The keys that [`set`](crate::set) adds are spelled as those of its path, and a path may be
+/// spelled as TOML 1.0 does not allow.
+pub fn reset_keys(path: &mut [Key])
+    ensures { path.new ≡ map new_key (names path.old) }
+{
+    if let Some((first, rest)) = path.split_first_mut() {
+        first.fmt();
+        reset_keys(rest);
     }
 }

@@ -1,5 +1,5 @@
 //! Finding an item by a path of keys, putting a value there, changing it, and removing it. Renaming
-//! and moving the last key of a path.
+//! and moving the last key of a path, and resetting the spelling of its keys.
 #![tactic(auto)]
 
 mod alter;
@@ -16,7 +16,7 @@ pub use alter::change;
 pub use element::number_of;
 pub use fault::ChangeFault;
 pub use find::get;
-pub use keys::{move_to, rename};
+pub use keys::{move_to, rename, reset_keys};
 pub use put::{set, set_with_headers};
 pub use take::remove;
 pub use take_line::remove_line;
