@@ -23,9 +23,11 @@ pub struct Rules {
     pub equals: bool,
     /// No white space at dots and inside the brackets of headers.
     pub dots: bool,
-    /// So many spaces before the `#` of a comment that is after something on its line.
+    /// So many spaces before the `#` of a comment that is after something on its line. In arrays it
+    /// needs `arrays` too, and in inline tables `inline_tables`.
     pub before_comment: Option<usize>,
-    /// At most one empty line in a row, one before a header, and none at the ends of the text.
+    /// At most one empty line in a row, one before a header, and none at the ends of the text. In
+    /// arrays and inline tables it needs their rules too.
     pub empty_lines: bool,
     /// How far lines and headers are indented.
     pub indentation: Indentation,

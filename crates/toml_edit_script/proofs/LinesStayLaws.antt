@@ -75,8 +75,8 @@ module _ (f : ArrayFields) (xs : List Node) where
 raw-is : (r : Raw) (t : Text) → Some r ≡ Some (owned t) → r ≡ owned t
 raw-is r t h = cc
 
-left-cut : (g h : Text) (b : Bool) → is_broken g ≡ true → is_broken h ≡ true → left_of g h b ≡ cut g h
-left-cut g h b x y = rw (x, y) refl
+left-cut : (g h : Text) (a b : Bool) → is_broken g ≡ true → is_broken h ≡ true → left_of g h a b ≡ cut g h
+left-cut g h a b x y = rw (x, y) refl
 
 kept-fields : (ys : List Node) (f : ArrayFields) → is_empty ys ≡ false → comma_kept ys f ≡ f
 kept-fields [] f h = absurd cc
@@ -174,9 +174,9 @@ module _ (mode : Mode) where
       let b = gap-within f xs (suc i) next after in
       let r = owned (cut a.text b.text) in
       let left : gap_left i f xs ≡ cut a.text b.text =
-      ap (λ l. (if l then last_suffix f (removed_at i xs) else []) ++ left_of (gap i f xs) (gap (suc i) f xs) l) (ap not next)
-      ∙ ap (λ t. left_of t (gap (suc i) f xs) false) a.same ∙ ap (λ t. left_of a.text t false) b.same
-      ∙ left-cut a.text b.text false a.broken b.broken in
+      ap (λ l. (if l then last_suffix f (removed_at i xs) else []) ++ left_of (gap i f xs) (gap (suc i) f xs) (i == 0) l) (ap not next)
+      ∙ ap (λ t. left_of t (gap (suc i) f xs) (i == 0) false) a.same ∙ ap (λ t. left_of a.text t (i == 0) false) b.same
+      ∙ left-cut a.text b.text (i == 0) false a.broken b.broken in
       let shorter = length-remove xs i (omega (arith, inside)) in
       let there = is-below i (length (removed_at i xs)) (omega (arith, inside, shorter)) in
       let ys = changed_at i (with_prefix r) (removed_at i xs) in
@@ -205,10 +205,10 @@ module _ (mode : Mode) where
       let r = owned (cut a.text b.text) in
       let less-one = removed_at i xs in
       let left : gap_left i f xs ≡ cut a.text b.text =
-      ap (λ l. (if l then last_suffix f less-one else []) ++ left_of (gap i f xs) (gap (suc i) f xs) l) (ap not past)
-      ∙ ap (λ t. t ++ left_of (gap i f xs) (gap (suc i) f xs) true) (no-suffix f xs less-one comma)
-      ∙ ap (λ t. left_of t (gap (suc i) f xs) true) a.same ∙ ap (λ t. left_of a.text t true) b.same
-      ∙ left-cut a.text b.text true a.broken b.broken in
+      ap (λ l. (if l then last_suffix f less-one else []) ++ left_of (gap i f xs) (gap (suc i) f xs) (i == 0) l) (ap not past)
+      ∙ ap (λ t. t ++ left_of (gap i f xs) (gap (suc i) f xs) (i == 0) true) (no-suffix f xs less-one comma)
+      ∙ ap (λ t. left_of t (gap (suc i) f xs) (i == 0) true) a.same ∙ ap (λ t. left_of a.text t (i == 0) true) b.same
+      ∙ left-cut a.text b.text (i == 0) true a.broken b.broken in
       let shorter = length-remove xs i (omega (arith, last)) in
       let there = at-most-not i (length less-one) (omega (arith, last, shorter)) in
       let closed : is_closed f less-one ≡ true = ap (λ c. c || is_none (value_at (length less-one - 1) less-one)) comma in

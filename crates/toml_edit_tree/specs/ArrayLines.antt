@@ -203,21 +203,32 @@ fields_inserted i v f xs =
 
 -- ---- removal
 
+-- no other value is on the line of the value between these gaps
+abbrev pub is_alone : Text → Text → Bool → Bool
+is_alone before after is_first = is_broken after && (is_broken before || is_first)
+
+-- what such a value has before it: the rest of the line before, and then its own
+abbrev pub line_before : Text → Text
+line_before before = if is_broken before then first_line before else []
+
+abbrev pub lines_before : Text → Text
+lines_before before = if is_broken before then after_first_line before else before
+
 -- what is left of the gaps before and after a removed value. The comment that ends the line before
 -- the value stays.
-abbrev pub left_of : Text → Text → Bool → Text
-left_of before after is_last =
-    if is_broken before && is_broken after then first_line before ++ after_first_line after
+abbrev pub left_of : Text → Text → Bool → Bool → Text
+left_of before after is_first is_last =
+    if is_alone before after is_first then line_before before ++ after_first_line after
     else if is_broken after || is_last then commented_line before ++ after
     else before
 
 -- The decor that the value takes with it, if it is alone on its line: the lines before it, and what
 -- is after it on its line, on both sides of the comma.
-abbrev pub decor_taken : Text → Text → Text → Option Decor
-decor_taken before suffix after =
-    if is_broken before && is_broken after then
+abbrev pub decor_taken : Text → Text → Text → Bool → Option Decor
+decor_taken before suffix after is_first =
+    if is_alone before after is_first then
     Some (record {
-      prefix = Some (owned (after_first_line before));
+      prefix = Some (owned (lines_before before));
       suffix = Some (owned (suffix ++ first_line after));
     })
     else None
@@ -235,7 +246,7 @@ before_comma i f xs = if f.comma || not (is_last i xs) then side_text (suffix_at
 abbrev pub gap_left : ℕ → ArrayFields → List Node → Text
 gap_left i f xs =
     (if is_last i xs then last_suffix f (removed_at i xs) else [])
-    ++ left_of (gap i f xs) (gap (suc i) f xs) (is_last i xs)
+    ++ left_of (gap i f xs) (gap (suc i) f xs) (i == 0) (is_last i xs)
 
 -- the value, with the decor that it takes or else its own
 abbrev pub redecorated : Option Decor → Node → Node
@@ -244,7 +255,7 @@ redecorated (Some d) n = with_decor d n
 
 abbrev pub line_taken : ℕ → ArrayFields → List Node → Node → Node
 line_taken i f xs n =
-    redecorated (decor_taken (gap i f xs) (before_comma i f xs) (gap (suc i) f xs)) n
+    redecorated (decor_taken (gap i f xs) (before_comma i f xs) (gap (suc i) f xs) (i == 0)) n
 
 abbrev pub line_removed : ℕ → ArrayFields → List Node → List Node
 line_removed i f xs = with_gap i (owned (gap_left i f xs)) f (removed_at i xs)

@@ -195,10 +195,11 @@ impl DocumentMut {
     }
 
     /// Removes the item at `path`, as [`remove_at`](Self::remove_at) does, but an element of an array
-    /// as [`Array::remove_line`] does: with its line, if it is alone there.
+    /// as [`Array::remove_line`] does: with its line, if it is alone there, or alone beside the
+    /// opening bracket.
     ///
-    /// The comments above the element and on its line go with it, and those of the elements before
-    /// and after it stay. Takes memory for an element of an array only.
+    /// The comments above the element and on its line then go with it, and those of the elements
+    /// before and after it stay. Takes memory for an element of an array only.
     ///
     /// # Errors
     ///

@@ -1,11 +1,11 @@
 -- Worked lines of arrays: what is around a value that is put in, and what one that is taken leaves.
-use Rattle.std.specs.Prelude.{◌≡◌, refl, ℕ, true, List, [], ◌∷◌, codes, None, Some}
+use Rattle.std.specs.Prelude.{◌≡◌, refl, ℕ, true, false, List, [], ◌∷◌, codes, None, Some}
 use Rattle.toml_edit_model.specs.Conversions.{new_array, with_decor}
 use Rattle.toml_edit_model.specs.Text.{Text, newline, one}
 use Rattle.toml_edit_model.specs.Tree.{ArrayFields, Node, owned, unset}
 use Rattle.toml_edit_model.specs.examples.Parts.{owned_decor, plain_int}
-use Rattle.toml_edit_tree.specs.ArrayLines.{after_newline, comment_behind, fields_inserted, first_newline, indent_at, line_begun}
-use Rattle.toml_edit_tree.specs.ArrayLines.{line_inserted, line_removed, line_taken, moved, newline_at, placed, text_above, text_after}
+use Rattle.toml_edit_tree.specs.ArrayLines.{after_newline, comment_behind, fields_inserted, fields_removed, first_newline, indent_at, is_alone, line_before, line_begun}
+use Rattle.toml_edit_tree.specs.ArrayLines.{line_inserted, line_removed, line_taken, lines_before, moved, newline_at, placed, text_above, text_after}
 
 -- ---- texts
 
@@ -179,6 +179,49 @@ taken = refl
 comment_left : line_removed 1 new_array (between [] [] 1 ∷ between (codes " # one\n  ") [] 2 ∷ [])
     ≡ one (between [] (codes " # one\n") 1)
 comment_left = refl
+
+-- the line of the opening bracket is the value's if no other value is on it
+alone : is_alone [] (codes " # c\n") true ∷ is_alone [] (codes " # c\n") false
+    ∷ is_alone (codes "\n") [] true ∷ is_alone (codes "\n") (codes "\n") false ∷ []
+    ≡ true ∷ false ∷ false ∷ true ∷ []
+alone = refl
+
+-- what is before a value, with a newline and without one
+lines_of_gap : line_before (codes " # one\n\t") ∷ lines_before (codes " # one\n\t")
+    ∷ line_before (codes "\t") ∷ lines_before (codes "\t") ∷ []
+    ≡ codes " # one" ∷ codes "\n\t" ∷ [] ∷ codes "\t" ∷ []
+lines_of_gap = refl
+
+abbrev beside_bracket : List Node
+beside_bracket = between (codes " ") [] 1 ∷ between (codes " # one\n  ") [] 2 ∷ []
+
+comment_gone : line_removed 0 new_array beside_bracket ≡ one (between (codes "\n  ") [] 2)
+comment_gone = refl
+
+comment_taken : line_taken 0 new_array beside_bracket (plain_int 1)
+    ≡ between (codes " ") (codes " # one") 1
+comment_taken = refl
+
+-- the only one
+bracket_left : fields_removed 0 new_array (one (between [] (codes " # one\n") 1))
+    ≡ record new_array { trailing = owned newline }
+bracket_left = refl
+
+-- another value is on the line: before the second of three, and after the first of two
+abbrev three_beside : List Node
+three_beside = between [] [] 1 ∷ between (codes " ") [] 2 ∷ between (codes " # two\n  ") [] 3 ∷ []
+
+comment_of_others : line_removed 1 new_array three_beside
+    ≡ between [] [] 1 ∷ between (codes " # two\n  ") [] 3 ∷ []
+comment_of_others = refl
+
+others_after : line_removed 0 new_array (between [] [] 1 ∷ between (codes " ") (codes " # two\n") 2 ∷ [])
+    ≡ one (between [] (codes " # two\n") 2)
+others_after = refl
+
+nothing_taken : line_taken 1 new_array three_beside (between (codes " ") [] 2)
+    ≡ between (codes " ") [] 2
+nothing_taken = refl
 
 comments_behind : comment_behind 0 new_array three_lines
     ∷ comment_behind 2 new_array three_lines ∷ comment_behind 3 new_array three_lines ∷ []

@@ -16,9 +16,10 @@ impl Array {
     /// Keeps the values for which `keep` returns `true`, in their order, and removes the others with
     /// their lines.
     ///
-    /// They are removed as by [`remove_line`](Self::remove_line), the last one first: the comments
-    /// above a value and on its line go with it, and those of the values that stay are kept. Slots
-    /// without a value stay. It works on a copy of the array, which takes its place at the end.
+    /// They are removed as by [`remove_line`](Self::remove_line), the last one first. So the comments
+    /// above a line and at its end go if no value stays on it, also beside the opening bracket, and
+    /// the others are kept. Slots without a value stay. It works on a copy of the array, which takes
+    /// its place at the end.
     ///
     /// # Errors
     ///

@@ -8,7 +8,7 @@ ghost use Rattle.toml_edit_model.specs.Print.{element_default};
 ghost use Rattle.toml_edit_model.specs.Text.{is_empty};
 ghost use Rattle.toml_edit_model.specs.Tree.{owned, shown_side};
 ghost use Rattle.toml_edit_model.specs.Trivia.{is_blank};
-ghost use Rattle.toml_edit_tree.specs.ArrayLines.{after_newline, commented_line, decor_taken, first_newline, is_broken, is_kept, left_of, line_words, lines_above, moved, own_comment, takes_lines, text_above, text_after};
+ghost use Rattle.toml_edit_tree.specs.ArrayLines.{after_newline, commented_line, decor_taken, first_newline, is_alone, is_broken, is_kept, left_of, line_before, line_words, lines_above, lines_before, moved, own_comment, takes_lines, text_above, text_after};
 
 use std::alloc::Global;
 use toml_edit_repr::comments::{first_comment, split_first_line, split_line, split_white};
@@ -155,12 +155,38 @@ fn line_words(line: &str) -> &str
     split_white(split_first_line(line).0).1
 }
 
-/// Returns what is left of the gaps before and after a value.
-pub(crate) fn left_of(alloc: Global, before: &str, after: &str, is_last: bool) -> Mem<String>
-    ensures { IfOk result (λ left. string_bytes left ≡ left_of before.now after.now is_last) }
+/// Returns whether no other value is on the line of the value between these gaps.
+fn is_alone(before: &str, after: &str, is_first: bool) -> bool
+    ensures { result ≡ is_alone before.now after.now is_first }
 {
-    if is_broken(before) && is_broken(after) {
-        let (line, _) = split_first_line(before);
+    is_broken(after) && (is_broken(before) || is_first)
+}
+
+/// Returns the rest of the line before a value that is alone on its line, and then its own lines.
+fn split_before(before: &str) -> (&str, &str)
+    ensures line { result.0.now ≡ line_before before.now }
+    ensures lines { result.1.now ≡ lines_before before.now }
+{
+    if is_broken(before) {
+        split_first_line(before)
+    } else {
+        ("", before)
+    }
+}
+
+/// Returns what is left of the gaps before and after a value.
+pub(crate) fn left_of(
+    alloc: Global,
+    before: &str,
+    after: &str,
+    is_first: bool,
+    is_last: bool,
+) -> Mem<String>
+    ensures { IfOk result (λ left. string_bytes left
+        ≡ left_of before.now after.now is_first is_last) }
+{
+    if is_alone(before, after, is_first) {
+        let (line, _) = split_before(before);
         return join_three(alloc, line, split_first_line(after).1, "");
     }
     if is_broken(after) || is_last {
@@ -175,15 +201,17 @@ pub(crate) fn decor_taken(
     before: &str,
     suffix: &str,
     after: &str,
+    is_first: bool,
 ) -> Mem<Option<Decor>>
-    ensures { IfOk result (λ decor. decor ≡ decor_taken before.now suffix.now after.now) }
+    ensures { IfOk result (λ decor. decor
+        ≡ decor_taken before.now suffix.now after.now is_first) }
 {
-    if !is_broken(before) || !is_broken(after) {
+    if !is_alone(before, after, is_first) {
         return Ok(None);
     }
     let (line, _) = split_first_line(after);
     let suffix = join_three(alloc, suffix, line, "")?;
-    let prefix = RawString::from_text(alloc, split_first_line(before).1)?;
+    let prefix = RawString::from_text(alloc, split_before(before).1)?;
     Ok(Some(Decor::new(prefix, RawString::from_string(suffix)?)))
 }
 

@@ -51,9 +51,9 @@ impl Array {
     /// those that are only white space. Comments of other values stay where they are.
     ///
     /// These lines and `value` are indented as the line of the value at `at` or, at the end, of the
-    /// last one: by four spaces if that line begins with the bracket or inside a value. They end in
-    /// CR LF if the first newline of the text before `at`, or else before the values and the
-    /// bracket, is one, and otherwise in LF.
+    /// last one: by four spaces if that line begins with the bracket. They end in CR LF if the first
+    /// newline of the text before `at`, or else before the values and the bracket, is one, and
+    /// otherwise in LF.
     ///
     /// Where other values are on the same line, `value` is put between them if it has no comments
     /// and no lines above it. Otherwise it gets lines of its own, and what follows begins another:
@@ -80,11 +80,16 @@ impl Array {
 
     /// Removes the value at index `at` and returns it, with its line if it is alone there.
     ///
-    /// The value then has its comment in its suffix, and the comments above it in its prefix, so
-    /// [`insert_line`](Self::insert_line) puts them back. The comments of the values before and
-    /// after it stay. Where other values are on the same line, it is returned with its decor, and a
-    /// comment at the end of the line stays. The comma after the last value goes with the only one.
-    /// A contract requires that there is a value: check with [`get`](Self::get).
+    /// It is alone if its line has at most the opening bracket before it, and at most its comma and
+    /// a comment after it. The value then has that comment in its suffix, and the comments above it
+    /// in its prefix, so [`insert_line`](Self::insert_line) puts them back. Of `[1, # one` and `2]`
+    /// on two lines, `[` and `2]` are left without the `1`. The comments of the values before and
+    /// after it stay.
+    ///
+    /// Where other values are on the same line, it is returned with its decor, and a comment at the
+    /// end of the line stays, as do those above if a value follows. Where the closing bracket
+    /// follows, the comments above the value go. The comma after the last value goes with the only
+    /// one. A contract requires that there is a value: check with [`get`](Self::get).
     ///
     /// # Errors
     ///
@@ -375,17 +380,17 @@ fn parts_removed(array: &Array, at: usize) -> Mem<(RawString, Option<Decor>)>
     ensures decor { IfOk result (λ parts. parts.1
         ≡ decor_taken (gap at (array_fields array.now) (items_of array.now))
         (before_comma at (array_fields array.now) (items_of array.now))
-        (gap (suc at) (array_fields array.now) (items_of array.now))) }
+        (gap (suc at) (array_fields array.now) (items_of array.now)) (at == 0)) }
 {
     let alloc = *array.values.allocator();
     let count = array.len();
-    let is_last = at + 1 >= count;
+    let (is_first, is_last) = (at == 0, at + 1 >= count);
     let before = gap_text(array, at)?;
     let after = gap_text(array, at + 1)?;
     let suffix = before_comma(array, at, is_last);
-    let rest = left_of(alloc, before.as_str(), after.as_str(), is_last)?;
+    let rest = left_of(alloc, before.as_str(), after.as_str(), is_first, is_last)?;
     let left = join_three(alloc, suffix_left(array, at), rest.as_str(), "")?;
-    let decor = decor_taken(alloc, before.as_str(), suffix, after.as_str())?;
+    let decor = decor_taken(alloc, before.as_str(), suffix, after.as_str(), is_first)?;
     Ok((RawString::from_string(left)?, decor))
 }
 
