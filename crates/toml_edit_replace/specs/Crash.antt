@@ -1,94 +1,147 @@
--- What a crash leaves of a file, by what was asked of its folder before.
-use Rattle.std.specs.Prelude.{◌≡◌, ◌⊎◌, Bool, true, false, if◌then◌else◌, List, [], ◌∷◌, ◌++◌, Option, Some, None, option_map, bytes_eq}
-use Rattle.std.specs.Option.{option_map_or}
-use Rattle.toml_edit_replace.specs.Events.{Text, Call, Event, found, leads_to, made, wrote, synced, renamed, removed, synced_folder}
+-- Runs that replace the file of one name, at the same time, and what a crash leaves of it.
+use Rattle.std.specs.Prelude.{◌≡◌, ◌≢◌, ◌⊎◌, ℕ, nat_eq, Bool, true, false, if◌then◌else◌, List, [], ◌∷◌, ◌++◌, Option, Some, None, option_map, bytes_eq}
+use Rattle.toml_edit_replace.specs.Events.{Text, Call, Event, made, wrote, synced, renamed, removed, synced_folder}
+use Rattle.toml_edit_replace.specs.Replacing.{Asked}
 
--- Which file a name leads to after a crash: the one that was there; that one or the one that was
--- made, whether or not the rename was done; the one that was made; any or none.
-pub data Leads : Type 0 where
-  to_old : Leads
-  to_either : Leads
-  to_moved : Leads
-  to_new : Leads
-  to_any : Leads
+-- ---- what happens
 
--- What is known of the file that was made, and of a name: how it was called; what was written to it,
--- unless a write failed; whether that is on the disk; and which file the name leads to.
-pub record State : Type 0 where
-  pub new_name : Option Text
+-- Runs have numbers. One asks its folder; or it is over, by its end or a kill, and its lock is let go;
+-- or any run removes a file of this name as one that was left.
+pub data Happening : Type 0 where
+  asks : ℕ → Event → Happening
+  ends : ℕ → Happening
+  sweeps : Text → Happening
+
+abbrev pub put : {A : Type 0} → ℕ → A → (ℕ → A) → ℕ → A
+put r x f q = if nat_eq q r then x else f q
+
+-- what happens is what each run asks, in its order, and the runs' calls in any
+abbrev pub Merges : (ℕ → List Event) → List Happening → Type 0
+Merges rest [] = Unit {0}
+Merges rest (asks r e ∷ hs) = (es : List Event) × (rest r ≡ e ∷ es) × Merges (put r es rest) hs
+Merges rest (ends r ∷ hs) = Merges (put r [] rest) hs
+Merges rest (sweeps n ∷ hs) = Merges rest hs
+
+-- ---- what is known then
+
+-- Of the file that a run made: its name, while it has that and the run lasts; what was written to it,
+-- unless a write failed; whether that is on the disk; whether it was tried to give it the file's name,
+-- whether it got that, and whether that is on the disk too.
+pub record Made : Type 0 where
+  pub name : Option Text
   pub written : Option Text
   pub is_kept : Bool
-  pub leads : Leads
+  pub is_tried : Bool
+  pub is_named : Bool
+  pub is_over : Bool
+
+-- the file that was there at first, the one that a run made, and any
+pub data File : Type 0 where
+  first : File
+  of_run : ℕ → File
+  any : File
+
+-- which made file has a name now; which files the name may lead to now, and after a crash
+pub record State : Type 0 where
+  pub made : ℕ → Made
+  pub leads : Text → Option ℕ
+  pub now : List File
+  pub later : List File
+
+abbrev pub unmade : Made
+unmade = record { name = None; written = None; is_kept = false; is_tried = false; is_named = false; is_over = false }
 
 abbrev pub start : State
-start = record { new_name = None; written = None; is_kept = false; leads = to_old }
+start = record { made = λ q. unmade; leads = λ n. None; now = first ∷ []; later = first ∷ [] }
 
--- once the folder is on the disk, a rename that was done stays done
-abbrev pub settled : Leads → Leads
-settled to_moved = to_new
-settled l = l
+-- A call of a run, for its own file. A failed write may be made in part.
+abbrev pub made_after : Call → Bool → Made → Made
+made_after (made b) true m = record unmade { name = Some b; written = Some [] }
+made_after (wrote t) true m = record m { written = option_map (λ w. w ++ t) m.written; is_kept = false }
+made_after (wrote t) false m = record m { written = None; is_kept = false }
+made_after synced true m = record m { is_kept = true }
+made_after (renamed b n) true m = record m { name = None; is_tried = true; is_named = true }
+made_after (renamed b n) false m = record m { is_tried = true }
+made_after (removed b) is_done m = record m { name = None }
+made_after (synced_folder n) true m = record m { is_over = m.is_named }
+made_after _ _ m = m
+
+abbrev pub led : Text → Option ℕ → (Text → Option ℕ) → Text → Option ℕ
+led n r f m = if bytes_eq m n then r else f m
+
+abbrev pub file_of : Option ℕ → File
+file_of (Some r) = of_run r
+file_of None = any
 
 module _ (name : Text) where
-  -- what happens to the name where it is this one
-  abbrev pub led : Text → Leads → State → Leads
-  led n l s = if bytes_eq n name then l else s.leads
+  -- a name may lead to a file from now on, or if it was done does
+  abbrev pub leading : Text → File → Bool → State → State
+  leading n f true s =
+      if bytes_eq n name then (record s { now = f ∷ []; later = f ∷ s.later }) else s
+  leading n f false s =
+      if bytes_eq n name then (record s { now = f ∷ s.now; later = f ∷ s.later }) else s
 
-  -- where the name leads once a file of that name has got it, if that is the one that was made
-  abbrev pub moved : Text → Leads → State → Leads
-  moved b l s = if option_map_or (bytes_eq b) s.new_name false then l else to_any
+  -- For the names. A rename is whole or is not made; one that fails may be made. What was renamed or
+  -- removed before the folder is on the disk may be so after a crash.
+  abbrev pub after_call : ℕ → Call → Bool → State → State
+  after_call r (made b) true s = leading b any true (record s { leads = led b (Some r) s.leads })
+  after_call r (renamed b n) true s =
+      leading n (file_of (s.leads b)) true (record s { leads = led b None s.leads })
+  after_call r (renamed b n) false s = leading n (file_of (s.leads b)) false s
+  after_call r (removed b) is_done s = leading b any true (record s { leads = led b None s.leads })
+  after_call r (synced_folder n) true s = record s { later = s.now }
+  after_call r _ _ s = s
 
-  -- The state after a call. A rename is whole or is not made; one that fails may be made.
-  abbrev pub after_call : Call → Bool → State → State
-  after_call (found n t) is_done s = s
-  after_call (leads_to n t) is_done s = s
-  after_call (made b) true s =
-      record { new_name = Some b; written = Some []; is_kept = false; leads = led b to_any s }
-  after_call (made b) false s = s
-  after_call (wrote t) true s =
-      record s { written = option_map (λ w. w ++ t) s.written; is_kept = false }
-  after_call (wrote t) false s = record s { written = None; is_kept = false }
-  after_call synced true s = record s { is_kept = true }
-  after_call synced false s = s
-  after_call (renamed b n) true s = record s { leads = led n (moved b to_moved s) s }
-  after_call (renamed b n) false s = record s { leads = led n (moved b to_either s) s }
-  after_call (removed b) is_done s = record s { leads = led b to_any s }
-  after_call (synced_folder f) true s = record s { leads = settled s.leads }
-  after_call (synced_folder f) false s = s
+  abbrev pub after : Happening → State → State
+  after (asks r e) s =
+      let t = after_call r e.call e.is_done s in
+      record t { made = put r (made_after e.call e.is_done (s.made r)) s.made }
+  after (ends r) s = record s { made = put r (record (s.made r) { name = None }) s.made }
+  after (sweeps n) s = leading n any true (record s { leads = led n None s.leads })
 
-  abbrev pub after : Event → State → State
-  after e s = after_call e.call e.is_done s
+  -- What the system sees to: a name is made only where none is, and a file is locked by the run that
+  -- made it as long as that lasts. No file is swept that has the name.
+  abbrev pub IsAllowed : State → Happening → Type 0
+  IsAllowed s (asks r e) = (b : Text) → e.call ≡ made b → e.is_done ≡ true → s.leads b ≡ None
+  IsAllowed s (ends r) = Unit {0}
+  IsAllowed s (sweeps n) = (n ≢ name) × ((q : ℕ) → (s.made q).name ≢ Some n)
 
-  -- so it is before these calls, between any two of them, and behind the last
-  abbrev pub Throughout : (State → Type 0) → State → List Event → Type 0
+  -- so it is before these, between any two of them, and behind the last
+  abbrev pub Throughout : (State → Type 0) → State → List Happening → Type 0
   Throughout Is s [] = Is s
-  Throughout Is s (e ∷ es) = Is s × Throughout Is (after e s) es
-
-  abbrev pub at_end : State → List Event → State
-  at_end s [] = s
-  at_end s (e ∷ es) = at_end (after e s) es
+  Throughout Is s (h ∷ hs) = Is s × (IsAllowed s h → Throughout Is (after h s) hs)
 
 -- ---- what the file holds after a crash, or `None` if there is none
 
--- the file that was made may hold this: what was written, if that is on the disk, and else anything
-abbrev pub HoldsNew : Bool → Option Text → Option Text → Type 0
-HoldsNew true (Some w) c = c ≡ Some w
-HoldsNew true None c = Unit {0}
-HoldsNew false w c = Unit {0}
+-- a file that was made may hold this: what was written, if that is on the disk, and else anything
+abbrev pub HoldsMade : Bool → Option Text → Option Text → Type 0
+HoldsMade true (Some w) c = c ≡ Some w
+HoldsMade true None c = Unit {0}
+HoldsMade false w c = Unit {0}
 
-abbrev pub LeavesAt : Option Text → State → Leads → Option Text → Type 0
-LeavesAt old s to_old c = c ≡ old
-LeavesAt old s to_either c = (c ≡ old) ⊎ HoldsNew s.is_kept s.written c
-LeavesAt old s to_moved c = (c ≡ old) ⊎ HoldsNew s.is_kept s.written c
-LeavesAt old s to_new c = HoldsNew s.is_kept s.written c
-LeavesAt old s to_any c = Unit {0}
+abbrev pub Holds : Option Text → State → File → Option Text → Type 0
+Holds old s first c = c ≡ old
+Holds old s (of_run q) c = HoldsMade (s.made q).is_kept (s.made q).written c
+Holds old s any c = Unit {0}
+
+abbrev pub HoldsOne : Option Text → State → List File → Option Text → Type 0
+HoldsOne old s [] c = ⊥
+HoldsOne old s (f ∷ fs) c = Holds old s f c ⊎ HoldsOne old s fs c
 
 -- a crash in this state may leave this, where the file held `old` at first
 abbrev pub Leaves : Option Text → State → Option Text → Type 0
-Leaves old s c = LeavesAt old s s.leads c
+Leaves old s c = HoldsOne old s s.later c
 
--- it leaves the old text or the new one, whole
-abbrev pub LeavesOldOrNew : Option Text → Text → State → Type 0
-LeavesOldOrNew old new s = (c : Option Text) → Leaves old s c → (c ≡ old) ⊎ (c ≡ Some new)
+abbrev pub IsNew : (ℕ → Asked) → Option Text → Type 0
+IsNew asked c = (q : ℕ) × (c ≡ Some (asked q).text)
 
-abbrev pub LeavesNew : Option Text → Text → State → Type 0
-LeavesNew old new s = (c : Option Text) → Leaves old s c → c ≡ Some new
+-- It leaves the old text or the new one of a run, whole. Once a run has replaced the file, it leaves
+-- a new one.
+pub record IsSafe (asked : ℕ → Asked) (old : Option Text) (s : State) : Type 0 where
+  pub whole : (c : Option Text) → Leaves old s c → (c ≡ old) ⊎ IsNew asked c
+  pub new : (r : ℕ) → (s.made r).is_over ≡ true → (c : Option Text) → Leaves old s c → IsNew asked c
+
+-- what a run knows of its file once it has asked these
+abbrev pub made_at : Made → List Event → Made
+made_at m [] = m
+made_at m (e ∷ es) = made_at (made_after e.call e.is_done m) es

@@ -9,14 +9,24 @@ pub data Call : Type 0 where
   found : Text → Text → Call
   -- the name leads to the file of that name
   leads_to : Text → Text → Call
+  -- the lock on the file of this name is taken
+  locked : Text → Call
+  -- the file of this name is not read-only
+  writable : Text → Call
+  -- a file is made, of a name that none had
   made : Text → Call
+  -- It gets the owner, the group and the mode of the file of this name; if forced, those that can be
+  -- kept.
+  likened : Text → Bool → Call
   wrote : Text → Call
   synced : Call
+  -- the file of this name still holds this text
+  held : Text → Text → Call
   renamed : Text → Text → Call
   removed : Text → Call
   synced_folder : Text → Call
 
--- a call that is noted, and whether it was done
+-- a call that is noted, and whether it was done, or what it asks is so
 pub record Event : Type 0 where
   pub call : Call
   pub is_done : Bool
@@ -24,6 +34,11 @@ pub record Event : Type 0 where
 abbrev pub succeeds : {E : Type 0} → Result (Unit {0}) E → Bool
 succeeds (Ok u) = true
 succeeds (Err e) = false
+
+-- a call that asks whether something is so
+abbrev pub says : {E : Type 0} → Result Bool E → Bool
+says (Ok is) = is
+says (Err e) = false
 
 abbrev pub done : Call → Event
 done c = record { call = c; is_done = true }
@@ -37,6 +52,9 @@ more es known = option_map (λ before. before ++ es) known
 -- what was asked is known after a call if it was known before: the call is the last one
 abbrev pub Notes : {E : Type 0} → Option (List Event) → Option (List Event) → Call → Result (Unit {0}) E → Type 0
 Notes old new c r = new ≡ more (record { call = c; is_done = succeeds r } ∷ []) old
+
+abbrev pub NotesWhether : {E : Type 0} → Option (List Event) → Option (List Event) → Call → Result Bool E → Type 0
+NotesWhether old new c r = new ≡ more (record { call = c; is_done = says r } ∷ []) old
 
 -- one that looks is known by what it found
 abbrev pub seen : {A E : Type 0} → (A → Call) → Result A E → List Event

@@ -2,36 +2,37 @@
 ghost use Rattle.std.specs.Prelude.{None};
 
 use crate::folder::Folder;
+use crate::left::{boot_of, clear, fresh_name};
+use crate::names::{folder_of, leads_to, target_of};
 use std::alloc::Global;
-use std::fs::{self, File, OpenFile};
+use std::fs::{self, File, Metadata, OpenOptions, Permissions, TryLockError};
 use std::io;
-use std::io::{ErrorKind, Write};
-use std::path::Path;
-use std::rt::Files;
+use std::io::{ErrorKind, Read, Write};
+use std::os::unix::fs::{MetadataExt, OpenOptionsExt, PermissionsExt, fchown};
 
-/// The folders of the system. A file beside another has the number of the process in its name.
+/// The folders of the system.
 #[derive(Drop)]
-pub struct Host<'r, R: Files> {
-    rt: &'r R,
+pub struct Host<'r> {
+    rt: &'r HostRuntime,
     process: u32,
-    file: Option<R::File>,
+    /// The file that was made. It is locked, by which other runs know that this one has not ended.
+    file: Option<File>,
+    locked: Option<File>,
 }
 
-/// What a name beside a file ends with.
-const ENDING: &str = ".tomlfile";
-
-impl<'r, R: Files> Host<'r, R> {
+impl<'r> Host<'r> {
     /// Makes the folders of a process of this number.
-    pub fn new(rt: &'r R, process: u32) -> Host<'r, R> {
+    pub fn new(rt: &'r HostRuntime, process: u32) -> Host<'r> {
         Host {
             rt,
             process,
             file: None,
+            locked: None,
         }
     }
 }
 
-impl<R: Files + AllocGlobal + Clone + Drop> Folder for Host<'_, R> {
+impl Folder for Host<'_> {
     // No contract says what the system holds.
     ghost history = { λ _. None };
 
@@ -40,38 +41,73 @@ impl<R: Files + AllocGlobal + Clone + Drop> Folder for Host<'_, R> {
     }
 
     fn target(&mut self, alloc: Global, name: &str) -> io::Result<String> {
-        match fs::canonicalize(self.rt, name) {
-            Ok(path) => {
-                // A device or a pipe is not replaced by a file.
-                if !fs::metadata(self.rt, path.as_path())?.is_file() {
-                    return Err(io::Error::from(ErrorKind::InvalidInput));
-                }
-                Ok(path.into_string())
+        target_of(self.rt, alloc, name)
+    }
+
+    fn lock(&mut self, name: &str) -> io::Result<()> {
+        // Two runs that each wait for a file of the other would wait forever.
+        self.file = None;
+        self.locked = None;
+        for _ in 0..u64::MAX {
+            let file = File::open(self.rt, name)?;
+            // Not each file system has locks.
+            let _ = file.lock();
+            if leads_to(self.rt, name, &file)? {
+                self.locked = Some(file);
+                return Ok(());
             }
-            Err(error) => {
-                if error.kind() == ErrorKind::NotFound {
-                    Ok(String::from_str(alloc, name)?)
-                } else {
-                    Err(error)
-                }
-            }
+        }
+        Err(io::Error::from(ErrorKind::Interrupted))
+    }
+
+    fn is_writable(&mut self, name: &str) -> io::Result<bool> {
+        match fs::metadata(self.rt, name) {
+            Ok(metadata) => Ok(!metadata.permissions().readonly()),
+            Err(error) if error.kind() == ErrorKind::NotFound => Ok(true),
+            Err(error) => Err(error),
         }
     }
 
-    fn beside(&mut self, alloc: Global, name: &str) -> io::Result<String> {
-        clear(self.rt, name, self.process);
-        let process = self.process;
-        Ok(format!(in alloc; "{name}.{process}{ENDING}")?)
+    fn beside(&mut self, alloc: Global, name: &str, last: &str) -> io::Result<String> {
+        let boot = boot_of(self.rt);
+        let boot = boot.as_str().trim_end();
+        let folder = folder_of(name);
+        clear(self.rt, folder, boot);
+        let beside = fresh_name(self.rt, alloc, folder, boot, self.process)?;
+        if beside.as_str() == name || beside.as_str() == last {
+            return Err(io::Error::from(ErrorKind::AlreadyExists));
+        }
+        Ok(beside)
     }
 
-    fn make(&mut self, name: &str, like: &str) -> io::Result<()> {
-        let file = File::create_new(self.rt, name)?;
-        let done = copy_mode(self.rt, &file, like);
-        if done.is_err() {
-            let _ = fs::remove_file(self.rt, name);
+    fn make(&mut self, beside: &str, name: &str) -> io::Result<()> {
+        // Nobody else opens it before it has the mode of the file that it replaces.
+        let mode = if fs::exists(self.rt, name)? {
+            0o600
+        } else {
+            0o666
+        };
+        let mut options = OpenOptions::new();
+        options.write(true).create_new(true).mode(mode);
+        let file = options.open(self.rt, beside)?;
+        // Another run may take it for one that was left until it is locked.
+        let is_taken = matches!(file.try_lock(), Err(TryLockError::WouldBlock));
+        if is_taken || !leads_to(self.rt, beside, &file)? {
+            return Err(io::Error::from(ErrorKind::AlreadyExists));
         }
         self.file = Some(file);
-        done
+        Ok(())
+    }
+
+    fn liken(&mut self, name: &str, force: bool) -> io::Result<()> {
+        let Some(file) = &self.file else {
+            return Err(io::Error::from(ErrorKind::NotFound));
+        };
+        match fs::metadata(self.rt, name) {
+            Ok(old) => copy_owner_and_mode(file, &old, force),
+            Err(error) if error.kind() == ErrorKind::NotFound => Ok(()),
+            Err(error) => Err(error),
+        }
     }
 
     fn write(&mut self, text: &[u8]) -> io::Result<()> {
@@ -88,6 +124,14 @@ impl<R: Files + AllocGlobal + Clone + Drop> Folder for Host<'_, R> {
         }
     }
 
+    fn holds(&mut self, name: &str, text: &[u8]) -> io::Result<bool> {
+        match File::open(self.rt, name) {
+            Ok(mut file) => is_text_of(&mut file, text),
+            Err(error) if error.kind() == ErrorKind::NotFound => Ok(false),
+            Err(error) => Err(error),
+        }
+    }
+
     fn rename(&mut self, from: &str, to: &str) -> io::Result<()> {
         fs::rename(self.rt, from, to)
     }
@@ -101,67 +145,34 @@ impl<R: Files + AllocGlobal + Clone + Drop> Folder for Host<'_, R> {
     }
 }
 
-/// Gives the file the mode of another one, if that is there.
-fn copy_mode<R: Files>(rt: &R, file: &R::File, like: &str) -> io::Result<()> {
-    match fs::metadata(rt, like) {
-        Ok(metadata) => file.set_permissions(metadata.permissions()),
-        Err(error) => {
-            if error.kind() == ErrorKind::NotFound {
-                Ok(())
-            } else {
-                Err(error)
-            }
+/// Gives the file the owner, the group and the mode of the old one.
+fn copy_owner_and_mode(file: &File, old: &Metadata, force: bool) -> io::Result<()> {
+    // A group of one's own can be given where the owner can't.
+    let _ = fchown(file, None, Some(old.gid()));
+    let _ = fchown(file, Some(old.uid()), None);
+    let new = file.metadata()?;
+    let is_kept = new.uid() == old.uid() && new.gid() == old.gid();
+    if !is_kept && !force {
+        return Err(io::Error::other("its owner or group cannot be kept"));
+    }
+    // Nobody gets to run it as another user than it was.
+    let bits = if is_kept { 0o7777 } else { 0o1777 };
+    file.set_permissions(Permissions::from_mode(old.mode() & bits))
+}
+
+/// Returns `true` if the rest of the file is the text.
+fn is_text_of(file: &mut File, text: &[u8]) -> io::Result<bool> {
+    let mut rest = text;
+    let mut piece = [0; 4096];
+    for _ in 0..u64::MAX {
+        let count = file.read(&mut piece)?;
+        if count == 0 {
+            return Ok(rest.is_empty());
+        }
+        match rest.strip_prefix(&piece[..count]) {
+            Some(more) => rest = more,
+            None => return Ok(false),
         }
     }
-}
-
-/// Returns the name of the folder of a file.
-fn folder_of(name: &str) -> &str {
-    match Path::new(name).parent() {
-        Some(folder) if !folder.as_str().is_empty() => folder.as_str(),
-        _ => ".",
-    }
-}
-
-/// Removes the files beside this one that a process left which has ended, or one that had the
-/// number of this process. What cannot be removed stays.
-fn clear<R: Files + AllocGlobal + Clone + Drop>(rt: &R, name: &str, process: u32) {
-    let Some(base) = Path::new(name).file_name() else {
-        return;
-    };
-    let Ok(entries) = fs::read_dir(rt, folder_of(name)) else {
-        return;
-    };
-    for entry in entries {
-        if let Ok(entry) = entry {
-            if is_left(rt, entry.file_name(), base, process) {
-                let _ = fs::remove_file(rt, entry.path());
-            }
-        }
-    }
-}
-
-/// Returns `true` if the name is one beside the file, of a process that has ended.
-fn is_left<R: Files + AllocGlobal>(rt: &R, name: &str, base: &str, process: u32) -> bool {
-    let Some(rest) = name.strip_prefix(base) else {
-        return false;
-    };
-    let Some(rest) = rest.strip_prefix(".") else {
-        return false;
-    };
-    let Some(number) = rest.strip_suffix(ENDING) else {
-        return false;
-    };
-    match number.parse::<u32>() {
-        Ok(number) => number == process || has_ended(rt, number),
-        Err(_) => false,
-    }
-}
-
-/// Returns `true` if the system lists its processes, and none of this number.
-fn has_ended<R: Files + AllocGlobal>(rt: &R, process: u32) -> bool {
-    let Ok(folder) = format!(in rt.alloc(); "/proc/{process}") else {
-        return false;
-    };
-    fs::metadata(rt, "/proc/self").is_ok() && fs::metadata(rt, folder.as_str()).is_err()
+    Ok(false)
 }

@@ -4,10 +4,14 @@
 mod folder;
 mod host;
 pub mod laws;
+mod left;
+mod names;
+mod replacement;
 mod replacing;
 #[cfg(test)]
 mod tests;
 
 pub use folder::Folder;
 pub use host::Host;
-pub use replacing::replace;
+pub use replacement::{ReplaceFault, Replacement};
+pub use replacing::{read_locked, replace};

@@ -1,7 +1,7 @@
 //! Replacing a file of a folder in memory, of which each call fails in turn.
-ghost use Rattle.std.specs.Prelude.{◌≡◌, None};
+ghost use Rattle.std.specs.Prelude.{None};
 
-use crate::{Folder, replace};
+use crate::{Folder, ReplaceFault, Replacement, replace};
 use std::alloc::Global;
 use std::io;
 use std::io::ErrorKind;
@@ -11,6 +11,7 @@ use std::io::ErrorKind;
 struct Memory {
     names: Vec<String>,
     texts: Vec<Vec<u8>>,
+    read_only: bool,
     calls: usize,
     fails: usize,
 }
@@ -21,6 +22,7 @@ impl Memory {
         let mut folder = Memory {
             names: Vec::new(alloc),
             texts: Vec::new(alloc),
+            read_only: false,
             calls: 0,
             fails,
         };
@@ -49,8 +51,13 @@ impl Memory {
         self.names.iter().position(|other| other.as_str() == name)
     }
 
+    /// Returns `true` if the file `f` holds the text.
+    fn has(&self, text: &[u8]) -> bool {
+        self.is_text("f", text)
+    }
+
     /// Returns `true` if a file holds the text.
-    fn holds(&self, name: &str, text: &[u8]) -> bool {
+    fn is_text(&self, name: &str, text: &[u8]) -> bool {
         match self.text_of(name) {
             Some(at) if at < self.texts.len() => self.texts[at].as_slice() == text,
             _ => false,
@@ -90,14 +97,34 @@ impl Folder for Memory {
         Ok(String::from_str(alloc, name)?)
     }
 
-    fn beside(&mut self, alloc: Global, name: &str) -> io::Result<String> {
-        Ok(format!(in alloc; "{name}.new")?)
+    fn lock(&mut self, _name: &str) -> io::Result<()> {
+        self.turn()
     }
 
-    fn make(&mut self, name: &str, _like: &str) -> io::Result<()> {
+    fn is_writable(&mut self, _name: &str) -> io::Result<bool> {
         self.turn()?;
+        Ok(!self.read_only)
+    }
+
+    fn beside(&mut self, alloc: Global, name: &str, last: &str) -> io::Result<String> {
+        let beside = format!(in alloc; "{last}.new")?;
+        if beside.as_str() == name || beside.as_str() == last {
+            return Err(io::Error::from(ErrorKind::AlreadyExists));
+        }
+        Ok(beside)
+    }
+
+    fn make(&mut self, beside: &str, _name: &str) -> io::Result<()> {
+        self.turn()?;
+        if self.text_of(beside).is_some() {
+            return Err(io::Error::from(ErrorKind::AlreadyExists));
+        }
         let alloc = *self.names.allocator();
-        self.add(alloc, name)
+        self.add(alloc, beside)
+    }
+
+    fn liken(&mut self, _name: &str, _force: bool) -> io::Result<()> {
+        self.turn()
     }
 
     fn write(&mut self, text: &[u8]) -> io::Result<()> {
@@ -107,12 +134,19 @@ impl Folder for Memory {
         } else {
             &text[..text.len() / 2]
         };
-        self.put("f.new", text)?;
+        if let Some(made) = self.texts.last_mut() {
+            made.extend_from_slice(text)?;
+        }
         done
     }
 
     fn sync(&mut self) -> io::Result<()> {
         self.turn()
+    }
+
+    fn holds(&mut self, name: &str, text: &[u8]) -> io::Result<bool> {
+        self.turn()?;
+        Ok(self.is_text(name, text))
     }
 
     fn rename(&mut self, from: &str, to: &str) -> io::Result<()> {
@@ -139,18 +173,66 @@ impl Folder for Memory {
     }
 }
 
+/// Replaces the text of the file `f` by `new`, where it held `before`.
+fn replace_f(
+    alloc: Global,
+    folder: &mut Memory,
+    before: &[u8],
+    force: bool,
+) -> Result<(), ReplaceFault> {
+    let asked = Replacement {
+        name: "f",
+        before: Some(before),
+        text: b"new",
+        force,
+    };
+    replace(alloc, folder, &asked)
+}
+
 /// Returns `true` if a replacement whose call of this number fails leaves the old text, or the new
 /// one if that call is the last, and nothing beside it.
 fn survives(alloc: Global, fails: usize) -> io::Result<bool> {
     let mut folder = Memory::with_file(alloc, "f", b"old", fails)?;
-    let done = replace(alloc, &mut folder, "f", b"new");
-    let text: &[u8] = if fails < 4 { b"old" } else { b"new" };
-    Ok(done.is_ok() == (fails > 4) && folder.holds("f", text) && folder.names.len() == 1)
+    let done = replace_f(alloc, &mut folder, b"old", false);
+    let text: &[u8] = if fails < 7 { b"old" } else { b"new" };
+    Ok(done.is_ok() == (fails > 7) && folder.has(text) && folder.names.len() == 1)
 }
 
 #[test]
 fn each_call_fails_in_turn(rt: HostRuntime) {
-    for fails in 0..7 {
+    for fails in 0..10 {
         assert!(rt; matches!(survives(rt.alloc(), fails), Ok(true)));
     }
+}
+
+/// Returns `true` if a file that has changed stays as it is.
+fn stays(alloc: Global) -> io::Result<bool> {
+    let mut folder = Memory::with_file(alloc, "f", b"changed", 100)?;
+    let done = replace_f(alloc, &mut folder, b"old", true);
+    let changed = matches!(done, Err(ReplaceFault::Changed));
+    Ok(changed && folder.has(b"changed") && folder.names.len() == 1)
+}
+
+/// Returns `true` if a read-only file is replaced by force alone.
+fn is_forced(alloc: Global) -> io::Result<bool> {
+    let mut folder = Memory::with_file(alloc, "f", b"old", 100)?;
+    folder.read_only = true;
+    let refused = replace_f(alloc, &mut folder, b"old", false);
+    let refused = matches!(refused, Err(ReplaceFault::ReadOnly)) && folder.has(b"old");
+    Ok(refused && replace_f(alloc, &mut folder, b"old", true).is_ok() && folder.has(b"new"))
+}
+
+/// Returns `true` if another file stays that has the first name of the new one.
+fn takes_another_name(alloc: Global) -> io::Result<bool> {
+    let mut folder = Memory::with_file(alloc, "f", b"old", 100)?;
+    folder.add(alloc, "f.new")?;
+    let done = replace_f(alloc, &mut folder, b"old", false);
+    Ok(done.is_ok() && folder.has(b"new") && folder.names.len() == 2)
+}
+
+#[test]
+fn what_others_wrote_stays(rt: HostRuntime) {
+    assert!(rt; matches!(stays(rt.alloc()), Ok(true)));
+    assert!(rt; matches!(is_forced(rt.alloc()), Ok(true)));
+    assert!(rt; matches!(takes_another_name(rt.alloc()), Ok(true)));
 }

@@ -1,6 +1,0 @@
-use Rattle.std.proofs.Common.{◌∙◌, sym}
-use Rattle.toml_edit_replace.proofs.Asked.{longer}
-use Rattle.toml_edit_replace.proofs.tests.MemoryFolder.beside.Goals as goal
-
-pub returns-clause-other : goal.returns-clause-other
-returns-clause-other c = λ same. longer _ _ _ (sym same ∙ c.in_ok-format.ensures.ok)

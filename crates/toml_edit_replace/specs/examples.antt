@@ -1,0 +1,3 @@
+-- Worked examples: nothing cites them.
+pub mod Crash
+pub mod Replacing
