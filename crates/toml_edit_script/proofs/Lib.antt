@@ -1,4 +1,5 @@
 pub mod CallLaws
+pub mod ElementLaws
 pub mod LineEdits
 pub mod LineLaws
 pub mod LineTexts

@@ -20,8 +20,8 @@ use Rattle.toml_edit_edit_laws.proofs.commands.Setting.{done-is, was-mapped}
 use Rattle.toml_edit_script.specs.declared.fault.EditFault.{EditFault}
 use Rattle.toml_edit_script.specs.declared.fault.EditFault.TheVariants.{NoSuchPath, WrongKind, Taken}
 use Rattle.toml_edit_paths.specs.Calls.{replaced_at, replaced_below}
-use Rattle.toml_edit_script.specs.Effects.{at_end, changed_at, on_table, renamed}
-use Rattle.toml_edit_script.specs.Moves.{carried, carried_over, held_slot, moved, put_in, slot_at, slot_of, slots_with}
+use Rattle.toml_edit_script.specs.Effects.{at_end, changed_at, on_table}
+use Rattle.toml_edit_script.specs.Moves.{carried, carried_over, held_slot, moved, moved_beside, put_in, slot_at, slot_of, slots_with}
 use Rattle.toml_edit_script.specs.Outcomes.{and_then, of_answer}
 use Rattle.toml_edit_script.proofs.PathLaws.{HasAllOf, OneKind, begins, found-then, still-there}
 
@@ -230,19 +230,19 @@ absent-held k es h = ap (option_and_then (λ x. if is_item x.item then Some x el
 module _ (above : List Text) (k : Text) (target : List Text) (u : Text) (t : Tree) where
   pub move-is : (from to : List Text) → from ≡ above ++ one k → to ≡ target ++ one u
       → moved from to t
-      ≡ (if pointwise same_text above target then renamed above k u t
+      ≡ (if pointwise same_text above target then moved_beside above k u t
       else if starts_with same_text to from then Err WrongKind else carried_over from above k target u t)
   move-is from to f g =
       at-end (λ a j. at_end (λ b v.
-      if pointwise same_text a b then renamed a j v t
+      if pointwise same_text a b then moved_beside a j v t
       else if starts_with same_text to from then Err WrongKind else carried_over from a j b v t) to) from above k f
       ∙ at-end (λ b v.
-      if pointwise same_text above b then renamed above k v t
+      if pointwise same_text above b then moved_beside above k v t
       else if starts_with same_text to from then Err WrongKind else carried_over from above k b v t) to target u g
 
-  pub is-renamed : (from to : List Text) → from ≡ above ++ one k → to ≡ target ++ one u → pointwise same_text above target ≡ true
-      → moved from to t ≡ renamed above k u t
-  is-renamed from to f g same = move-is from to f g ∙ if-true (pointwise same_text above target) _ _ same
+  pub is-beside : (from to : List Text) → from ≡ above ++ one k → to ≡ target ++ one u → pointwise same_text above target ≡ true
+      → moved from to t ≡ moved_beside above k u t
+  is-beside from to f g same = move-is from to f g ∙ if-true (pointwise same_text above target) _ _ same
 
   pub is-inside : (from to : List Text) → from ≡ above ++ one k → to ≡ target ++ one u → pointwise same_text above target ≡ false
       → starts_with same_text to from ≡ true → moved from to t ≡ Err WrongKind

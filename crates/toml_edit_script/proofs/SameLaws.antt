@@ -204,7 +204,7 @@ none-same v xs i past before =
         by_test false e = refl
 
 -- one place further
-further : (v : Node) (xs : List Node) (i : ℕ) → ((k : ℕ) (d : Node) → k < i → same_node (get_or xs k d) v ≡ false)
+pub further : (v : Node) (xs : List Node) (i : ℕ) → ((k : ℕ) (d : Node) → k < i → same_node (get_or xs k d) v ≡ false)
     → ((d : Node) → same_node (get_or xs i d) v ≡ false) → (k : ℕ) (d : Node) → k < i + 1 → same_node (get_or xs k d) v ≡ false
 further v xs i before here k d l =
     elim (cases_Bool (nat_lt k i)) [

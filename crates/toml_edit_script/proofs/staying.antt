@@ -16,3 +16,6 @@ pub mod Effects
 pub mod Carrying
 pub mod Fitting
 pub mod Edits
+pub mod TableMore
+pub mod ElementMore
+pub mod FirstMore

@@ -1,5 +1,5 @@
 -- What an edit does to a tree, or why it is refused.
-use Rattle.std.specs.Prelude.{◌||◌, ℕ, nat_le, if◌then◌else◌, List, [], ◌∷◌, length, Option, Some, None, option_map, option_and_then, position, Result, Ok, Err}
+use Rattle.std.specs.Prelude.{◌||◌, ◌==◌, ℕ, nat_le, if◌then◌else◌, List, [], ◌∷◌, length, Option, Some, None, option_map, option_and_then, position, Result, Ok, Err}
 use Rattle.std.specs.Option.{ok_or}
 use Rattle.toml_edit_model.specs.Comments.{with_comment_after}
 use Rattle.toml_edit_model.specs.Conversions.{with_decor}
@@ -8,7 +8,7 @@ use Rattle.toml_edit_model.specs.Lists.{is_dotted_inline, is_dotted_table, item_
 use Rattle.toml_edit_model.specs.Rearranging.{renamed_slot}
 use Rattle.toml_edit_model.specs.Slots.{Slot}
 use Rattle.toml_edit_model.specs.Sorting.{sorted_slots}
-use Rattle.toml_edit_model.specs.Text.{Text, is_empty}
+use Rattle.toml_edit_model.specs.Text.{Text, hash, is_empty, space}
 use Rattle.toml_edit_model.specs.Tree.{Key, Node, nothing, list, inline, table, tables, Tree, node_decor}
 use Rattle.toml_edit_edit_laws.specs.Commands.{item_at, number_of, root_item, set_at}
 use Rattle.toml_edit_paths.specs.Calls.{item_inside, replaced_at}
@@ -21,6 +21,7 @@ use Rattle.toml_edit_slots.specs.declared.slots.rearrange.Renamed.TheVariants as
 use Rattle.toml_edit_tree.specs.ArrayLines.{fields_inserted, fields_removed, line_inserted, line_removed}
 use Rattle.toml_edit_tree.specs.Casts.{array_in}
 use Rattle.toml_edit_tree.specs.Containers.{ArrayView}
+use Rattle.toml_edit_script.specs.Missing.{is_numbered, unled}
 use Rattle.toml_edit_script.specs.Outcomes.{and_then, of_answer}
 use Rattle.toml_edit_script.specs.Same.{same_node}
 use Rattle.toml_edit_script.specs.declared.fault.EditFault.{EditFault}
@@ -31,8 +32,9 @@ use Rattle.toml_edit_script.specs.declared.fault.EditFault.TheVariants.{NoSuchPa
 abbrev pub set : List Key → Node → Tree → Result Tree EditFault
 set path v t = of_answer (set_at path v t)
 
+-- no table is made for a key that is a number
 abbrev pub headed : List Key → Node → Tree → Result Tree EditFault
-headed path v t = of_answer (set_at_with_headers path v t)
+headed path v t = if is_numbered (unled path t) then Err NoSuchPath else of_answer (set_at_with_headers path v t)
 
 -- an element of an array goes with its line
 abbrev pub removed : List Text → Tree → Result Tree EditFault
@@ -123,7 +125,7 @@ in_order (inline f ss) = Ok (inline f (slots_from (sorted_slots is_dotted_inline
 in_order n = Err WrongKind
 
 abbrev pub sorted : List Text → Tree → Result Tree EditFault
-sorted = changed_below in_order
+sorted = changed_at in_order
 
 -- a value, or a table with a header, with this comment after it; an empty text is none
 abbrev pub body_of : Text → Option Text
@@ -142,6 +144,11 @@ with_comment t n = if_may_stand t (with_decor (with_comment_after (body_of t) (n
 
 abbrev pub commented : List Text → Text → Tree → Result Tree EditFault
 commented path t = changed_below (with_comment t) path
+
+-- what stands after the `#` of a comment that is asked for by a text, with its `#` or without
+abbrev pub comment_text : Text → Text
+comment_text [] = []
+comment_text (c ∷ t) = if c == hash then t else space ∷ c ∷ t
 
 -- ---- the end of a path
 

@@ -1,7 +1,10 @@
 pub mod Same
 pub mod Outcomes
+pub mod Missing
 pub mod Effects
+pub mod Elements
 pub mod Moves
+pub mod FirstTable
 pub mod Slots
 pub mod Lists
 pub mod Along

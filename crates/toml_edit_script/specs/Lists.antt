@@ -1,10 +1,13 @@
 -- What a list of edits does to a tree.
-use Rattle.std.specs.Prelude.{◌≡◌, ◌⊎◌, List, [], ◌∷◌, take, slice_get, Some, Result, Ok, Err, string_bytes}
+use Rattle.std.specs.Prelude.{◌≡◌, ◌⊎◌, List, [], ◌∷◌, take, slice_get, Some, None, Result, Ok, Err, string_bytes}
 use Rattle.toml_edit_model.specs.Keys.{names}
 use Rattle.toml_edit_model.specs.Tree.{Tree}
 use Rattle.toml_edit_tree.specs.View.{value_view}
 use Rattle.toml_edit_script.specs.Effects as effects
 use Rattle.toml_edit_script.specs.Effects.{at_end, renamed}
+use Rattle.toml_edit_script.specs.Elements as elements
+use Rattle.toml_edit_script.specs.Elements.{on_kind}
+use Rattle.toml_edit_script.specs.FirstTable.{tabled}
 use Rattle.toml_edit_script.specs.Moves.{moved}
 use Rattle.toml_edit_script.specs.Outcomes.{and_then}
 use Rattle.toml_edit_script.specs.declared.edit.Edit.{Edit}
@@ -18,10 +21,17 @@ abbrev pub effect : Edit → Tree → Result Tree EditFault
 effect (edits.Set path v) t = effects.set path.items (value_view v) t
 effect (edits.Header path v) t = effects.headed path.items (value_view v) t
 effect (edits.Remove path) t = effects.removed (names path.items) t
-effect (edits.Append path v) t = effects.appended path.items (value_view v) t
+effect (edits.Append path v) t =
+    on_kind (elements.inserted None (value_view v)) (effects.appended path.items (value_view v) t) (names path.items) t
 effect (edits.Insert path v) t =
-    at_end (λ above k. effects.inserted_before above k.name (value_view v) t) path.items
-effect (edits.Take path v) t = effects.taken path.items (value_view v) t
+    at_end
+    (λ above k.
+    on_kind (elements.inserted (Some k.name) (value_view v))
+    (effects.inserted_before above k.name (value_view v) t) (names above) t)
+    path.items
+effect (edits.Take path v) t =
+    on_kind (elements.taken (value_view v)) (effects.taken path.items (value_view v) t) (names path.items) t
+effect (edits.Table path v) t = tabled path.items (value_view v) t
 effect (edits.Rename path u) t =
     at_end (λ above k. renamed above k (string_bytes u) t) (names path.items)
 effect (edits.Move path to) t = moved (names path.items) (names to.items) t

@@ -11,6 +11,7 @@ use Rattle.toml_edit_model.specs.Text.{Text, one, same_text}
 use Rattle.toml_edit_model.specs.Tree.{Node, Tree, is_value_node}
 use Rattle.toml_edit_edit_laws.specs.Commands.{item_at, remove_at}
 use Rattle.toml_edit_script.specs.Effects.{at_end, changed_at, on_table, renamed}
+use Rattle.toml_edit_script.specs.Elements.{moved_among, on_kind}
 use Rattle.toml_edit_script.specs.Outcomes.{and_then, of_answer}
 use Rattle.toml_edit_script.specs.declared.fault.EditFault.{EditFault}
 use Rattle.toml_edit_script.specs.declared.fault.EditFault.TheVariants.{NoSuchPath, WrongKind, Taken}
@@ -45,14 +46,18 @@ carried_over from above k target u t =
     (λ s. and_then (λ w. of_answer (remove_at from w)) (changed_at (put_in (carried u s)) target t))
     (slot_at above k t)
 
--- Below the same table a key is renamed. No table is moved into itself.
+-- below the same item: a key is renamed, an element of an array of tables moved among the others
+abbrev pub moved_beside : List Text → Text → Text → Tree → Result Tree EditFault
+moved_beside above k u t = on_kind (moved_among k u) (renamed above k u t) above t
+
+-- No table is moved into itself.
 abbrev pub moved : List Text → List Text → Tree → Result Tree EditFault
 moved from to t =
     at_end
     (λ above k.
     at_end
     (λ target u.
-    if pointwise same_text above target then renamed above k u t
+    if pointwise same_text above target then moved_beside above k u t
     else if starts_with same_text to from then Err WrongKind
     else carried_over from above k target u t)
     to)

@@ -1,16 +1,18 @@
 -- What edits leave of the printed statements of a steady tree: those at paths that they don't name.
-use Rattle.std.specs.Prelude.{◌≡◌, ◌⊎◌, true, false, List, [], ◌∷◌, ◌++◌, map, string_bytes, IsPermutation, None, Some, Ok, Result, Err}
+use Rattle.std.specs.Prelude.{◌≡◌, ◌⊎◌, Bool, true, false, List, [], ◌∷◌, ◌++◌, map, string_bytes, IsPermutation, None, Some, Ok, Result, Err}
+use Rattle.std.specs.List.{list_all}
+use Rattle.toml_edit_model.specs.Conversions.{formatted, new_table}
 use Rattle.toml_edit_model.specs.Fits.{FitsIn, is_steady_in}
-use Rattle.toml_edit_model.specs.HeaderOrder.{Visit}
-use Rattle.toml_edit_model.specs.Keys.{names}
-use Rattle.toml_edit_model.specs.Lists.{slot_list}
+use Rattle.toml_edit_model.specs.HeaderOrder.{Visit, visit_of}
+use Rattle.toml_edit_model.specs.Keys.{cleared_key, names}
+use Rattle.toml_edit_model.specs.Lists.{item_list, slot_list, slots_from}
 use Rattle.toml_edit_model.specs.Mode.{Mode}
-use Rattle.toml_edit_model.specs.Paths.{Path, to_key}
+use Rattle.toml_edit_model.specs.Paths.{Path, to_element, to_key}
 use Rattle.toml_edit_model.specs.Print.{lines_of, printed}
-use Rattle.toml_edit_model.specs.Slots.{lookup_slot}
+use Rattle.toml_edit_model.specs.Slots.{keyed, lookup_slot}
 use Rattle.toml_edit_model.specs.Text.{Text, is_empty, one}
-use Rattle.toml_edit_model.specs.Tree.{ArrayFields, IsWellMade, Items, Key, Node, SlotsAreWellMade, Tree, is_value_node, list}
-use Rattle.toml_edit_laws.specs.Locality.{has_block, is_plain_value}
+use Rattle.toml_edit_model.specs.Tree.{ArrayFields, Extent, InlineFields, IsWellMade, Items, Key, Node, Slots, SlotsAreWellMade, Tree, inline, is_value_node, list, tables}
+use Rattle.toml_edit_laws.specs.Locality.{element_count, has_block, is_plain_value}
 use Rattle.toml_edit_edit_laws.specs.CallsFit.{IsHarmlessBelow}
 use Rattle.toml_edit_edit_laws.specs.Commands.{item_at}
 use Rattle.toml_edit_edit_laws.specs.CommandLaws.{AreSpelled, NamesTable, is_scalar}
@@ -19,7 +21,9 @@ use Rattle.toml_edit_edit_laws.specs.PathEdits.{with_last}
 use Rattle.toml_edit_edit_laws.specs.Staying.{StaysButAt}
 use Rattle.toml_edit_tree.specs.View.{value_view}
 use Rattle.toml_edit.specs.Edited.{IsPlainValue}
-use Rattle.toml_edit_script.specs.Effects.{headed}
+use Rattle.toml_edit_script.specs.Effects.{changed_below, headed}
+use Rattle.toml_edit_script.specs.Elements.{inserted, is_tables_at}
+use Rattle.toml_edit_script.specs.FirstTable.{tabled}
 use Rattle.toml_edit_script.specs.Lists.{applied, effect}
 use Rattle.toml_edit_script.specs.Places.{place_of}
 use Rattle.toml_edit_script.specs.declared.edit.Edit.{Edit}
@@ -36,6 +40,7 @@ paths_of (edits.Remove path) = one (names path.items)
 paths_of (edits.Append path v) = one (names path.items)
 paths_of (edits.Insert path v) = one (names path.items)
 paths_of (edits.Take path v) = one (names path.items)
+paths_of (edits.Table path v) = one (names path.items)
 paths_of (edits.Rename path u) = names path.items ∷ one (with_last (string_bytes u) (names path.items))
 paths_of (edits.Move path to) = names path.items ∷ one (names to.items)
 paths_of (edits.Sort path) = one (names path.items)
@@ -65,6 +70,20 @@ AreSorts (e ∷ es) t = IsSort e t × ((u : Tree) → effect e t ≡ Ok u → Ar
 
 -- ---- which edits leave a steady tree
 
+-- ---- tables of the pairs of inline tables
+
+abbrev pub has_values : Slots → Bool
+has_values ss = list_all (λ s. is_value_node s.item) (slot_list ss)
+
+-- such a table as the walk enters it, as an element
+abbrev pub element_visit : Path → List Key → Slots → Visit
+element_visit p ks ss = visit_of p ks true new_table (slots_from (formatted (slot_list ss)))
+
+-- the same as the first element of an array below new keys
+abbrev pub first_visit : Path → List Key → Key → List Key → Slots → Visit
+first_visit p ks k [] ss = element_visit (to_element (to_key p k.name) 0) (ks ++ one (cleared_key k)) ss
+first_visit p ks k (j ∷ more) ss = first_visit (to_key p k.name) (ks ++ one (cleared_key k)) j more ss
+
 module _ (mode : Mode) where
   -- the root, a table whose header is printed, or one that has lines, as a dotted table has
   abbrev pub TakesLines : Visit → Type 0
@@ -82,7 +101,7 @@ module _ (mode : Mode) where
   -- where a key may be moved so: below its own table; or with a value, into another value or table
   pub data MayMove (t : Tree) (from to : List Text) : Type 0 where
     beside : (above : List Text) (k u : Text) → from ≡ above ++ one k → to ≡ above ++ one u
-        → MayMove t from to
+        → is_tables_at above t ≡ false → MayMove t from to
     into_value : (n old : Node) (target : List Text) (u : Text) → item_at from t ≡ Some n
         → is_plain_value n ≡ true → to ≡ target ++ one u → item_at target t ≡ Some old
         → is_value_node old ≡ true → MayMove t from to
@@ -90,13 +109,20 @@ module _ (mode : Mode) where
         → is_plain_value n ≡ true → to ≡ target ++ one u → NamesTable t target w → TakesLines w
         → MayMove t from to
 
-  -- What is put is well made and has a place. Of `header` no table is missing.
+  -- What is put is well made and has a place. Of `header` no table is missing. What is added to an
+  -- array of tables has no place of its own: see `ElementAddsTable`.
   abbrev pub IsLocal : Edit → Tree → Type 0
   IsLocal (edits.Set path v) t =
       IsPlainValue (value_view v) × ((below : List Key) × HasPlace t path.items below)
   IsLocal (edits.Header path v) t = IsPlainValue (value_view v) × HasPlace t path.items []
-  IsLocal (edits.Append path v) t = IsWellMade (value_view v)
-  IsLocal (edits.Insert path v) t = IsWellMade (value_view v)
+  IsLocal (edits.Append path v) t =
+      IsWellMade (value_view v) × (is_tables_at (names path.items) t ≡ false)
+  IsLocal (edits.Insert path v) t =
+      IsWellMade (value_view v)
+      × ((above : List Key) (k : Key) → path.items ≡ above ++ one k
+      → is_tables_at (names above) t ≡ false)
+  IsLocal (edits.Take path v) t = is_tables_at (names path.items) t ≡ false
+  IsLocal (edits.Table path v) t = ⊥
   IsLocal (edits.Move path to) t = MayMove t (names path.items) (names to.items)
   IsLocal _ t = Unit {0}
 
@@ -156,3 +182,23 @@ module _ (mode : Mode) where
       → NamesTable t (names path) w → lookup_slot k.name (slot_list w.slots) ≡ None
       → headed (path ++ (k ∷ j ∷ more)) v t ≡ Ok u
       → OneTableMore mode t u (to_key w.path k.name) (last_table w.path w.keys k j more v)
+
+  -- A table that is added at the end of an array of tables, whose pairs are values, is one more. It
+  -- has no position, so the tree is not steady then.
+  abbrev pub ElementAddsTable : Type 0
+  ElementAddsTable =
+      (t u : Tree) (path : List Text) (w : Visit) (k : Text) (l : Key) (e : Extent) (xs : Items)
+      (f : InlineFields) (ss : Slots) → SlotsAreWellMade t.slots → is_steady_in mode t ≡ true
+      → NamesTable t path w → lookup_slot k (slot_list w.slots) ≡ Some (keyed l (tables e xs))
+      → has_values ss ≡ true → changed_below (inserted None (inline f ss)) (path ++ one k) t ≡ Ok u
+      → let q = to_element (to_key w.path l.name) (element_count (item_list xs)) in
+      OneTableMore mode t u q (element_visit q (w.keys ++ one l) ss)
+
+  -- So is the first one of an array.
+  abbrev pub FirstAddsTable : Type 0
+  FirstAddsTable =
+      (t u : Tree) (path : List Key) (w : Visit) (k : Key) (more : List Key) (f : InlineFields)
+      (ss : Slots) → SlotsAreWellMade t.slots → is_steady_in mode t ≡ true
+      → NamesTable t (names path) w → lookup_slot k.name (slot_list w.slots) ≡ None
+      → has_values ss ≡ true → tabled (path ++ (k ∷ more)) (inline f ss) t ≡ Ok u
+      → OneTableMore mode t u (to_key w.path k.name) (first_visit w.path w.keys k more ss)

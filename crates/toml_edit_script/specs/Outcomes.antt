@@ -1,13 +1,15 @@
 -- What is done, or why it is refused.
-use Rattle.std.specs.Prelude.{◌≡◌, ◌⊎◌, Result, Ok, Err}
+use Rattle.std.specs.Prelude.{◌≡◌, ◌⊎◌, List, Result, Ok, Err}
+use Rattle.toml_edit_model.specs.Tree.{Node}
 use Rattle.toml_edit_edit_laws.specs.Commands.{Answer, done, refused, no_such_path, wrong_kind, taken}
 use Rattle.toml_edit_paths.specs.declared.fault.ChangeFault.{ChangeFault}
 use Rattle.toml_edit_paths.specs.declared.fault.ChangeFault.TheVariants as changes
 use Rattle.toml_edit_repr.specs.declared.comments.CommentFault.{CommentFault}
 use Rattle.toml_edit_repr.specs.declared.comments.CommentFault.TheVariants as comments
-use Rattle.toml_edit_tree.specs.Containers.{ArrayView}
-use Rattle.toml_edit_tree.specs.View.{array_view}
+use Rattle.toml_edit_tree.specs.Containers.{ArrayView, table_node}
+use Rattle.toml_edit_tree.specs.View.{array_view, table_view}
 use Rattle.toml_edit_tree.specs.declared.array.Array.{Array}
+use Rattle.toml_edit_tree.specs.declared.table.Table.{Table}
 use Rattle.toml_edit_script.specs.declared.fault.EditFault.{EditFault}
 use Rattle.toml_edit_script.specs.declared.fault.EditFault.TheVariants.{NoSuchPath, WrongKind, Taken, BadComment, Memory}
 
@@ -44,3 +46,13 @@ Makes meant old new (Err f) = ((f ≡ Memory) ⊎ (meant ≡ Err f)) × (new ≡
 abbrev pub FindsArray : Result ArrayView EditFault → Result Array EditFault → Type 0
 FindsArray meant (Ok a) = meant ≡ Ok (array_view a)
 FindsArray meant (Err f) = (f ≡ Memory) ⊎ (meant ≡ Err f)
+
+-- the table that is made, or why there is none
+abbrev pub FindsTable : Result Node EditFault → Result Table EditFault → Type 0
+FindsTable meant (Ok t) = meant ≡ Ok (table_node (table_view t))
+FindsTable meant (Err f) = (f ≡ Memory) ⊎ (meant ≡ Err f)
+
+-- the elements that are left, or why it is refused; then no matter what is left
+abbrev pub FindsElements : Result (List Node) EditFault → List Node → Result (Unit {0}) EditFault → Type 0
+FindsElements meant ns (Ok u) = meant ≡ Ok ns
+FindsElements meant ns (Err f) = (f ≡ Memory) ⊎ (meant ≡ Err f)

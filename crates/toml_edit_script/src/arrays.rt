@@ -1,5 +1,5 @@
-//! Edits of arrays, by the line.
-ghost use Rattle.std.specs.Prelude.{◌≡◌, ◌≤◌, IfOk, IfSome, IsSome, Ok, length};
+//! Edits of arrays, by the line, and of arrays of tables.
+ghost use Rattle.std.specs.Prelude.{◌≡◌, ◌≤◌, IfOk, IfSome, IsSome, None, Ok, Some, length};
 ghost use Rattle.toml_edit_model.specs.ArrayCalls.{value_at};
 ghost use Rattle.toml_edit_model.specs.Keys.{names};
 ghost use Rattle.toml_edit_tree.specs.Containers.{array_node};
@@ -8,16 +8,41 @@ ghost use Rattle.toml_edit_tree.specs.View.{array_view, value_view};
 ghost use Rattle.toml_edit.specs.DocumentView.{IsPrintedAs, tree_owned};
 ghost use Rattle.toml_edit_script.specs.Effects as effects;
 ghost use Rattle.toml_edit_script.specs.Effects.{at_end};
+ghost use Rattle.toml_edit_script.specs.Elements as elements;
+ghost use Rattle.toml_edit_script.specs.Elements.{on_kind};
 ghost use Rattle.toml_edit_script.specs.Outcomes.{FindsArray, Makes};
 
+use crate::elements::{append_table, has_tables, insert_table, take_table};
 use crate::fault::EditFault;
 use crate::same::same_value;
 use std::alloc::{AllocError, Global};
 use toml_edit::{Array, DocumentMut, Key, Mem, Value};
 use toml_edit_paths::number_of;
 
-/// Adds a value at the end of the array at the path, with a line where the others have one.
+/// Adds a value at the end of the array at the path, with a line where the others have one, or a
+/// table at the end of the array of tables there.
 pub(crate) fn append(
+    alloc: Global,
+    document: &mut DocumentMut,
+    path: &[Key],
+    value: &Value,
+) -> Result<(), EditFault>
+    ensures makes { Makes
+        (on_kind (elements.inserted None (value_view value.now))
+        (effects.appended path.now (value_view value.now) (tree_owned document.old))
+        (names path.now) (tree_owned document.old))
+        (tree_owned document.old) (tree_owned document.new) result }
+    ensures printed { IsPrintedAs document.new document.old }
+{
+    if has_tables(document, path) {
+        append_table(alloc, document, path, value)
+    } else {
+        append_value(alloc, document, path, value)
+    }
+}
+
+/// Adds a value at the end of the array at the path.
+fn append_value(
     alloc: Global,
     document: &mut DocumentMut,
     path: &[Key],
@@ -33,7 +58,8 @@ pub(crate) fn append(
     Ok(document.set_at(path, Value::from(array))?)
 }
 
-/// Inserts a value before the element at the path, with a line where the others have one.
+/// Inserts a value before the element at the path, with a line where the others have one, or a
+/// table.
 pub(crate) fn insert(
     alloc: Global,
     document: &mut DocumentMut,
@@ -41,8 +67,10 @@ pub(crate) fn insert(
     value: &Value,
 ) -> Result<(), EditFault>
     ensures makes { Makes
-        (at_end (λ above k. effects.inserted_before above k.name (value_view value.now)
-        (tree_owned document.old)) path.now)
+        (at_end (λ above k.
+        on_kind (elements.inserted (Some k.name) (value_view value.now))
+        (effects.inserted_before above k.name (value_view value.now) (tree_owned document.old))
+        (names above) (tree_owned document.old)) path.now)
         (tree_owned document.old) (tree_owned document.new) result }
     ensures printed { IsPrintedAs document.new document.old }
 {
@@ -52,8 +80,30 @@ pub(crate) fn insert(
     }
 }
 
-/// Inserts a value before the element of this number.
+/// Inserts a value or a table before the element of this number.
 fn insert_before(
+    alloc: Global,
+    document: &mut DocumentMut,
+    path: &[Key],
+    number: &Key,
+    value: &Value,
+) -> Result<(), EditFault>
+    ensures makes { Makes
+        (on_kind (elements.inserted (Some number.now.name) (value_view value.now))
+        (effects.inserted_before path.now number.now.name (value_view value.now)
+        (tree_owned document.old)) (names path.now) (tree_owned document.old))
+        (tree_owned document.old) (tree_owned document.new) result }
+    ensures printed { IsPrintedAs document.new document.old }
+{
+    if has_tables(document, path) {
+        insert_table(alloc, document, path, number.get(), value)
+    } else {
+        insert_value(alloc, document, path, number, value)
+    }
+}
+
+/// Inserts a value before the element of this number.
+fn insert_value(
     alloc: Global,
     document: &mut DocumentMut,
     path: &[Key],
@@ -67,7 +117,7 @@ fn insert_before(
     ensures printed { IsPrintedAs document.new document.old }
 {
     let array = array_at(alloc, document, path)?;
-    let Some(at) = place_up_to(number, array.len()) else {
+    let Some(at) = place_up_to(number.get(), array.len()) else {
         drop(array);
         return Err(EditFault::NoSuchPath);
     };
@@ -75,8 +125,30 @@ fn insert_before(
     Ok(document.set_at(path, Value::from(array))?)
 }
 
-/// Removes the first equal value of the array at the path, with its line.
+/// Removes the first equal value of the array at the path, with its line, or the first equal table
+/// of the array of tables there.
 pub(crate) fn take(
+    alloc: Global,
+    document: &mut DocumentMut,
+    path: &[Key],
+    value: &Value,
+) -> Result<(), EditFault>
+    ensures makes { Makes
+        (on_kind (elements.taken (value_view value.now))
+        (effects.taken path.now (value_view value.now) (tree_owned document.old))
+        (names path.now) (tree_owned document.old))
+        (tree_owned document.old) (tree_owned document.new) result }
+    ensures printed { IsPrintedAs document.new document.old }
+{
+    if has_tables(document, path) {
+        take_table(alloc, document, path, value)
+    } else {
+        take_value(alloc, document, path, value)
+    }
+}
+
+/// Removes the first equal value of the array at the path, with its line.
+fn take_value(
     alloc: Global,
     document: &mut DocumentMut,
     path: &[Key],
@@ -156,12 +228,12 @@ fn without_line(mut array: Array, at: usize) -> Mem<Array>
     }
 }
 
-/// Returns the number that the key is, if it is at most the count.
-fn place_up_to(number: &Key, count: usize) -> Option<usize>
-    ensures place { result ≡ effects.place_up_to count number.now.name }
+/// Returns the number that the text is, if it is at most the count.
+pub(crate) fn place_up_to(number: &str, count: usize) -> Option<usize>
+    ensures place { result ≡ effects.place_up_to count number.now }
     ensures within { IfSome result (λ at. at ≤ count) }
 {
-    match number_of(number.get()) {
+    match number_of(number) {
         Some(at) if at <= count => Some(at),
         _ => None,
     }

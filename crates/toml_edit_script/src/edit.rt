@@ -10,19 +10,24 @@ pub enum Edit {
     Header(Vec<Key>, Value),
     /// Removes the item at the path.
     Remove(Vec<Key>),
-    /// Adds a value at the end of the array at the path, with a line where the others have one.
+    /// Adds a value at the end of the array at the path, with a line where the others have one. To
+    /// an array of tables it adds a table of the pairs of an inline table.
     Append(Vec<Key>, Value),
     /// Inserts a value before the element at the path, with a line where the others have one. The
-    /// number after the last element is its end.
+    /// number after the last element is its end. Into an array of tables it inserts a table.
     Insert(Vec<Key>, Value),
     /// Removes the first value of the array at the path that is equal, with its line and the
-    /// comment on it.
+    /// comment on it; of an array of tables the first table that has the meaning of an inline table.
     Take(Vec<Key>, Value),
+    /// Adds a table of the pairs of an inline table at the end of the array of tables at the path,
+    /// which it makes where nothing is.
+    Table(Vec<Key>, Value),
     /// Gives the key at the end of the path another name.
     Rename(Vec<Key>, String),
-    /// Moves the key at the end of the first path, with its item, to the second path.
+    /// Moves the key at the end of the first path, with its item, to the second path; or an element
+    /// of an array of tables to another place in it.
     Move(Vec<Key>, Vec<Key>),
-    /// Sorts the keys of the table at the path by their names.
+    /// Sorts the keys of the table at the path, which may be the root, by their names.
     Sort(Vec<Key>),
     /// Sets the comment after the value or the header at the path, or removes it if the text is
     /// empty.
@@ -39,6 +44,7 @@ impl Edit {
             Edit::Append(_, _) => "append",
             Edit::Insert(_, _) => "insert",
             Edit::Take(_, _) => "take",
+            Edit::Table(_, _) => "table",
             Edit::Rename(_, _) => "rename",
             Edit::Move(_, _) => "move",
             Edit::Sort(_) => "sort",
@@ -55,6 +61,7 @@ impl Edit {
             Edit::Append(path, _) => path.as_slice(),
             Edit::Insert(path, _) => path.as_slice(),
             Edit::Take(path, _) => path.as_slice(),
+            Edit::Table(path, _) => path.as_slice(),
             Edit::Rename(path, _) => path.as_slice(),
             Edit::Move(path, _) => path.as_slice(),
             Edit::Sort(path) => path.as_slice(),

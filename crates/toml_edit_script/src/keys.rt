@@ -1,7 +1,8 @@
 //! Edits of keys: their names, their order and the comments on their lines.
-ghost use Rattle.std.specs.Prelude.{◌≡◌};
+ghost use Rattle.std.specs.Prelude.{◌≡◌, ◌∷◌, IfOk, string_bytes};
 ghost use Rattle.std.specs.Option.{option_copied};
 ghost use Rattle.toml_edit_model.specs.Keys.{names};
+ghost use Rattle.toml_edit_model.specs.Text.{space};
 ghost use Rattle.toml_edit_tree.specs.Containers.{inline_node, table_node};
 ghost use Rattle.toml_edit_tree.specs.Indexed.{shown_slots};
 ghost use Rattle.toml_edit_tree.specs.View.{fields_view, inline_view, item_view, table_view, value_view};
@@ -14,7 +15,7 @@ use crate::along::open_along;
 use crate::fault::EditFault;
 use std::alloc::Global;
 use std::mem;
-use toml_edit::{DocumentMut, InlineTable, Item, Key, Renamed, Slots, Table, Value};
+use toml_edit::{DocumentMut, InlineTable, Item, Key, Mem, Renamed, Slots, Table, Value};
 
 /// Gives the key at the end of the path another name.
 pub(crate) fn rename(document: &mut DocumentMut, path: &[Key], name: &str) -> Result<(), EditFault>
@@ -85,17 +86,29 @@ fn rename_slot(slots: &mut Slots<Item>, from: &str, to: &str) -> Result<(), Edit
     }
 }
 
-/// Sorts the keys of the table at the path by their names.
+/// Sorts the keys of the table at the path, or of the root, by their names.
 pub(crate) fn sort(alloc: Global, document: &mut DocumentMut, path: &[Key]) -> Result<(), EditFault>
     ensures makes { Makes (effects.sorted (names path.now) (tree_owned document.old))
         (tree_owned document.old) (tree_owned document.new) result }
     ensures printed { IsPrintedAs document.new document.old }
 {
+    if path.is_empty() {
+        return sort_root(alloc, document.as_table_mut());
+    }
     open_along(document.as_item(), path);
     match document.change_at(path, |item| sort_item(alloc, item)) {
         Some(done) => done,
         None => Err(EditFault::NoSuchPath),
     }
+}
+
+/// Sorts the keys of the table, which keeps what it has beside them.
+fn sort_root(alloc: Global, table: &mut Table) -> Result<(), EditFault>
+    ensures makes { Makes (in_order (table_node (table_view table.old)))
+        (table_node (table_view table.old)) (table_node (table_view table.new)) result }
+    ensures fields { fields_view table.new ≡ fields_view table.old }
+{
+    sort_table(alloc, table)
 }
 
 /// Sorts the keys of the item, if it is a table or an inline table.
@@ -191,4 +204,35 @@ fn body_of(text: &str) -> Option<&str>
     ensures { option_copied result ≡ effects.body_of text.now }
 {
     if text.is_empty() { None } else { Some(text) }
+}
+
+/// Returns what stands after the `#` of a comment that is asked for by this text, as
+/// [`Edit::Comment`](crate::Edit::Comment) wants it.
+///
+/// A text that begins with `#` is the comment as it stands, and any other is put behind `# `. The
+/// empty text asks for no comment, and so does a `#` alone.
+///
+/// # Errors
+///
+/// Returns an `AllocError` if out of memory.
+pub fn comment_text(alloc: Global, text: &str) -> Mem<String>
+    ensures { IfOk result (λ made. string_bytes made ≡ effects.comment_text text.now) }
+{
+    if text.is_empty() {
+        return Ok(String::new(alloc));
+    }
+    match text.strip_prefix('#') {
+        Some(rest) => String::from_str(alloc, rest),
+        None => spaced(alloc, text),
+    }
+}
+
+/// Returns the text behind a space.
+fn spaced(alloc: Global, text: &str) -> Mem<String>
+    ensures { IfOk result (λ made. string_bytes made ≡ space ∷ text.now) }
+{
+    let mut made = String::new(alloc);
+    made.push(' ')?;
+    made.push_str(text)?;
+    Ok(made)
 }

@@ -1,7 +1,7 @@
 //! Laws of what edits leave.
 ghost use Rattle.toml_edit_model.specs.Mode.{Mode};
 ghost use Rattle.toml_edit_script.specs.LinesStay.{InsertedLines, RemovedLines};
-ghost use Rattle.toml_edit_script.specs.OthersStay.{AppliedStay, HeaderAddsTable};
+ghost use Rattle.toml_edit_script.specs.OthersStay.{AppliedStay, ElementAddsTable, FirstAddsTable, HeaderAddsTable};
 
 /// Where the values of an array have lines of their own, the print of the array after a value is
 /// inserted with its line, by [`Edit::Append`](crate::Edit::Append) or
@@ -28,4 +28,12 @@ pub fn others_stay()
 /// steady tree as they were, and adds one table: its header and the line of the value.
 pub fn header_adds()
     ensures table { (mode : Mode) → HeaderAddsTable mode }
+{}
+
+/// An [`Edit::Append`](crate::Edit::Append) to an array of tables, and an
+/// [`Edit::Table`](crate::Edit::Table), leave all statements of a steady tree as they were, and add
+/// one table: its header and the lines of the pairs.
+pub fn element_adds()
+    ensures last { (mode : Mode) → ElementAddsTable mode }
+    ensures first { (mode : Mode) → FirstAddsTable mode }
 {}

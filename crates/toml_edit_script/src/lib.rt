@@ -4,14 +4,18 @@
 mod along;
 mod arrays;
 mod edit;
+mod elements;
 mod fault;
+mod first_table;
 mod keys;
 pub mod laws;
+mod missing;
 mod moves;
 mod same;
 mod script;
 
 pub use edit::Edit;
 pub use fault::{EditFault, ScriptFault};
+pub use keys::comment_text;
 pub use same::same_value;
 pub use script::{apply, apply_edit};

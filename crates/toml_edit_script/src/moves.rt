@@ -9,11 +9,12 @@ ghost use Rattle.toml_edit_tree.specs.View.{fields_view, item_view, items_view, 
 ghost use Rattle.toml_edit.specs.DocumentView.{IsPrintedAs, tree_owned};
 ghost use Rattle.toml_edit_script.specs.Effects.{changed_at, on_table};
 ghost use Rattle.toml_edit_script.specs.Moves as moves;
-ghost use Rattle.toml_edit_script.specs.Moves.{put_in, slots_with};
+ghost use Rattle.toml_edit_script.specs.Moves.{moved_beside, put_in, slots_with};
 ghost use Rattle.toml_edit_script.specs.Outcomes.{Makes};
 ghost use Rattle.toml_edit_script.specs.Slots.{FindsSlot, shown_slot};
 
 use crate::along::open_along;
+use crate::elements::{has_tables, move_table};
 use crate::fault::EditFault;
 use crate::keys::rename_at;
 use std::alloc::Global;
@@ -21,7 +22,8 @@ use toml_edit::{ArrayOfTables, DocumentMut, Item, Key, Mem, Refused, Slot, Slots
 
 /// Moves the key at the end of a path, with its item and its decors, to the end of another path.
 ///
-/// Below the same table it is renamed, and keeps its place. Below another one it comes last, and
+/// Below the same table it is renamed, and keeps its place. An element of an array of tables is given
+/// another place in it. Below another one it comes last, and
 /// the headers of its tables are printed there.
 pub(crate) fn relocate(
     alloc: Global,
@@ -38,7 +40,7 @@ pub(crate) fn relocate(
         return Err(EditFault::NoSuchPath);
     };
     if above == target {
-        return rename_at(document, above, last.get(), name.get());
+        return move_beside(alloc, document, above, last.get(), name.get());
     }
     if to.starts_with(from) {
         return Err(EditFault::WrongKind);
@@ -48,6 +50,27 @@ pub(crate) fn relocate(
     match document.remove_at(from) {
         Ok(()) => Ok(()),
         Err(_) => Err(EditFault::NoSuchPath),
+    }
+}
+
+/// Gives a key of the item at the path another name, or an element of an array of tables there
+/// another place.
+fn move_beside(
+    alloc: Global,
+    document: &mut DocumentMut,
+    path: &[Key],
+    from: &str,
+    to: &str,
+) -> Result<(), EditFault>
+    ensures makes { Makes
+        (moved_beside (names path.now) from.now to.now (tree_owned document.old))
+        (tree_owned document.old) (tree_owned document.new) result }
+    ensures printed { IsPrintedAs document.new document.old }
+{
+    if has_tables(document, path) {
+        move_table(alloc, document, path, from, to)
+    } else {
+        rename_at(document, path, from, to)
     }
 }
 
@@ -121,7 +144,11 @@ fn forget_items(items: &mut Vec<Item>)
 }
 
 /// Adds the slot to the table at the path.
-fn put_slot(document: &mut DocumentMut, path: &[Key], slot: Slot<Item>) -> Result<(), EditFault>
+pub(crate) fn put_slot(
+    document: &mut DocumentMut,
+    path: &[Key],
+    slot: Slot<Item>,
+) -> Result<(), EditFault>
     ensures makes { Makes
         (changed_at (put_in (shown_slot slot)) (names path.now) (tree_owned document.old))
         (tree_owned document.old) (tree_owned document.new) result }

@@ -12,13 +12,20 @@ ghost use Rattle.toml_edit_script.specs.Outcomes.{Makes};
 use crate::arrays::{append, insert, take};
 use crate::edit::Edit;
 use crate::fault::{EditFault, ScriptFault};
+use crate::first_table::add_table;
 use crate::keys::{comment, rename, sort};
 use crate::laws::others_stay;
+use crate::missing::{is_numbered, keys_there};
 use crate::moves::relocate;
 use std::alloc::Global;
 use toml_edit::{DocumentMut, Key, Value};
 
 /// Makes the edits, one after another, in the document.
+///
+/// They are made in one tree. A dotted table, or one that the header of another implies, stays in it
+/// when it has lost its last key, though it isn't printed any more. So a later edit of the list finds
+/// it, with its kind and its place, and one that is made in the text that was printed in between
+/// finds nothing there.
 ///
 /// # Errors
 ///
@@ -47,7 +54,7 @@ fn make_all(alloc: Global, document: &mut DocumentMut, edits: &[Edit]) -> Result
     Ok(())
 }
 
-/// Makes one edit in the document.
+/// Makes one edit in the document. [`apply`] says what a later one finds in it.
 ///
 /// # Errors
 ///
@@ -77,6 +84,7 @@ fn make(alloc: Global, document: &mut DocumentMut, edit: &Edit) -> Result<(), Ed
         Edit::Append(path, value) => append(alloc, document, path.as_slice(), value),
         Edit::Insert(path, value) => insert(alloc, document, path.as_slice(), value),
         Edit::Take(path, value) => take(alloc, document, path.as_slice(), value),
+        Edit::Table(path, value) => add_table(alloc, document, path.as_slice(), value),
         Edit::Rename(path, name) => rename(document, path.as_slice(), name.as_str()),
         Edit::Move(path, to) => relocate(alloc, document, path.as_slice(), to.as_slice()),
         Edit::Sort(path) => sort(alloc, document, path.as_slice()),
@@ -100,7 +108,8 @@ fn set(
     Ok(document.set_at(path, value)?)
 }
 
-/// Puts a copy of the value at the path, below headers where tables are missing.
+/// Puts a copy of the value at the path, below headers where tables are missing. None of them has a
+/// number in it, which is an element's.
 fn set_below_header(
     alloc: Global,
     document: &mut DocumentMut,
@@ -112,6 +121,10 @@ fn set_below_header(
         (tree_owned document.old) (tree_owned document.new) result }
     ensures printed { IsPrintedAs document.new document.old }
 {
+    let there = keys_there(document.as_item(), path);
+    if is_numbered(&path[there..]) {
+        return Err(EditFault::NoSuchPath);
+    }
     let value = value.clone(alloc)?;
     Ok(document.set_at_with_headers(path, value)?)
 }

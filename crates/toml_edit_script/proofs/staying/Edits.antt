@@ -11,7 +11,6 @@ use Rattle.toml_edit_model.specs.Print.{printed}
 use Rattle.toml_edit_model.specs.Text.{Text}
 use Rattle.toml_edit_model.specs.Tree.{IsWellMade, ItemsAreWellMade, Node, SlotsAreWellMade, Tree}
 use Rattle.toml_edit_edit_laws.specs.Commands.{set_at}
-use Rattle.toml_edit_edit_laws.specs.Headed.{set_at_with_headers}
 use Rattle.toml_edit_edit_laws.specs.PathEdits.{with_last}
 use Rattle.toml_edit_edit_laws.specs.Staying.{StaysButAt}
 use Rattle.toml_edit_edit_laws.proofs.path_calls.Staying.{nothing_changes, one_after_another}
@@ -20,6 +19,7 @@ use Rattle.toml_edit_tree.specs.Containers.{ArrayView}
 use Rattle.toml_edit_tree.specs.View.{value_view}
 use Rattle.toml_edit_script.specs.Effects as effects
 use Rattle.toml_edit_script.specs.Effects.{array_set, first_same, in_order, inserted_before, on_table, place_up_to, renamed, slots_renamed, values_of, with_comment}
+use Rattle.toml_edit_script.specs.Elements.{inserted, on_kind, taken}
 use Rattle.toml_edit_script.specs.Lists.{Applies, applied, effect, made_of}
 use Rattle.toml_edit_script.specs.OthersStay.{AppliedStay, IsLocal, IsSort, OthersStay, paths_of, places_of, where_done}
 use Rattle.toml_edit_script.specs.Places.{place_of}
@@ -35,7 +35,7 @@ use Rattle.toml_edit_script.proofs.staying.Below.{names-join}
 use Rattle.toml_edit_script.proofs.staying.Carrying.{move-stays, renamed-stays}
 use Rattle.toml_edit_script.proofs.staying.Comments.{commented-stays, within-at}
 use Rattle.toml_edit_script.proofs.staying.Fitting.{one-fits}
-use Rattle.toml_edit_script.proofs.staying.Effects.{at-end-was, last-is, was-changed, was-commented, was-sorted}
+use Rattle.toml_edit_script.proofs.staying.Effects.{at-end-was, headed-was, kind-was, last-is, was-changed, was-commented, was-sorted}
 use Rattle.toml_edit_script.proofs.staying.Removals.{line-removal-stays}
 use Rattle.toml_edit_script.proofs.staying.Sets.{header-stays, set-stays}
 use Rattle.toml_edit_script.proofs.staying.Sorting.{sort-rearranges, sorted-stays}
@@ -79,24 +79,30 @@ module _ (mode : Mode) (t u : Tree) (made : SlotsAreWellMade t.slots) (steady : 
       (answered (set_at path.items (value_view v) t) u h)
   one-stays (edits.Header path v) local h =
       header-stays mode t u path.items (value_view v) made steady local.0.0 local.0.1 local.1
-      (answered (set_at_with_headers path.items (value_view v) t) u h)
+      (headed-was path.items (value_view v) t u h)
   one-stays (edits.Remove path) local h =
       line-removal-stays mode t u (names path.items) made steady (answered (remove_line_at (names path.items) t) u h)
   one-stays (edits.Append path v) local h =
       within-at mode t u (names path.items)
       (array-stays mode t u path.items made steady (λ a. Ok (effects.with_line (length (values_of a)) (value_view v) a))
-      (λ a n w g. appended-made (value_view v) a n local w g) h)
+      (λ a n w g. appended-made (value_view v) a n local.0 w g)
+      (kind-was (inserted None (value_view v)) (effects.appended path.items (value_view v) t) (names path.items) t u local.1 h))
   one-stays (edits.Insert path v) local h =
-      let x = at-end-was (λ above k. inserted_before above k.name (value_view v) t) path.items u h in
+      let x = at-end-was
+      (λ above k.
+      on_kind (inserted (Some k.name) (value_view v)) (inserted_before above k.name (value_view v) t) (names above) t) path.items u h in
       let s = array-stays mode t u x.0 made steady
       (λ a. ok_or (option_map (λ i. effects.with_line i (value_view v) a) (place_up_to (length (values_of a)) x.1.name)) NoSuchPath)
-      (λ a n w g. inserted-made x.1.name (value_view v) a n local w g) x.3 in
+      (λ a n w g. inserted-made x.1.name (value_view v) a n local.0 w g)
+      (kind-was (inserted (Some x.1.name) (value_view v)) (inserted_before x.0 x.1.name (value_view v) t) (names x.0) t u (local.1 x.0 x.1 x.2) x.3) in
       subst (λ (q : List Text). StaysButAt mode (place_of t q ∷ []) t u) (sym (names-join x.0 (x.1 ∷ [])) ∙ ap names (sym x.2)) (s (x.1.name ∷ []))
   one-stays (edits.Take path v) local h =
       within-at mode t u (names path.items)
       (array-stays mode t u path.items made steady
       (λ a. ok_or (option_map (λ i. effects.without_line i a) (first_same (value_view v) (values_of a))) NoSuchElement)
-      (λ a n w g. taken-made (value_view v) a n w g) h)
+      (λ a n w g. taken-made (value_view v) a n w g)
+      (kind-was (taken (value_view v)) (effects.taken path.items (value_view v) t) (names path.items) t u local h))
+  one-stays (edits.Table path v) local h = absurd local
   one-stays (edits.Rename path name) local h =
       let x = at-end-was (λ above k. renamed above k (string_bytes name) t) (names path.items) u h in
       subst (λ (q : List Text). StaysButAt mode (place_of t (names path.items) ∷ place_of t q ∷ []) t u)

@@ -9,15 +9,19 @@ use Rattle.toml_edit_model.specs.Rearranging.{is_free, renamed_slot}
 use Rattle.toml_edit_model.specs.Slots.{Slot, has_slot}
 use Rattle.toml_edit_model.specs.Sorting.{sorted_slots}
 use Rattle.toml_edit_model.specs.Text.{Text}
-use Rattle.toml_edit_model.specs.Tree.{Node, Tree, inline, leaf, list, nothing, table, tables}
+use Rattle.toml_edit_model.specs.Tree.{Key, Node, Tree, inline, leaf, list, nothing, table, tables}
 use Rattle.toml_edit_edit_laws.specs.Commands.{done}
+use Rattle.toml_edit_edit_laws.specs.Headed.{set_at_with_headers}
 use Rattle.toml_edit_edit_laws.specs.PathEdits.{with_last}
+use Rattle.toml_edit_laws.proofs.common.Tests.{if-false}
 use Rattle.toml_edit_paths.specs.Calls.{replaced_at}
 use Rattle.toml_edit_repr.specs.Comments.{may_stand}
 use Rattle.toml_edit_slots.specs.Renaming.{renaming}
 use Rattle.toml_edit_slots.specs.declared.slots.rearrange.Renamed.{Renamed}
 use Rattle.toml_edit_slots.specs.declared.slots.rearrange.Renamed.TheVariants as renames
-use Rattle.toml_edit_script.specs.Effects.{at_end, body_of, changed_by, ended, if_may_stand, in_order, on_table, slots_renamed, told, with_comment}
+use Rattle.toml_edit_script.specs.Effects.{at_end, body_of, changed_below, changed_by, ended, headed, if_may_stand, in_order, on_table, slots_renamed, told, with_comment}
+use Rattle.toml_edit_script.specs.Elements.{is_tables_at, on_kind}
+use Rattle.toml_edit_script.specs.Missing.{is_numbered, unled}
 use Rattle.toml_edit_script.specs.Outcomes.{and_then, of_answer}
 use Rattle.toml_edit_script.specs.declared.fault.EditFault.{EditFault}
 use Rattle.toml_edit_script.specs.declared.fault.EditFault.TheVariants.{BadComment, NoSuchPath, WrongKind}
@@ -74,6 +78,22 @@ was-changed go path t u found h =
       goes = y.2;
       put = answered (replaced_at path x.0 t) u x.2;
     }
+
+-- ---- tables for a value
+
+pub headed-was : (path : List Key) (v : Node) (t u : Tree) → headed path v t ≡ Ok u → set_at_with_headers path v t ≡ done u
+headed-was path v t u h = answered (set_at_with_headers path v t) u (by_test (is_numbered (unled path t)) h)
+  where
+    by_test : (b : Bool) → (if b then Err NoSuchPath else of_answer (set_at_with_headers path v t)) ≡ Ok u
+        → of_answer (set_at_with_headers path v t) ≡ Ok u
+    by_test true g = absurd cc
+    by_test false g = g
+
+-- ---- by the kind of an item
+
+pub kind-was : (go : Node → Result Node EditFault) (other : Result Tree EditFault) (path : List Text) (t u : Tree)
+    → is_tables_at path t ≡ false → on_kind go other path t ≡ Ok u → other ≡ Ok u
+kind-was go other path t u is h = sym (if-false (is_tables_at path t) (changed_below go path t) other is) ∙ h
 
 -- ---- a renaming
 

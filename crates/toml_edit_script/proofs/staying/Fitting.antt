@@ -8,7 +8,6 @@ use Rattle.toml_edit_model.specs.Text.{Text}
 use Rattle.toml_edit_model.specs.Tree.{IsWellMade, Key, Node, SlotsAreWellMade, Tree}
 use Rattle.toml_edit_laws.specs.Locality.{is_plain_value}
 use Rattle.toml_edit_edit_laws.specs.Commands.{done, item_at, mapped, remove_below, root_item, set_at, with_slots}
-use Rattle.toml_edit_edit_laws.specs.Headed.{set_at_with_headers}
 use Rattle.toml_edit_edit_laws.proofs.commands.Setting.{was-mapped}
 use Rattle.toml_edit_edit_laws.proofs.fitting_inside.Calls.{remove_fits, set_adds_after_lines_fits, set_adds_under_fits, set_replaces_fits}
 use Rattle.toml_edit_paths.specs.Lines.{remove_line_at, remove_line_below}
@@ -18,6 +17,7 @@ use Rattle.toml_edit_script.specs.OthersStay.{HasPlace, IsHarmless, IsHarmlessAt
 use Rattle.toml_edit_script.specs.declared.edit.Edit.{Edit}
 use Rattle.toml_edit_script.specs.declared.edit.Edit.TheVariants as edits
 use Rattle.toml_edit_script.proofs.MoveLaws.{answered}
+use Rattle.toml_edit_script.proofs.staying.Effects.{headed-was}
 use Rattle.toml_edit_script.proofs.staying.Removals.{InArray, line-gone}
 use Rattle.toml_edit_script.proofs.staying.Sets.{no-headers}
 
@@ -45,7 +45,7 @@ module _ (mode : Mode) (t u : Tree) (made : SlotsAreWellMade t.slots) (steady : 
       put-fits path.items local.1.0 (value_view v) local.0.0 local.0.1 local.1.1 (answered (set_at path.items (value_view v) t) u h) fits harmless
   one-fits (edits.Header path v) local h fits harmless =
       put-fits path.items [] (value_view v) local.0.0 local.0.1 local.1
-      (sym (no-headers mode t (value_view v) path.items local.1) ∙ answered (set_at_with_headers path.items (value_view v) t) u h) fits harmless
+      (sym (no-headers mode t (value_view v) path.items local.1) ∙ headed-was path.items (value_view v) t u h) fits harmless
   one-fits (edits.Remove path) local h fits harmless =
       let root = was-mapped (with_slots t) (remove_line_below (names path.items) (root_item t)) u (answered (remove_line_at (names path.items) t) u h) in
       removed-fits (names path.items) root.from root.gives (line-gone (names path.items) (root_item t) root.from root.is)
@@ -53,6 +53,7 @@ module _ (mode : Mode) (t u : Tree) (made : SlotsAreWellMade t.slots) (steady : 
   one-fits (edits.Append path v) local h fits harmless = absurd harmless
   one-fits (edits.Insert path v) local h fits harmless = absurd harmless
   one-fits (edits.Take path v) local h fits harmless = absurd harmless
+  one-fits (edits.Table path v) local h fits harmless = absurd local
   one-fits (edits.Rename path name) local h fits harmless = absurd harmless
   one-fits (edits.Move path to) local h fits harmless = absurd harmless
   one-fits (edits.Sort path) local h fits harmless = absurd harmless

@@ -14,6 +14,7 @@ use Rattle.toml_edit_model.specs.Sorting.{sorted_item, sorted_slots}
 use Rattle.toml_edit_model.specs.Text.{Text}
 use Rattle.toml_edit_model.specs.Tree.{IsWellMade, Key, Node, Slots, SlotsAreWellMade, TableFields, Tree, inline, leaf, list, no_slots, nothing, slot, table, tables}
 use Rattle.toml_edit_laws.specs.Locality.{Leads, Turn, along, edited, into_element, into_table, is_at_or_below, outside, root_visit}
+use Rattle.toml_edit_laws.proofs.common.OptionSteps.{some-is}
 use Rattle.toml_edit_laws.proofs.common.PathLaws.{front-more, front-refl, front-through, is_front}
 use Rattle.toml_edit_laws.proofs.common.Tests.{if-false}
 use Rattle.toml_edit_laws.proofs.locality.Slots.{HaveOtherKeys, slot_list-from, slots_from-list, slots_under}
@@ -29,9 +30,9 @@ use Rattle.toml_edit_edit_laws.proofs.path_calls.Staying.{move_stays}
 use Rattle.toml_edit_edit_laws.proofs.placing.Inside.{moved_inside}
 use Rattle.toml_edit_edit_laws.proofs.placing.Moving.{moved_others}
 use Rattle.toml_edit_edit_laws.proofs.renaming.Along.{edited-same, edited-stays}
-use Rattle.toml_edit_paths.specs.Calls.{item_inside, replaced_at}
+use Rattle.toml_edit_paths.specs.Calls.{replaced_at}
 use Rattle.toml_edit_script.specs.Effects.{in_order, sorted}
-use Rattle.toml_edit_script.proofs.staying.Effects.{WasChanged, was-changed, was-sorted}
+use Rattle.toml_edit_script.proofs.staying.Effects.{was-changed, was-sorted}
 use Rattle.toml_edit_script.proofs.staying.Words.{IsSorted, SortedStays, StaysAt}
 use Rattle.toml_edit_script.proofs.staying.Below.{below-made}
 use Rattle.toml_edit_script.proofs.staying.Comments.{apart, made-so, within-at}
@@ -252,28 +253,34 @@ module _ (mode : Mode) (t u : Tree) (k : Text) (rest : List Text) (made : SlotsA
   by_node (tables e xs) m w there is put = absurd is
   by_node nothing m w there is put = absurd is
 
+-- the root
+root-stays : (mode : Mode) (t u : Tree) (n m : Node) → SlotsAreWellMade t.slots → is_steady_in mode t ≡ true → item_at [] t ≡ Some n
+    → IsSorted n m → replaced_at [] m t ≡ done u → StaysAt mode t u []
+root-stays mode t u n m made steady there is put =
+    let zs : List (Slot Node) = sorted_slots is_dotted_table t.slots in
+    let v : Visit = root_visit t in
+    let new : IsSorted (root_item t) m = subst (λ x. IsSorted x m) (sym (some-is (root_item t) n there)) is in
+    let left : u ≡ edited [] (λ _. zs) t =
+    table-left t u [] v (λ _. zs) made (record { way = []; goes = tt; leads = refl }) (ap (λ x. replaced_at [] x t) (sym new) ∙ put) in
+    subst (StaysButAt mode ([] ∷ []) t) (sym left)
+    (finish mode [] is_dotted_table t.slots t [] v refl (front-refl [])
+    (deep-slots mode [] t.slots [] t [] v made steady refl (front-refl []) refl)).others
+
 pub sorted-stays : (mode : Mode) → SortedStays mode
-sorted-stays mode t u [] n m made steady there is put = absurd cc
+sorted-stays mode t u [] n m made steady there is put = root-stays mode t u n m made steady there is put
 sorted-stays mode t u (k ∷ rest) n m made steady there is put =
     by_node mode t u k rest made steady n m (below-made (k ∷ rest) (root_item t) n made there) there is put
 
 pub sort-rearranges : (mode : Mode) (t u : Tree) (path : List Text) (v : Visit) → SlotsAreWellMade t.slots → is_steady_in mode t ≡ true
     → NamesTable t path v → sorted path t ≡ Ok u → IsPermutation (printed mode t) (printed mode u)
-sort-rearranges mode t u path v made steady named h = by_path path refl (was-changed in_order path t u (item_inside path (root_item t)) h)
-  where
-    old-is : (n : Node) → ◌≡◌ {A = Option Node} (Some (table v.fields v.slots)) (Some n) → n ≡ table v.fields v.slots
-    old-is n e = cc
-
-    by_path : (p : List Text) → path ≡ p → WasChanged in_order p t u (item_inside p (root_item t)) → IsPermutation (printed mode t) (printed mode u)
-    by_path [] e x = absurd (let there : ◌≡◌ {A = Option Node} None (Some x.old) = x.there in cc)
-    by_path (k ∷ rest) e x =
-        let on : NamesTable t (k ∷ rest) v = subst (λ p. NamesTable t p v) e named in
-        let zs : List (Slot Node) = sorted_slots is_dotted_table v.slots in
-        let old : x.old ≡ table v.fields v.slots = old-is x.old (sym (item-along on.way (k ∷ rest) (root_visit t) v on.goes on.leads) ∙ x.there) in
-        let new : IsSorted (table v.fields v.slots) x.new = subst (λ n. IsSorted n x.new) old (was-sorted x.old x.new x.goes) in
-        let is : u ≡ edited on.way (λ _. zs) t =
-        table-left t u (k ∷ rest) v (λ _. zs) made on (ap (λ m. replaced_at (k ∷ rest) m t) (sym new) ∙ x.put) in
-        let front : is_front v.path v.path ≡ true = front-refl v.path in
-        subst (λ w. IsPermutation (printed mode t) (printed mode w)) (sym is)
-        (finish mode v.path is_dotted_table v.slots t on.way v on.leads front
-        (deep-slots mode v.path v.slots [] t on.way v made steady on.leads front refl)).same
+sort-rearranges mode t u path v made steady on h =
+    let x = was-changed in_order path t u (item_at path t) h in
+    let zs : List (Slot Node) = sorted_slots is_dotted_table v.slots in
+    let old : x.old ≡ table v.fields v.slots =
+    sym (some-is (table v.fields v.slots) x.old (sym (item-along on.way path (root_visit t) v on.goes on.leads) ∙ x.there)) in
+    let new : IsSorted (table v.fields v.slots) x.new = subst (λ n. IsSorted n x.new) old (was-sorted x.old x.new x.goes) in
+    let is : u ≡ edited on.way (λ _. zs) t = table-left t u path v (λ _. zs) made on (ap (λ m. replaced_at path m t) (sym new) ∙ x.put) in
+    let front : is_front v.path v.path ≡ true = front-refl v.path in
+    subst (λ w. IsPermutation (printed mode t) (printed mode w)) (sym is)
+    (finish mode v.path is_dotted_table v.slots t on.way v on.leads front
+    (deep-slots mode v.path v.slots [] t on.way v made steady on.leads front refl)).same

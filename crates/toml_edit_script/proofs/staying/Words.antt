@@ -88,7 +88,7 @@ module _ (mode : Mode) where
   abbrev pub SortedStays : Type 0
   SortedStays =
       (t u : Tree) (path : List Text) (n m : Node) → SlotsAreWellMade t.slots → is_steady_in mode t ≡ true
-      → item_inside path (root_item t) ≡ Some n → IsSorted n m → replaced_at path m t ≡ done u → StaysAt t u path
+      → item_at path t ≡ Some n → IsSorted n m → replaced_at path m t ≡ done u → StaysAt t u path
 
   -- a slot with a value comes last in a table or an inline table, and another item goes
   abbrev pub Room : Tree → List Text → Node → Type 0

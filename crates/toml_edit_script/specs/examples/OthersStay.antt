@@ -11,7 +11,8 @@ use Rattle.toml_edit_model.specs.Text.{Text}
 use Rattle.toml_edit_model.specs.Tree.{Key, Node, Slots, Tree, is_value_node, no_items, no_slots, owned, slot, table}
 use Rattle.toml_edit_model.specs.examples.Parts.{plain_int, plain_list}
 use Rattle.toml_edit_laws.specs.Locality as locality
-use Rattle.toml_edit_laws.specs.Locality.{is_plain_value}
+use Rattle.toml_edit_laws.specs.Locality.{is_plain_value, root_visit}
+use Rattle.toml_edit_tree.specs.declared.value.Value.{Value}
 use Rattle.toml_edit_edit_laws.specs.Commands.{item_at}
 use Rattle.toml_edit_edit_laws.specs.CommandLaws.{NamesTable}
 use Rattle.toml_edit_script.specs.OthersStay.{HasPlace, IsHarmless, IsHarmlessAt, IsLocal, IsSort, MayMove, at_new_key, beside, in_value, into_table, paths_of, places_of}
@@ -72,7 +73,7 @@ x_stays n there flat =
     let c : is_plain_value (table new_table in_x) ≡ true = subst (λ m. is_plain_value m ≡ true) same flat in cc)
 
 x_gets_a_name : MayMove plain small (x ∷ []) (b ∷ [])
-x_gets_a_name = beside [] x b refl refl
+x_gets_a_name = beside [] x b refl refl refl
 
 -- the root is no place
 root_is_no_place : HasPlace plain small [] [] → ⊥
@@ -129,3 +130,10 @@ x_is_sorted path is = (visit_x, subst (λ p. NamesTable small p visit_x) (sym is
 
 removal_is_no_sort : (path : Vec Key Global) → IsSort (edits.Remove path) small → ⊥
 removal_is_no_sort path h = h
+
+root_is_sorted : (path : Vec Key Global) → names path.items ≡ [] → IsSort (edits.Sort path) small
+root_is_sorted path is = (root_visit small, subst (λ p. NamesTable small p (root_visit small)) (sym is) (record { way = []; goes = tt; leads = refl }))
+
+-- a table more is not local, as it has no position
+table_is_not_local : (path : Vec Key Global) (v : Value) → IsLocal plain (edits.Table path v) small → ⊥
+table_is_not_local path v h = h

@@ -6,27 +6,27 @@ use Rattle.toml_edit.specs.DocumentView.{tree_owned}
 use Rattle.std.specs.Prelude.{Ok, Err}
 use Rattle.toml_edit_edit_laws.specs.Commands.{no_such_path, remove_at}
 use Rattle.toml_edit_paths.specs.Changes.{Changes}
-use Rattle.toml_edit_script.specs.Effects.{changed_at, renamed}
-use Rattle.toml_edit_script.specs.Moves.{carried, moved, put_in, slot_at}
+use Rattle.toml_edit_script.specs.Effects.{changed_at}
+use Rattle.toml_edit_script.specs.Moves.{carried, moved, moved_beside, put_in, slot_at}
 use Rattle.toml_edit_script.specs.Slots.{shown_slot}
 use Rattle.toml_edit_script.specs.Outcomes.{Makes}
 use Rattle.toml_edit_script.proofs.OutcomeLaws.{err-means, names-last}
-use Rattle.toml_edit_script.proofs.MoveLaws.{is-inside, is-renamed, never-refused, not-found, not-put, put-and-removed, same-path, starts-path}
+use Rattle.toml_edit_script.proofs.MoveLaws.{is-inside, is-beside, never-refused, not-found, not-put, put-and-removed, same-path, starts-path}
 use Rattle.toml_edit_script.proofs.moves.relocate.Goals as goal
 
 pub returns-then-eq-clause-makes : goal.returns-then-eq-clause-makes
 returns-then-eq-clause-makes c =
     let t = tree_owned c.args.document.now in
-    let w = tree_owned c.rename_at.new.document in
+    let w = tree_owned c.move_beside.new.document in
     let p = c.in-Some-Some in
     let above = names p.above.now in
     let from-is : names c.args.from.now ≡ above ++ one p.last.now.name = ap names p.ensures.cases.0 ∙ names-last p.above.now p.last.now in
     let to-is : names c.args.to.now ≡ names p.target.now ++ one p.name.now.name = ap names p.ensures'.cases.0 ∙ names-last p.target.now p.name.now in
-    subst (λ m. Makes m t w c.rename_at.result)
-    (sym (is-renamed above p.last.now.name (names p.target.now) p.name.now.name t (names c.args.from.now) (names c.args.to.now) from-is to-is
+    subst (λ m. Makes m t w c.move_beside.result)
+    (sym (is-beside above p.last.now.name (names p.target.now) p.name.now.name t (names c.args.from.now) (names c.args.to.now) from-is to-is
     (sym (same-path p.above.now p.target.now) ∙ sym c.eq.ensures ∙ c.if-eq.true)))
-    (subst (λ (k : Text). Makes (renamed above k p.name.now.name t) t w c.rename_at.result) c.get.ensures.name
-    (subst (λ (k : Text). Makes (renamed above c.get.result.now k t) t w c.rename_at.result) c.get-then-eq.ensures.name c.rename_at.ensures.makes))
+    (subst (λ (k : Text). Makes (moved_beside above k p.name.now.name t) t w c.move_beside.result) c.get.ensures.name
+    (subst (λ (k : Text). Makes (moved_beside above c.get.result.now k t) t w c.move_beside.result) c.get-then-eq.ensures.name c.move_beside.ensures.makes))
 
 pub returns-then-starts_with-clause-makes : goal.returns-then-starts_with-clause-makes
 returns-then-starts_with-clause-makes c =
