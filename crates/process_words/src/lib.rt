@@ -5,34 +5,49 @@ use std::env::{Env, FillError};
 use std::io::ErrorKind;
 use std::{env, io};
 
-/// Returns the arguments after the program's name, or `None` if out of memory. Arguments that are no
-/// UTF-8 are no words.
-pub fn words_of(rt: &HostRuntime) -> Option<Vec<String>> {
-    match read_words(rt) {
-        Ok(words) => Some(words),
-        Err(error) if error.kind() == ErrorKind::OutOfMemory => None,
-        Err(_) => Some(Vec::new(rt.alloc())),
-    }
+/// Why the arguments are not known.
+#[derive(Clone, Copy, Debug, PartialEq, Eq)]
+pub enum WordsFault {
+    /// Out of memory.
+    Memory,
+    /// The argument of this number, from 1, is not UTF-8.
+    NotUtf8(usize),
 }
 
 /// Returns the arguments after the program's name.
-fn read_words(rt: &HostRuntime) -> io::Result<Vec<String>> {
+pub fn words_of(rt: &HostRuntime) -> Result<Vec<String>, WordsFault> {
     let mut words = Vec::new(rt.alloc());
-    for word in env::args(&(AfterName(rt), rt.alloc()))? {
-        words.push(word)?;
+    for number in 1..usize::MAX {
+        match word_at(rt, number) {
+            Ok(Some(word)) => {
+                if words.push(word).is_err() {
+                    return Err(WordsFault::Memory);
+                }
+            }
+            Ok(None) => break,
+            Err(error) if error.kind() == ErrorKind::OutOfMemory => return Err(WordsFault::Memory),
+            Err(_) => return Err(WordsFault::NotUtf8(number)),
+        }
     }
     Ok(words)
 }
 
-/// The environment of the host without the program's name, which need not be UTF-8 and is not read.
-#[derive(Drop)]
-struct AfterName<'a, R>(&'a R);
+/// Returns the argument of this number, if there is one.
+fn word_at(rt: &HostRuntime, number: usize) -> io::Result<Option<String>> {
+    let mut words = env::args(&(Only(rt, number), rt.alloc()))?;
+    Ok(words.next())
+}
 
-impl<R: Env> Env for AfterName<'_, R> {
+/// The environment of the host with one argument alone, since no other says which is not UTF-8.
+#[derive(Drop)]
+struct Only<'a, R>(&'a R, usize);
+
+impl<R: Env> Env for Only<'_, R> {
     fn arg(&self, i: usize, buf: &mut [u8]) -> Result<usize, FillError> {
-        match i.checked_add(1) {
-            Some(i) => self.0.arg(i, buf),
-            None => Err(FillError::NotPresent),
+        if i == 0 {
+            self.0.arg(self.1, buf)
+        } else {
+            Err(FillError::NotPresent)
         }
     }
 

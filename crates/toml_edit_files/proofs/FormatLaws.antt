@@ -1,6 +1,6 @@
 -- Files that are formatted.
-use Rattle.std.proofs.Common.{Bor, ◌≡◌, ℕ, ◌+◌, ◌<◌, Bool, true, false, List, [], ◌∷◌, ◌++◌, length, drop, get_or, map, refl, sym, ap, ◌∙◌, append_assoc, subst, inl, inr}
-use Rattle.std.specs.Prelude.{◌⊎◌, ◌&&◌, not, if◌then◌else◌, Option, Some, None, Result, Ok, Err, OnErr, flat_map}
+use Rattle.std.proofs.Common.{◌≡◌, ◌≢◌, ℕ, ◌+◌, ◌<◌, Bool, true, false, List, [], ◌∷◌, ◌++◌, length, drop, get_or, refl, sym, ap, ◌∙◌, subst, inl, inr}
+use Rattle.std.specs.Prelude.{◌⊎◌, ◌&&◌, not, if◌then◌else◌, Option, Some, None, Result, Ok, Err}
 use Rattle.std.proofs.lemmas.List.{drop_more}
 use Rattle.toml_edit.specs.DocumentView.{mode_owned, open_owned, print_of, tree_owned}
 use Rattle.toml_edit.specs.Documents.{opens}
@@ -14,18 +14,16 @@ use Rattle.toml_edit_model.specs.Print.{print_in}
 use Rattle.toml_edit_model.specs.Shown.{shown_meaning}
 use Rattle.toml_edit_model.specs.Syntax.{Document}
 use Rattle.toml_edit_model.specs.Tree.{Tree}
-use Rattle.toml_edit_replace.specs.Events.{Text, Event}
+use Rattle.toml_edit_replace.specs.Events.{Text}
 use Rattle.toml_edit_script.specs.Lists.{effect}
 use Rattle.toml_edit_script.specs.Outcomes.{and_then}
 use Rattle.toml_edit_script.specs.declared.edit.Edit.{Edit}
 use Rattle.toml_edit_script.specs.declared.fault.EditFault.{EditFault}
-use Rattle.toml_edit_script.specs.declared.fault.EditFault.TheVariants.{Memory, NoSuchPath}
+use Rattle.toml_edit_script.specs.declared.fault.EditFault.TheVariants.{Memory, NoSuchPath, WrongKind, NoSuchElement, Taken, BadComment}
 use Rattle.toml_edit_files.proofs.EditLaws.{left}
-use Rattle.toml_edit_files.specs.Edited.{IsLeft, IsRead, IsWritten, mark_of, mode_by}
-use Rattle.toml_edit_files.specs.Folders.{OnlyLooks}
-use Rattle.toml_edit_files.specs.FormatFiles.{ArePlanned, ArePut, ArePutBefore, IsFormatted, IsFormattedOnly, IsPlanned, IsPut, StopsFormatting, passing_over, formatted_by, rules_by, sorted_by, output_for}
-use Rattle.toml_edit_files.specs.Stops.{IsFor}
-use Rattle.toml_edit_files.specs.declared.fmt.Plan.{Plan}
+use Rattle.toml_edit_files.specs.Edited.{IsLeft, IsNotWritten, IsRead, IsWritten, mark_of, mode_by}
+use Rattle.toml_edit_files.specs.FormatFiles.{IsFormatted, IsFormattedOnly, passing_over, formatted_by, rules_by, sorted_by}
+use Rattle.toml_edit_files.specs.Stops.{reason_for}
 use Rattle.toml_edit_files.specs.declared.stop.Reason.{Reason}
 use Rattle.toml_edit_files.specs.declared.stop.Reason.TheVariants.{No, Mistaken, Failed, Refused}
 use Rattle.toml_edit_files.specs.declared.words.Reading.{Reading}
@@ -110,59 +108,22 @@ module _ (reading : Reading) (style : Style) (before : Text) (x : Tree) (is_open
     unsorted = only s w;
   }
 
--- ---- one more
+-- ---- reasons
 
-pub opened : {A : Type 0} (xs : List A) (i : ℕ) (x : A) → i < length xs → x ≡ get_or xs i x → drop i xs ≡ x ∷ drop (i + 1) xs
-opened xs i x below is = drop_more xs i x below ∙ ap (λ y. y ∷ drop (i + 1) xs) (sym is)
+-- no sort is refused as a file is
+pub unread_fault : (f : EditFault) → reason_for f ≢ Some Refused
+unread_fault Memory is = let no : None ≡ Some Refused = is in cc
+unread_fault NoSuchPath is = let no : Some No ≡ Some Refused = is in cc
+unread_fault NoSuchElement is = let no : Some No ≡ Some Refused = is in cc
+unread_fault WrongKind is = let no : Some Mistaken ≡ Some Refused = is in cc
+unread_fault Taken is = let no : Some Mistaken ≡ Some Refused = is in cc
+unread_fault BadComment is = let no : Some Mistaken ≡ Some Refused = is in cc
 
-module _ (check : Bool) (ps : List Plan) (i : ℕ) (p : Plan) (below : i < length ps) (is : p ≡ get_or ps i p) where
-  pub output_turn : (done all : Text) → done ++ flat_map (output_for check) (drop i ps) ≡ all
-      → (done ++ output_for check p) ++ flat_map (output_for check) (drop (i + 1) ps) ≡ all
-  output_turn done all so =
-      append_assoc done _ _ ∙ ap (λ (t : Text). done ++ t) (sym (ap (flat_map (output_for check)) (opened ps i p below is))) ∙ so
-
-module _ (reading : Reading) (style : Style) (fs : List (Bor Text)) (i : ℕ) (d : Bor Text) (p : Plan) (done : List Plan)
-    (start before after : Option (List Event)) (below : i < length fs) where
-  pub planned_turn : IsPlanned reading style (get_or fs i d).now p before after
-      → ((ps : List Plan) (new : Option (List Event)) → ArePlanned reading style (map (λ f. f.now) (drop i fs)) ps before new
-      → ArePlanned reading style (map (λ f. f.now) fs) (done ++ ps) start new)
-      → (ps : List Plan) (new : Option (List Event)) → ArePlanned reading style (map (λ f. f.now) (drop (i + 1) fs)) ps after new
-      → ArePlanned reading style (map (λ f. f.now) fs) ((done ++ (p ∷ [])) ++ ps) start new
-  planned_turn planned more ps new rest =
-      let now : Bor Text → Text = λ f. f.now in
-      let here : map now (drop i fs) ≡ (get_or fs i d).now ∷ map now (drop (i + 1) fs) = ap (map now) (drop_more fs i d below) in
-      subst (λ (qs : List Plan). ArePlanned reading style (map now fs) qs start new) (sym (append_assoc done (p ∷ []) ps))
-      (more (p ∷ ps) new (subst (λ (ns : List Text). ArePlanned reading style ns (p ∷ ps) before new) (sym here) (after, planned, rest)))
-
-module _ (p : Plan) (ps all : List Plan) (start before after : Option (List Event)) (put : IsPut p before after) where
-  pub put_turn : ((new : Option (List Event)) → ArePut (p ∷ ps) before new → ArePut all start new)
-      → (new : Option (List Event)) → ArePut ps after new → ArePut all start new
-  put_turn more new rest = more new (after, put, rest)
-
-  pub before_turn : ((new : Option (List Event)) → ArePutBefore (p ∷ ps) before new → ArePutBefore all start new)
-      → (new : Option (List Event)) → ArePutBefore ps after new → ArePutBefore all start new
-  before_turn more new rest = more new (inr (after, put, rest))
-
--- ---- what is left
-
-pub holds_on_err : {A E P : Type 0} (r : Result A E) → P → OnErr r P
-holds_on_err (Ok x) p = tt
-holds_on_err (Err e) p = p
-
-pub formats_looking : (old new : Option (List Event)) (why : Option Reason) → OnlyLooks old new → StopsFormatting old new why
-formats_looking old new None h = inl h
-formats_looking old new (Some Failed) h = inl h
-formats_looking old new (Some No) h = h
-formats_looking old new (Some Mistaken) h = h
-formats_looking old new (Some Refused) h = h
-
-pub formats_putting : (plans : List Plan) (old read new : Option (List Event)) (why : Option Reason) → IsFor Failed why
-    → OnlyLooks old read → ArePutBefore plans read new → StopsFormatting old new why
-formats_putting plans old read new None is h n = inr (read, plans, h, n)
-formats_putting plans old read new (Some Failed) is h n = inr (read, plans, h, n)
-formats_putting plans old read new (Some No) (inl is) h n = absurd (let never : Some No ≡ None = is in cc)
-formats_putting plans old read new (Some No) (inr is) h n = absurd (let never : Some No ≡ Some Failed = is in cc)
-formats_putting plans old read new (Some Mistaken) (inl is) h n = absurd (let never : Some Mistaken ≡ None = is in cc)
-formats_putting plans old read new (Some Mistaken) (inr is) h n = absurd (let never : Some Mistaken ≡ Some Failed = is in cc)
-formats_putting plans old read new (Some Refused) (inl is) h n = absurd (let never : Some Refused ≡ None = is in cc)
-formats_putting plans old read new (Some Refused) (inr is) h n = absurd (let never : Some Refused ≡ Some Failed = is in cc)
+-- nor what is written
+pub unread_written : (reading : Reading) (d : DocumentMut) (why : Option Reason) → IsNotWritten reading d why → why ≢ Some Refused
+unread_written reading d None h is = let no : None ≡ Some Refused = is in cc
+unread_written reading d (Some No) h is = let no : Some No ≡ Some Refused = is in cc
+unread_written reading d (Some Mistaken) h is = let no : Some Mistaken ≡ Some Refused = is in cc
+unread_written reading d (Some Failed) h is = let no : Some Failed ≡ Some Refused = is in cc
+unread_written reading d (Some Refused) (inl h) is = h
+unread_written reading d (Some Refused) (inr h) is = h.1

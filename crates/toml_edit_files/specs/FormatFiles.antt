@@ -1,6 +1,5 @@
 -- What `fmt` does with files.
-use Rattle.std.specs.Prelude.{◌≡◌, ◌⊎◌, Bool, true, false, not, ◌||◌, if◌then◌else◌, MatchBool, List, [], ◌∷◌, ◌++◌, flat_map, map, Option, Some, None, Result, Ok, Err, bytes_eq, codes, string_bytes}
-use Rattle.std.specs.List.{list_all}
+use Rattle.std.specs.Prelude.{◌≡◌, ◌⊎◌, Bool, true, false, not, ◌||◌, if◌then◌else◌, MatchBool, List, [], ◌∷◌, ◌++◌, Option, Result, Ok, Err, bytes_eq, codes}
 use Rattle.toml_edit_model.specs.Accepted.{AcceptedAs}
 use Rattle.toml_edit_model.specs.Shown.{shown_meaning}
 use Rattle.toml_edit_model.specs.Syntax.{Document}
@@ -16,12 +15,12 @@ use Rattle.toml_edit_script.specs.Outcomes.{and_then}
 use Rattle.toml_edit_script.specs.declared.edit.Edit.{Edit}
 use Rattle.toml_edit_script.specs.declared.fault.EditFault.{EditFault}
 use Rattle.toml_edit_script.specs.declared.fault.EditFault.TheVariants.{NoSuchPath}
-use Rattle.toml_edit_files.specs.Edited.{IsAccepted, IsLeft, IsRead, mark_of, mode_by, version_by}
-use Rattle.toml_edit_files.specs.Folders.{IsNoTextOf, IsTextOf, NotReplaced, OnlyLooks, Replaced, is_stream}
-use Rattle.toml_edit_files.specs.declared.fmt.Plan.{Plan}
-use Rattle.toml_edit_files.specs.declared.fmt.Plan.TheVariants.{Refused, Formatted}
+use Rattle.toml_edit_files.specs.Checks.{IsReadAsRefused}
+use Rattle.toml_edit_files.specs.Edited.{IsLeft, IsRead, mark_of, mode_by, version_by}
+use Rattle.toml_edit_files.specs.Folders.{IsHeld, IsPut, IsTextOf, Stops, is_stream}
+use Rattle.toml_edit_files.specs.Outcomes.{Tells, TellsWhy}
+use Rattle.toml_edit_files.specs.declared.told.Told.{Told}
 use Rattle.toml_edit_files.specs.declared.stop.Reason.{Reason}
-use Rattle.toml_edit_files.specs.declared.stop.Reason.TheVariants.{Failed}
 use Rattle.toml_edit_files.specs.declared.words.Fmt.{Fmt}
 use Rattle.toml_edit_files.specs.declared.words.Reading.{Reading}
 use Rattle.toml_edit_files.specs.declared.words.Style.{Style}
@@ -67,99 +66,41 @@ pub record IsFormatted (reading : Reading) (style : Style) (before s : Text) : T
   pub written : IsLeft reading [] (formatted_by reading style.keys before left) is_open before s
   pub unsorted : style.sorts.items ≡ [] → style.keys ≡ false → IsFormattedOnly reading before tree s
 
--- ---- what becomes of files
+-- ---- what becomes of a file
 
--- A text of a file is refused if the version does not accept it, and that of standard input never.
-abbrev pub IsPlanFor : Reading → Style → Text → Text → Plan → Type 0
-IsPlanFor reading style name before (Refused line) =
-    ¬ (IsAccepted (version_by reading) before) × (is_stream name ≡ false)
-IsPlanFor reading style name before (Formatted file old text) =
-    (file.now ≡ name) × (string_bytes old ≡ before)
-    × IsFormatted reading style before (string_bytes text)
+module _ (reading : Reading) (c : Fmt) (file : Text) (is_yes : Bool) (output : Text)
+    (old new : Option (List Event)) where
+  -- The formatted text replaces the one before, unless it is the same, or the file holds another text
+  -- by then.
+  pub record FormatsInPlace : Type 0 where
+    pub name : Text
+    pub before : Text
+    pub text : Text
+    pub read : Option (List Event)
+    pub held : IsHeld file name old read before
+    pub formatted : IsFormatted reading c.style before text
+    pub puts : IsPut c.force name before text read new
+    pub answer : (is_yes ≡ true) × (output ≡ [])
 
--- one that is no UTF-8 has none
-abbrev pub IsUnread : Text → Plan → Type 0
-IsUnread name (Refused line) = is_stream name ≡ false
-IsUnread name (Formatted file old text) = ⊥
+  -- Under `--check` it is asked whether they are the same, and else the text is written.
+  pub record FormatsElsewhere : Type 0 where
+    pub before : Text
+    pub text : Text
+    pub left : Option Text
+    pub read : IsTextOf file old new left before
+    pub formatted : IsFormatted reading c.style before text
+    pub answer : MatchBool c.check ((is_yes ≡ bytes_eq text before)
+        × (output ≡ (if bytes_eq text before then [] else file ++ codes ": not formatted\n")))
+        ((is_yes ≡ true) × (output ≡ text))
 
--- a file of this name is read
-abbrev pub IsPlanned : Reading → Style → Text → Plan → Option (List Event) → Option (List Event)
-    → Type 0
-IsPlanned reading style name p old new =
-    ((left : Option Text) × (before : Text) × IsTextOf name old new left before
-    × IsPlanFor reading style name before p)
-    ⊎ ((left : Option Text) × IsNoTextOf name old new left × IsUnread name p)
+  abbrev pub FormatsDone : Type 0
+  FormatsDone = MatchBool (c.check || is_stream file) FormatsElsewhere FormatsInPlace
 
--- each file, one after another
-abbrev pub ArePlanned : Reading → Style → List Text → List Plan → Option (List Event)
-    → Option (List Event) → Type 0
-ArePlanned reading style [] [] old new = new ≡ old
-ArePlanned reading style (name ∷ names) (p ∷ ps) old new =
-    (read : Option (List Event)) × IsPlanned reading style name p old read
-    × ArePlanned reading style names ps read new
-ArePlanned reading style [] (p ∷ ps) old new = ⊥
-ArePlanned reading style (name ∷ names) [] old new = ⊥
-
--- the text of a file is replaced if it changes
-abbrev pub IsPut : Plan → Option (List Event) → Option (List Event) → Type 0
-IsPut (Refused line) old new = new ≡ old
-IsPut (Formatted file before text) old new =
-    MatchBool (is_stream file.now || bytes_eq (string_bytes before) (string_bytes text))
-    (new ≡ old) (Replaced file.now (string_bytes text) old new)
-
-abbrev pub ArePut : List Plan → Option (List Event) → Option (List Event) → Type 0
-ArePut [] old new = new ≡ old
-ArePut (p ∷ ps) old new = (put : Option (List Event)) × IsPut p old put × ArePut ps put new
-
-abbrev pub IsNotPut : Plan → Option (List Event) → Option (List Event) → Type 0
-IsNotPut (Refused line) old new = ⊥
-IsNotPut (Formatted file before text) old new =
-    NotReplaced file.now (string_bytes text) old new
-
--- the files before one that is not replaced
-abbrev pub ArePutBefore : List Plan → Option (List Event) → Option (List Event) → Type 0
-ArePutBefore [] old new = ⊥
-ArePutBefore (p ∷ ps) old new =
-    IsNotPut p old new
-    ⊎ ((put : Option (List Event)) × IsPut p old put × ArePutBefore ps put new)
-
--- ---- the output
-
--- one that is not refused, and under `--check` does not change
-abbrev pub is_fine : Bool → Plan → Bool
-is_fine check (Refused line) = false
-is_fine check (Formatted file before text) =
-    not check || bytes_eq (string_bytes before) (string_bytes text)
-
--- why it is refused, under `--check` the name of one that would change, and else the text of standard
--- input
-abbrev pub output_for : Bool → Plan → Text
-output_for check (Refused line) = string_bytes line
-output_for true (Formatted file before text) =
-    if bytes_eq (string_bytes before) (string_bytes text) then []
-    else file.now ++ codes ": not formatted\n"
-output_for false (Formatted file before text) = if is_stream file.now then string_bytes text else []
-
--- ---- the command
-
--- Each file is read, and then each text that changes replaces its file, or none under `--check`.
-pub record FormatsFiles (reading : Reading) (c : Fmt) (old new : Option (List Event))
-    (is_yes : Bool) (output : Text) : Type 0 where
-  pub plans : List Plan
-  pub read : Option (List Event)
-  pub planned : ArePlanned reading c.style (map (λ f. f.now) c.files.items) plans old read
-  pub puts : MatchBool c.check (new ≡ read) (ArePut plans read new)
-  pub answer : is_yes ≡ list_all (is_fine c.check) plans
-  pub says : output ≡ flat_map (output_for c.check) plans
-
--- Nothing is written where the words are mistaken or what is read is refused. Where memory ran out or
--- a call failed, the files before one may be replaced.
-abbrev pub FormatsSome : Option (List Event) → Option (List Event) → Type 0
-FormatsSome old new =
-    (read : Option (List Event)) × (plans : List Plan) × OnlyLooks old read
-    × ArePutBefore plans read new
-
-abbrev pub StopsFormatting : Option (List Event) → Option (List Event) → Option Reason → Type 0
-StopsFormatting old new None = OnlyLooks old new ⊎ FormatsSome old new
-StopsFormatting old new (Some Failed) = OnlyLooks old new ⊎ FormatsSome old new
-StopsFormatting old new (Some _) = OnlyLooks old new
+-- It is formatted; it is refused, which is written, but of standard input never, whose text is to be
+-- there; or it is not done.
+abbrev pub FormatsFile : Reading → Fmt → Text → Told → Option (List Event) → Option (List Event) → Type 0
+FormatsFile reading c file told old new =
+    ((is_yes : Bool) × (output : Text) × FormatsDone reading c file is_yes output old new
+    × Tells (if is_yes then 0 else 1) output told)
+    ⊎ ((told.status ≡ 1) × (is_stream file ≡ false) × IsReadAsRefused (version_by reading) file old new)
+    ⊎ ((why : Option Reason) × Stops file old new why × TellsWhy why told)

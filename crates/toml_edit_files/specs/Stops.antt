@@ -16,15 +16,25 @@ reason_of Memory = None
 abbrev pub IsFor : Reason → Option Reason → Type 0
 IsFor reason why = (why ≡ None) ⊎ (why ≡ Some reason)
 
--- the reason where an edit is refused: the answer is no where no element is equal
+-- memory ran out or a call failed, or what is read is refused for this reason
+abbrev pub IsUnread : Type 0 → Option Reason → Type 0
+IsUnread Why None = Unit {0}
+IsUnread Why (Some Failed) = Unit {0}
+IsUnread Why (Some Refused) = Why
+IsUnread Why (Some _) = ⊥
+
+-- the reason where an edit is refused: the answer is no where nothing is at the path, or no element is
+-- equal
 abbrev pub reason_for : EditFault → Option Reason
 reason_for faults.Memory = None
+reason_for faults.NoSuchPath = Some No
 reason_for faults.NoSuchElement = Some No
 reason_for _ = Some Mistaken
 
 -- the exit status
-abbrev pub status_of : Reason → ℕ
-status_of No = 1
-status_of Mistaken = 2
-status_of Failed = 4
-status_of Refused = 5
+abbrev pub status_of : Option Reason → ℕ
+status_of None = 3
+status_of (Some No) = 1
+status_of (Some Mistaken) = 2
+status_of (Some Failed) = 4
+status_of (Some Refused) = 5

@@ -1,3 +1,4 @@
 -- Worked examples of what commands write.
 pub mod Keys
 pub mod Get
+pub mod Outcomes

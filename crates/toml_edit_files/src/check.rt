@@ -1,102 +1,91 @@
 //! The command `check`.
-ghost use Rattle.std.specs.Prelude.{[], ◌≡◌, false, IfNone, IfOk, IfSome, map, MatchOption, OnOk, string_bytes, true};
-ghost use Rattle.toml_edit_files.specs.Checks.{AreAccepted, IsReadAsAccepted};
-ghost use Rattle.toml_edit_files.specs.Edited.{IsAccepted, version_by};
+ghost use Rattle.std.specs.Prelude.{IfErr, OnOk, map};
+ghost use Rattle.toml_edit_files.specs.Checks.{ChecksFile, IsReadAsAccepted, IsReadAsRefused};
+ghost use Rattle.toml_edit_files.specs.Edited.{IsAccepted, IsNotRead, version_by};
 ghost use Rattle.toml_edit_files.specs.Folders.{OnlyLooks};
+ghost use Rattle.toml_edit_files.specs.Outcomes.{DoesAll};
+ghost use Rattle.toml_edit_files.specs.Stops.{IsUnread, reason_of};
 
-use crate::messages::located;
+use crate::messages::refused;
+use crate::outcome::{told_of, told_of_refused};
 use crate::read::text_of;
-use crate::stop::{Reason, Stop};
+use crate::stop::{DONE, Reason, Stop};
+use crate::told::Told;
 use crate::words::Reading;
 use std::alloc::Global;
-use toml_edit::{Document, Mem, ParseFault};
+use toml_edit::{Document, ParseFault};
 use toml_edit_io::Input;
 use toml_edit_replace::Folder;
 
-/// What is found of files.
-#[derive(Drop)]
-pub struct Checked {
-    /// Whether each of them is accepted.
-    pub accepted: bool,
-    /// A line for each one that is not: `FILE:LINE:COLUMN: MESSAGE`.
-    pub report: String,
-}
-
-/// Reads files, and returns which of them are refused.
+/// Reads files, and tells which of them are refused: `FILE:LINE:COLUMN: MESSAGE`.
 pub fn check<F: Folder, I: Input>(
     alloc: Global,
     folder: &mut F,
     input: &mut I,
-    files: &[String],
+    files: &[&str],
     reading: Reading,
-) -> Result<Checked, Stop>
-    ensures accepted { IfOk result (λ checked. checked.accepted ≡ true
-        → AreAccepted (version_by reading) (map string_bytes files.now) (F.history folder.old)
-        (F.history folder.new)) }
-    ensures silent { IfOk result
-        (λ checked. checked.accepted ≡ true → string_bytes checked.report ≡ []) }
-    ensures looks { OnlyLooks (F.history folder.old) (F.history folder.new) }
+) -> Told
+    ensures { DoesAll (ChecksFile (version_by reading)) (map (λ file. file.now) files.now)
+        (F.history folder.old) (F.history folder.new) result }
 {
-    let mut checked = Checked {
-        accepted: true,
-        report: String::new(alloc),
-    };
+    let mut told = Told::new(alloc, DONE);
     'files: for file in files {
-        let line = check_file(alloc, folder, input, file.as_str(), reading)?;
-        note(&mut checked, line)?;
+        let checked = check_file(alloc, folder, input, *file, reading);
+        if !told.add(checked) {
+            return told;
+        }
     }
-    Ok(checked)
+    told
 }
 
-/// Notes the line of a file that is refused.
-fn note(checked: &mut Checked, line: Option<String>) -> Mem<()>
-    ensures { OnOk result (MatchOption line (checked.new ≡ checked.old)
-        (λ _. checked.new.accepted ≡ false)) }
-{
-    if let Some(line) = line {
-        checked.accepted = false;
-        checked.report.push_str(line.as_str())?;
-    }
-    Ok(())
-}
-
-/// Returns the line of a file that is refused, or `None`.
+/// Tells whether a file is refused.
 fn check_file<F: Folder, I: Input>(
     alloc: Global,
     folder: &mut F,
     input: &mut I,
     file: &str,
     reading: Reading,
-) -> Result<Option<String>, Stop>
-    ensures accepted { IfOk result (λ line. IfNone line
-        (IsReadAsAccepted (version_by reading) file.now (F.history folder.old)
-        (F.history folder.new))) }
-    ensures looks { OnlyLooks (F.history folder.old) (F.history folder.new) }
+) -> Told
+    ensures { ChecksFile (version_by reading) file.now result (F.history folder.old)
+        (F.history folder.new) }
 {
-    let text = match text_of(alloc, folder, input, file) {
-        Ok(text) => text,
-        Err(Stop::Message(Reason::Refused, message)) => {
-            drop(message);
-            return Ok(Some(format!(in alloc; "{file}: not UTF-8\n")?));
-        }
-        Err(stop) => return Err(stop),
-    };
-    refusal(alloc, file, text.as_str(), reading)
+    match read_accepted(alloc, folder, input, file, reading) {
+        Ok(()) => Told::new(alloc, DONE),
+        Err(Stop::Message(Reason::Refused, message)) => told_of_refused(alloc, message),
+        Err(stop) => told_of(alloc, Err(stop)),
+    }
 }
 
-/// Returns the line of a file of this text, or `None` if it is accepted.
-fn refusal(alloc: Global, file: &str, text: &str, reading: Reading) -> Result<Option<String>, Stop>
-    ensures accepted { IfOk result
-        (λ line. IfNone line (IsAccepted (version_by reading) text.now)) }
-    ensures refused { IfOk result
-        (λ line. IfSome line (λ _. ¬ (IsAccepted (version_by reading) text.now))) }
+/// Reads a file, and fails if it is refused.
+fn read_accepted<F: Folder, I: Input>(
+    alloc: Global,
+    folder: &mut F,
+    input: &mut I,
+    file: &str,
+    reading: Reading,
+) -> Result<(), Stop>
+    ensures accepted { OnOk result (IsReadAsAccepted (version_by reading) file.now
+        (F.history folder.old) (F.history folder.new)) }
+    ensures refused { IfErr result (λ stop. IsUnread (IsReadAsRefused (version_by reading) file.now
+        (F.history folder.old) (F.history folder.new)) (reason_of stop)) }
+    ensures looks { OnlyLooks (F.history folder.old) (F.history folder.new) }
+{
+    let text = text_of(alloc, folder, input, file)?;
+    accept(alloc, file, text.as_str(), reading)
+}
+
+/// Fails if a text is refused.
+fn accept(alloc: Global, file: &str, text: &str, reading: Reading) -> Result<(), Stop>
+    ensures accepted { OnOk result (IsAccepted (version_by reading) text.now) }
+    ensures stops { IfErr result
+        (λ stop. IsNotRead (version_by reading) text.now (reason_of stop)) }
 {
     match Document::parse_with(alloc, text, reading.options()) {
         Ok(document) => {
             drop(document);
-            Ok(None)
+            Ok(())
         }
-        Err(ParseFault::Toml(error)) => Ok(Some(located(alloc, file, &error)?)),
+        Err(ParseFault::Toml(error)) => Err(refused(alloc, file, &error)),
         Err(ParseFault::Memory) => Err(Stop::Memory),
     }
 }

@@ -1,35 +1,29 @@
 //! The command `edit`: the text of a file after its edits, and where it goes.
-ghost use Rattle.std.specs.Prelude.{◌≡◌, ◌++◌, IfErr, IfOk, IsTrue, None, Ok, OnErr, OnOk, Some, string_bytes};
+ghost use Rattle.std.specs.Prelude.{◌≡◌, ◌++◌, IfErr, IfOk, IsTrue, None, Ok, OnOk, Some, string_bytes, true};
 ghost use Rattle.std.specs.Option.{option_copied};
 ghost use Rattle.toml_edit.specs.DocumentView.{IsPrintedAs, tree_owned};
-ghost use Rattle.toml_edit_files.specs.EditFiles.{EditsFile, ScriptedFirst, StopsEditing};
+ghost use Rattle.toml_edit_files.specs.EditFiles.{EditsElsewhere, EditsFile, EditsInPlace, ScriptedFirst, is_in_place, is_shown, target_of};
 ghost use Rattle.toml_edit_files.specs.Edited.{IsAccepted, IsEdited, IsFittingPrint, IsInForm, IsMisfit, IsNotEdited, IsNotMade, IsNotWritten, IsTooNew, IsWritten, mark_of};
-ghost use Rattle.toml_edit_files.specs.Folders.{NotReplaced, OnlyLooks, Puts, Replaced, is_shown, is_there, target_of};
-ghost use Rattle.toml_edit_files.specs.Stops.{IsFor, reason_of};
-ghost use Rattle.toml_edit_files.specs.declared.stop.Reason.TheVariants.{Failed, Mistaken};
+ghost use Rattle.toml_edit_files.specs.Folders.{OnlyLooks, Stops};
+ghost use Rattle.toml_edit_files.specs.Stops.{reason_of};
+ghost use Rattle.toml_edit_files.specs.declared.stop.Reason.TheVariants.{Mistaken};
 ghost use Rattle.toml_edit_model.specs.Version.{v1_0};
 ghost use Rattle.toml_edit_script.specs.Lists.{applied};
 
 use crate::edits::edits_of_script;
 use crate::form::{MARK, check_form};
-use crate::messages::{failed, refused_edit};
+use crate::messages::refused_edit;
+use crate::outcome::Done;
 use crate::paths::path_text;
+use crate::put::{held_of, put, put_at};
 use crate::read::{STREAM, document_of, text_of};
 use crate::stop::{Reason, Stop};
 use crate::words::{EditCommand, Reading};
 use std::alloc::Global;
 use toml_edit::{Document, DocumentMut, Mem, ParseFault, ParseOptions, Version};
 use toml_edit_io::Input;
-use toml_edit_replace::{Folder, replace};
+use toml_edit_replace::Folder;
 use toml_edit_script::{Edit, apply};
-
-/// What an edit writes, and what it says on standard error.
-#[derive(Drop)]
-pub struct Edited {
-    /// What is to be written to standard output.
-    pub output: String,
-    pub notes: String,
-}
 
 /// Makes the edits in a file, or in standard input for `-`.
 pub fn edit<F: Folder, I: Input>(
@@ -39,19 +33,79 @@ pub fn edit<F: Folder, I: Input>(
     command: &EditCommand<'_>,
     edits: Vec<Edit>,
     reading: Reading,
-) -> Result<Edited, Stop>
-    ensures edits { IfOk result (λ e. EditsFile reading command.now edits.items
-        (F.history folder.old) (F.history folder.new) (string_bytes e.output)) }
-    ensures stops { IfErr result (λ stop. StopsEditing command.now (F.history folder.old)
+) -> Result<Done, Stop>
+    ensures edits { IfOk result (λ done. EditsFile reading command.now edits.items
+        (F.history folder.old) (F.history folder.new) (string_bytes done.output)) }
+    ensures yes { IfOk result (λ done. done.yes ≡ true) }
+    ensures stops { IfErr result (λ stop. Stops (target_of command.now) (F.history folder.old)
         (F.history folder.new) (reason_of stop)) }
 {
     let edits = all_edits(alloc, folder, input, command.script, edits, reading)?;
-    let text = text_of(alloc, folder, input, command.file)?;
-    let edited = edited_text(alloc, command, text.as_str(), edits.as_slice(), reading)?;
-    let output = put(alloc, folder, command, text.as_str(), edited.output)?;
-    Ok(Edited {
-        output,
+    let edits = edits.as_slice();
+    if is_in_place(command) {
+        edit_in_place(alloc, folder, command, edits, reading)
+    } else {
+        edit_elsewhere(alloc, folder, input, command, edits, reading)
+    }
+}
+
+/// Makes the edits in a file, and replaces it.
+fn edit_in_place<F: Folder>(
+    alloc: Global,
+    folder: &mut F,
+    command: &EditCommand<'_>,
+    edits: &[Edit],
+    reading: Reading,
+) -> Result<Done, Stop>
+    ensures edits { IfOk result (λ done. EditsInPlace reading command.now edits.now
+        (F.history folder.old) (F.history folder.new) (string_bytes done.output)) }
+    ensures yes { IfOk result (λ done. done.yes ≡ true) }
+    ensures stops { IfErr result (λ stop. Stops command.now.file.now (F.history folder.old)
+        (F.history folder.new) (reason_of stop)) }
+{
+    let held = held_of(alloc, folder, command.file)?;
+    let edited = edited_text(alloc, command, held.text.as_str(), edits, reading)?;
+    put(
+        alloc,
+        folder,
+        command.file,
+        &held,
+        edited.output.as_str(),
+        command.force,
+    )?;
+    Ok(Done {
+        yes: true,
+        output: String::new(alloc),
         notes: edited.notes,
+    })
+}
+
+/// Makes the edits in the text of a file, which goes to standard output or to another file.
+fn edit_elsewhere<F: Folder, I: Input>(
+    alloc: Global,
+    folder: &mut F,
+    input: &mut I,
+    command: &EditCommand<'_>,
+    edits: &[Edit],
+    reading: Reading,
+) -> Result<Done, Stop>
+    ensures edits { IfOk result (λ done. EditsElsewhere reading command.now edits.now
+        (F.history folder.old) (F.history folder.new) (string_bytes done.output)) }
+    ensures yes { IfOk result (λ done. done.yes ≡ true) }
+    ensures stops { IfErr result (λ stop. Stops (target_of command.now) (F.history folder.old)
+        (F.history folder.new) (reason_of stop)) }
+{
+    let text = text_of(alloc, folder, input, command.file)?;
+    let edited = edited_text(alloc, command, text.as_str(), edits, reading)?;
+    if is_shown(command) {
+        return Ok(edited);
+    }
+    let Done { output, notes, .. } = edited;
+    put_at(alloc, folder, target_of(command), output, command.force)?;
+    Ok(Done {
+        yes: true,
+        output: String::new(alloc),
+        notes,
     })
 }
 
@@ -86,9 +140,10 @@ fn edited_text(
     text: &str,
     edits: &[Edit],
     reading: Reading,
-) -> Result<Edited, Stop>
+) -> Result<Done, Stop>
     ensures text { IfOk result
-        (λ e. IsEdited reading edits.now text.now (string_bytes e.output)) }
+        (λ done. IsEdited reading edits.now text.now (string_bytes done.output)) }
+    ensures yes { IfOk result (λ done. done.yes ≡ true) }
     ensures locked { OnOk result (IsTrue command.now.locked → IsInForm reading text.now) }
     ensures stops { IfErr result (λ stop. IsNotEdited reading command.now.locked edits.now text.now
         (reason_of stop)) }
@@ -97,7 +152,11 @@ fn edited_text(
     let notes = check_form(alloc, command, text, &document, reading)?;
     make(alloc, command.file, &mut document, edits)?;
     let output = text_after(alloc, command.file, text, &document, reading)?;
-    Ok(Edited { output, notes })
+    Ok(Done {
+        yes: true,
+        output,
+        notes,
+    })
 }
 
 /// Makes the edits in the document.
@@ -161,7 +220,7 @@ fn with_mark(alloc: Global, before: &str, text: String, normal: bool) -> Mem<Str
     }
 }
 
-/// Refuses a text that is no TOML 1.0.
+/// Refuses a text that is not TOML 1.0.
 fn needs_old(alloc: Global, file: &str, text: &str) -> Result<(), Stop>
     ensures accepted { OnOk result (IsAccepted v1_0 text.now) }
     ensures stops { IfErr result (λ stop. IsTooNew text.now (reason_of stop)) }
@@ -176,7 +235,9 @@ fn needs_old(alloc: Global, file: &str, text: &str) -> Result<(), Stop>
             let message = error.message();
             Err(Stop::Message(
                 Reason::Mistaken,
-                format!(in alloc; "tomlfile: {file}: what is written is no TOML 1.0: {message}\n")?,
+                format!(in alloc;
+                    "tomlfile: {file}: what is written is not TOML 1.0: {message}\n"
+                )?,
             ))
         }
         Err(ParseFault::Memory) => Err(Stop::Memory),
@@ -199,34 +260,6 @@ fn misfit(alloc: Global, file: &str, document: &DocumentMut) -> Result<Stop, Sto
     Ok(Stop::Message(Reason::Mistaken, text))
 }
 
-/// Puts a text where it goes: into the file, if it is not there, or into another one. Returns what
-/// goes to standard output.
-fn put<F: Folder>(
-    alloc: Global,
-    folder: &mut F,
-    command: &EditCommand<'_>,
-    before: &str,
-    text: String,
-) -> Result<String, Stop>
-    ensures puts { IfOk result (λ output. Puts command.now before.now (string_bytes text)
-        (F.history folder.old) (F.history folder.new) (string_bytes output)) }
-    ensures stops { OnErr result (NotReplaced (target_of command.now) (string_bytes text)
-        (F.history folder.old) (F.history folder.new)) }
-    ensures reason { IfErr result (λ stop. IsFor Failed (reason_of stop)) }
-{
-    if is_shown(command) {
-        return Ok(text);
-    }
-    if is_there(command, before, text.as_str()) {
-        return Ok(String::new(alloc));
-    }
-    let target = target_of(command);
-    match put_file(alloc, folder, target, text.as_str()) {
-        Ok(()) => Ok(String::new(alloc)),
-        Err(error) => Err(failed(alloc, target, &error)),
-    }
-}
-
 /// Returns the name of the file that is written.
 fn target_of<'w>(command: &EditCommand<'w>) -> &'w str
     ensures { result.now ≡ target_of command.now }
@@ -241,25 +274,9 @@ fn is_shown(command: &EditCommand<'_>) -> bool
     command.dry_run || target_of(command) == STREAM
 }
 
-/// Returns `true` if the text is that of the file, which no other file is to get.
-fn is_there(command: &EditCommand<'_>, before: &str, text: &str) -> bool
-    ensures { result ≡ is_there command.now before.now text.now }
+/// Returns `true` if the text replaces that of the file.
+fn is_in_place(command: &EditCommand<'_>) -> bool
+    ensures { result ≡ is_in_place command.now }
 {
-    command.output.is_none() && text == before
-}
-
-/// Replaces the text of the file that a name leads to.
-pub fn put_file<F: Folder>(
-    alloc: Global,
-    folder: &mut F,
-    file: &str,
-    text: &str,
-) -> std::io::Result<()>
-    ensures ok { OnOk result
-        (Replaced file.now text.now (F.history folder.old) (F.history folder.new)) }
-    ensures err { OnErr result
-        (NotReplaced file.now text.now (F.history folder.old) (F.history folder.new)) }
-{
-    let name = folder.target(alloc, file)?;
-    replace(alloc, folder, name.as_str(), text.as_bytes())
+    !is_shown(command) && command.output.is_none()
 }

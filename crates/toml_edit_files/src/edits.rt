@@ -1,27 +1,39 @@
 //! The words of edits, on a command line and in the lines of a script.
 use crate::help::Topic;
-use crate::paths::{path_of, value_of};
+use crate::messages::mistaken;
+use crate::paths::{near, path_of, sort_path_of, value_of};
 use crate::stop::{Reason, Stop};
 use crate::words::{Reading, wrong_words};
 use std::alloc::Global;
-use toml_edit::{Key, Value};
-use toml_edit_script::Edit;
+use toml_edit::{Key, Mem, Value};
+use toml_edit_paths::reset_keys;
+use toml_edit_script::{Edit, comment_text};
 
-/// Returns the number of operands of an edit of this name, or `None` if there is none.
-fn operands_of(name: &str) -> Option<usize> {
-    match name {
-        "remove" | "sort" => Some(1),
-        "set"
-        | "string"
-        | "header"
-        | "append"
-        | "insert"
-        | "take"
-        | "rename"
-        | "move"
-        | "comment" => Some(2),
-        _ => None,
+/// The names of edits, and their operands.
+const EDITS: &[(&str, &str)] = &[
+    ("set", "PATH VALUE"),
+    ("string", "PATH TEXT"),
+    ("header", "PATH VALUE"),
+    ("table", "PATH VALUE"),
+    ("remove", "PATH"),
+    ("append", "PATH VALUE"),
+    ("insert", "PATH VALUE"),
+    ("take", "PATH VALUE"),
+    ("rename", "PATH KEY"),
+    ("move", "PATH PATH"),
+    ("sort", "PATH"),
+    ("comment", "PATH TEXT"),
+];
+
+/// Returns the operands of an edit of this name, or `None` if there is none.
+fn operands_of(name: &str) -> Option<&'static str> {
+    for edit in EDITS {
+        let (other, operands) = *edit;
+        if other == name {
+            return Some(operands);
+        }
     }
+    None
 }
 
 /// Reads the edit that the words begin with, and returns the words after it. The file is the one that
@@ -39,10 +51,10 @@ pub fn next_edit<'w>(
     let name = name.as_str();
     let number = edits.len() + 1;
     let (path, operand, rest) = match (operands_of(name), operands) {
-        (Some(1), [path, rest @ ..]) => (path.as_str(), "", rest),
-        (Some(2), [path, operand, rest @ ..]) => (path.as_str(), operand.as_str(), rest),
-        (Some(_), _) => return Err(missing_operand(alloc, file, number, name)),
-        (None, _) => return Err(wrong_words(alloc, Topic::Edit)),
+        (Some("PATH"), [path, rest @ ..]) => (path.as_str(), "", rest),
+        (Some(_), [path, operand, rest @ ..]) => (path.as_str(), operand.as_str(), rest),
+        (Some(wanted), _) => return Err(missing_operand(alloc, file, number, name, wanted)),
+        (None, _) => return Err(no_edit(alloc, file, number, name)),
     };
     edits.push(edit_of(alloc, file, number, (name, path, operand), reading)?)?;
     Ok(rest)
@@ -78,15 +90,12 @@ fn edit_of_line(
     let (name, rest) = split_word(line, false);
     let (path, operand) = split_word(rest, true);
     match operands_of(name) {
-        Some(1) if !path.is_empty() && operand.is_empty() => {}
-        Some(2) if !path.is_empty() && (!operand.is_empty() || takes_empty(name)) => {}
-        Some(_) => return Err(missing_operand(alloc, script, number, name)),
-        None => {
-            return Err(Stop::Message(
-                Reason::Mistaken,
-                format!(in alloc; "tomlfile: {script}: edit {number}: no edit {name}\n")?,
-            ));
-        }
+        Some("PATH") if operand.is_empty() && (!path.is_empty() || name == "sort") => {}
+        Some(wanted)
+            if wanted != "PATH" && !path.is_empty() && (!operand.is_empty() || takes_empty(name)) =>
+            {}
+        Some(wanted) => return Err(missing_operand(alloc, script, number, name, wanted)),
+        None => return Err(no_edit(alloc, script, number, name)),
     }
     edit_of(alloc, script, number, (name, path, operand), reading)
 }
@@ -127,18 +136,28 @@ fn split_word(line: &str, quoted: bool) -> (&str, &str) {
 }
 
 /// Returns that an edit of this name lacks an operand.
-fn missing_operand(alloc: Global, file: &str, number: usize, name: &str) -> Stop {
-    let wanted = match name {
-        "remove" | "sort" => "PATH",
-        "string" | "comment" => "PATH TEXT",
-        "rename" => "PATH KEY",
-        "move" => "PATH PATH",
-        _ => "PATH VALUE",
-    };
-    match format!(in alloc; "tomlfile: {file}: edit {number}: usage: {name} {wanted}\n") {
-        Ok(text) => Stop::Message(Reason::Mistaken, text),
+fn missing_operand(alloc: Global, file: &str, number: usize, name: &str, wanted: &str) -> Stop {
+    mistaken(format!(in alloc; "tomlfile: {file}: edit {number}: usage: {name} {wanted}\n"))
+}
+
+/// Returns that there is no edit of this name.
+fn no_edit(alloc: Global, file: &str, number: usize, name: &str) -> Stop {
+    match nearest_edit(alloc, name) {
+        Ok(near) => {
+            let near = near.as_str();
+            mistaken(format!(in alloc; "tomlfile: {file}: edit {number}: no edit {name}{near}\n"))
+        }
         Err(_) => Stop::Memory,
     }
+}
+
+/// Returns the hint at the nearest name of an edit.
+fn nearest_edit(alloc: Global, name: &str) -> Mem<String> {
+    let mut names = Vec::new(alloc);
+    for edit in EDITS {
+        names.push(edit.0)?;
+    }
+    near(alloc, name, names.as_slice())
 }
 
 /// Reads an edit of its name, its path and its other operand.
@@ -152,14 +171,16 @@ fn edit_of(
     let (name, path, operand) = words;
     let place = format!(in alloc; "{file}: edit {number} ({name} {path})")?;
     let place = place.as_str();
-    let path = path_of(alloc, place, path)?;
+    if name == "sort" {
+        return Ok(Edit::Sort(sort_path_of(alloc, place, path)?));
+    }
+    let path = new_path_of(alloc, place, path)?;
     match name {
         "string" => Ok(Edit::Set(path, Value::string(alloc, operand)?)),
         "comment" => Ok(Edit::Comment(path, comment_text(alloc, operand)?)),
         "rename" => Ok(Edit::Rename(path, new_name(alloc, place, operand)?)),
-        "move" => Ok(Edit::Move(path, path_of(alloc, place, operand)?)),
+        "move" => Ok(Edit::Move(path, new_path_of(alloc, place, operand)?)),
         "remove" => Ok(Edit::Remove(path)),
-        "sort" => Ok(Edit::Sort(path)),
         _ => value_edit_of(alloc, place, name, path, operand, reading),
     }
 }
@@ -185,6 +206,7 @@ fn value_edit_of(
         "append" => Edit::Append(path, value),
         "insert" => Edit::Insert(path, value),
         "take" => Edit::Take(path, value),
+        "table" => Edit::Table(path, value),
         _ => Edit::Set(path, value),
     })
 }
@@ -203,12 +225,11 @@ fn hint_of(name: &str, text: &str) -> &'static str {
     }
 }
 
-/// Returns the text of a comment, which is behind a space.
-fn comment_text(alloc: Global, text: &str) -> Result<String, Stop> {
-    if text.is_empty() {
-        return Ok(String::new(alloc));
-    }
-    Ok(format!(in alloc; " {text}")?)
+/// Parses a path, whose keys get their default spelling.
+fn new_path_of(alloc: Global, place: &str, text: &str) -> Result<Vec<Key>, Stop> {
+    let mut path = path_of(alloc, place, text)?;
+    reset_keys(path.as_mut_slice());
+    Ok(path)
 }
 
 /// Parses the new name of a key.
@@ -218,7 +239,7 @@ fn new_name(alloc: Global, place: &str, text: &str) -> Result<String, Stop> {
         [key] => Ok(String::from_str(alloc, key.get())?),
         _ => Err(Stop::Message(
             Reason::Mistaken,
-            format!(in alloc; "tomlfile: {place}: no key {text}\n")?,
+            format!(in alloc; "tomlfile: {place}: bad path {text}\n")?,
         )),
     }
 }

@@ -277,7 +277,7 @@ pub fn has(document: &DocumentMut, command: &Has<'_>) -> bool
 }
 
 /// Returns the kind of an item, which a placeholder has not.
-fn kind_of(item: &Item) -> Option<Kind>
+pub fn kind_of(item: &Item) -> Option<Kind>
     ensures { result ≡ kind_in (item_view item.now) }
 {
     match item {

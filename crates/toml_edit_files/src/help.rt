@@ -18,6 +18,11 @@ pub enum Topic {
     Fmt,
 }
 
+/// The words that a call can begin with.
+pub const COMMANDS: &[&str] = &[
+    "get", "has", "edit", "keys", "json", "check", "fmt", "help", "strict", "normal",
+];
+
 /// Returns the command of this name.
 pub fn topic_of(name: &str) -> Option<Topic> {
     match name {
@@ -40,12 +45,12 @@ pub fn usage(topic: Topic) -> &'static str {
         Topic::Get => "tomlfile get FILE PATH.. [--raw | --lines] [--default TEXT]",
         Topic::Has => "tomlfile has FILE PATH [KIND]",
         Topic::Edit => {
-            "tomlfile edit FILE EDIT [, EDIT].. [--script FILE] [--dry-run] [--output FILE] [--locked]"
+            "tomlfile edit FILE EDIT [, EDIT].. [--script FILE] [--dry-run] [--output FILE] [--locked] [--force]"
         }
         Topic::Keys => "tomlfile keys FILE [PATH] [--all]",
         Topic::Json => "tomlfile json FILE [PATH]",
         Topic::Check => "tomlfile check FILE..",
-        Topic::Fmt => "tomlfile fmt FILE.. [--check] [--keys] [--sort PATH]..",
+        Topic::Fmt => "tomlfile fmt FILE.. [--check] [--keys] [--sort PATH].. [--force]",
     }
 }
 
@@ -79,13 +84,13 @@ Reads and edits TOML files, and keeps comments, spacing and spelling.
   check  reports the errors of files
   fmt    formats files in place
 
-FILE may be -, for standard input and output. A PATH is keys with dots between
-them, as in TOML; in an array the number of an element is a key. With strict,
-files are read and written as TOML 1.0; with normal, a file is written with
-line feeds alone and a newline at its end.
+FILE may be -, for standard input and output; -- ends the options. A PATH is
+keys with dots between them, as in TOML; in an array the number of an element
+is a key. With strict, files are read and written as TOML 1.0; with normal, a
+file is written with line feeds alone and a newline at its end.
 
 Status: 0 done or yes, 1 no, 2 mistaken words, 3 out of memory, 4 a file or a
-stream failed, 5 a file is no TOML. tomlfile COMMAND --help has examples.
+stream failed, 5 a file is not TOML. tomlfile COMMAND --help has examples.
 ";
 
 const GET: &str = "\
@@ -111,23 +116,26 @@ status is 1.
 
 const EDIT: &str = "\
 Makes the edits one after another, all or none, and writes the file in place.
+The status is 1 if nothing is at a path.
 
   set PATH VALUE      put a value; a new key goes to the end of its table
   string PATH TEXT    put a string, of which TEXT has the characters
   header PATH VALUE   as set, with headers for the tables that are missing
+  table PATH VALUE    add a [[PATH]] with the pairs of an inline table
   remove PATH         remove a key, or an element with its line
   append PATH VALUE   add a value to an array, with a line where others have one
   insert PATH VALUE   the same, before the element at PATH
   take PATH VALUE     remove the first equal value of an array, with its line
   rename PATH KEY     give a key another name
   move PATH PATH      move a key with its item
-  sort PATH           sort the keys of a table
-  comment PATH TEXT   set the comment behind a value or a header
+  sort PATH           sort the keys of a table; '' is the file
+  comment PATH TEXT   set the comment behind a value or a header, or remove it
 
   --script FILE  edits from a file first, one a line
   --dry-run      write to standard output, and no file
   --output FILE  write to another file
   --locked       refuse a file of which other lines would change
+  --force        replace a read-only file, or one whose owner can't be kept
 
   tomlfile edit Cargo.toml string package.version 1.2.3
   tomlfile edit Cargo.toml remove dependencies.rand , set dependencies.log '\"0.4\"'
@@ -151,8 +159,8 @@ order, and floats their digits; dates, times, inf and nan are strings.
 ";
 
 const CHECK: &str = "\
-Writes FILE:LINE:COLUMN: MESSAGE for each file that is no TOML. The status is 1
-if there is one.
+Writes FILE:LINE:COLUMN: MESSAGE for each file that is not TOML. The status is 1
+if there is one, and 4 if a file can't be read.
 
   tomlfile check *.toml
 ";
@@ -160,12 +168,13 @@ if there is one.
 const FMT: &str = "\
 Formats each file in place: spaces, empty lines, indentation, and arrays with a
 line for each value where they have a newline or a comment, or are wide. Keys,
-values and comments stay as they are. A file that is no TOML is reported as by
-check, and the status is 1.
+values and comments stay as they are. A file that is not TOML is reported as by
+check, and the others are formatted.
 
   --check      change nothing, and name the files that are not formatted
   --keys       write keys without quotes where they need none
-  --sort PATH  sort the keys of the table at PATH, if it is there
+  --sort PATH  sort the keys of the table at PATH, if it is there; '' is the file
+  --force      replace a read-only file, or one whose owner can't be kept
 
   tomlfile fmt Cargo.toml --sort dependencies
   tomlfile fmt --check *.toml

@@ -12,10 +12,13 @@ mod help;
 mod json;
 mod keys;
 mod messages;
+mod outcome;
 mod paths;
 mod program;
+mod put;
 mod read;
 mod stop;
+mod told;
 mod words;
 
 pub use program::{end_without_memory, run};

@@ -1,15 +1,28 @@
 //! Messages about files and edits.
 ghost use Rattle.std.specs.Prelude.{◌≡◌, IfOk, option_map};
 ghost use Rattle.toml_edit_files.specs.Stops.{IsFor, reason_for, reason_of};
-ghost use Rattle.toml_edit_files.specs.declared.stop.Reason.TheVariants.{Failed};
+ghost use Rattle.toml_edit_files.specs.declared.stop.Reason.TheVariants.{Failed, Refused};
 
+use crate::get::kind_of;
 use crate::paths::{hint, path_text};
 use crate::stop::{Reason, Stop};
+use crate::words::Kind;
 use std::alloc::Global;
 use std::io;
 use std::io::ErrorKind;
-use toml_edit::{DocumentMut, Key, Mem, TomlError};
+use toml_edit::{DocumentMut, Item, Key, Mem, TomlError};
 use toml_edit_script::{Edit, EditFault};
+
+/// What messages begin with.
+pub const PROGRAM: &str = "tomlfile: ";
+
+/// Returns that the words are mistaken, with a message.
+pub fn mistaken(message: Mem<String>) -> Stop {
+    match message {
+        Ok(message) => Stop::Message(Reason::Mistaken, message),
+        Err(_) => Stop::Memory,
+    }
+}
 
 /// Returns that a call on a file has failed.
 pub fn failed(alloc: Global, file: &str, error: &io::Error) -> Stop
@@ -24,12 +37,20 @@ pub fn failed(alloc: Global, file: &str, error: &io::Error) -> Stop
     }
 }
 
-/// Returns the line about an error of parsing: `FILE:LINE:COLUMN: MESSAGE`.
-pub fn located(alloc: Global, file: &str, error: &TomlError) -> Mem<String> {
+/// Returns that a file is not TOML: `FILE:LINE:COLUMN: MESSAGE`.
+pub fn refused(alloc: Global, file: &str, error: &TomlError) -> Stop
+    ensures { IsFor Refused (reason_of result) }
+{
     let message = error.message();
-    match (error.line(), error.column()) {
-        (Some(line), Some(column)) => { format!(in alloc; "{file}:{line}:{column}: {message}\n") }
-        _ => format!(in alloc; "{file}: {message}\n"),
+    let text = match (error.line(), error.column()) {
+        (Some(line), Some(column)) => {
+            format!(in alloc; "tomlfile: {file}:{line}:{column}: {message}\n")
+        }
+        _ => format!(in alloc; "tomlfile: {file}: {message}\n"),
+    };
+    match text {
+        Ok(text) => Stop::Message(Reason::Refused, text),
+        Err(_) => Stop::Memory,
     }
 }
 
@@ -47,10 +68,10 @@ pub fn refused_edit(
     let word = edit.word();
     let path = path_text(alloc, edit.path())?;
     let path = path.as_str();
-    let hint = if fault == EditFault::NoSuchPath {
-        hint(alloc, document, edit.path())?
-    } else {
-        String::new(alloc)
+    let hint = match fault {
+        EditFault::NoSuchPath => hint(alloc, document, edit.path())?,
+        EditFault::WrongKind => kind_hint(alloc, document, edit.path())?,
+        _ => String::new(alloc),
     };
     let hint = hint.as_str();
     let Some((reason, why)) = reason_and_why(fault) else {
@@ -62,12 +83,39 @@ pub fn refused_edit(
     ))
 }
 
+/// Returns ` (PATH is KIND)` for the last item on the path, or nothing for the root.
+fn kind_hint(alloc: Global, document: &DocumentMut, path: &[Key]) -> Mem<String> {
+    for at in 0..path.len() {
+        let (above, _) = path.split_at(path.len() - at);
+        if let Some(item) = document.get_at(above) {
+            let (path, kind) = (path_text(alloc, above)?, kind_name(item));
+            let path = path.as_str();
+            return format!(in alloc; " ({path} is {kind})");
+        }
+    }
+    Ok(String::new(alloc))
+}
+
+/// Returns the name of the kind of an item.
+fn kind_name(item: &Item) -> &'static str {
+    match kind_of(item) {
+        Some(Kind::String) => "a string",
+        Some(Kind::Integer) => "an integer",
+        Some(Kind::Float) => "a float",
+        Some(Kind::Boolean) => "a boolean",
+        Some(Kind::Datetime) => "a datetime",
+        Some(Kind::Array) => "an array",
+        Some(Kind::Tables) => "an array of tables",
+        Some(Kind::Table) | None => "a table",
+    }
+}
+
 /// Returns the reason of a refusal and what it says, or `None` if memory ran out.
 fn reason_and_why(fault: EditFault) -> Option<(Reason, &'static str)>
     ensures { option_map (λ told. told.0) result ≡ reason_for fault }
 {
     match fault {
-        EditFault::NoSuchPath => Some((Reason::Mistaken, "no such path")),
+        EditFault::NoSuchPath => Some((Reason::No, "no such path")),
         EditFault::WrongKind => Some((Reason::Mistaken, "wrong kind")),
         EditFault::NoSuchElement => Some((Reason::No, "no such element")),
         EditFault::Taken => Some((Reason::Mistaken, "the key is there already")),

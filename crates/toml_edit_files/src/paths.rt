@@ -21,6 +21,14 @@ pub fn path_of(alloc: Global, place: &str, text: &str) -> Result<Vec<Key>, Stop>
     }
 }
 
+/// Parses the PATH of a sort, for which the empty text is the root.
+pub fn sort_path_of(alloc: Global, place: &str, text: &str) -> Result<Vec<Key>, Stop> {
+    if text.is_empty() {
+        return Ok(Vec::new(alloc));
+    }
+    path_of(alloc, place, text)
+}
+
 /// Parses VALUE. A message about it begins with `place`, and ends with the hint.
 pub fn value_of(
     alloc: Global,
@@ -80,13 +88,10 @@ fn nearest(alloc: Global, item: &Item, above: &[Key], missing: &Key) -> Mem<Stri
     let Some(slots) = item.as_slots() else {
         return Ok(String::new(alloc));
     };
-    // At most half of the letters may be others.
-    let mut least = missing.get().len() / 2 + 1;
+    let mut least = most_others(missing.get());
     let mut found = None;
     for slot in slots.as_slice() {
-        let distance = strsim::osa_distance(alloc, slot.key.get(), missing.get())?;
-        if distance < least {
-            least = distance;
+        if is_nearer(alloc, missing.get(), slot.key.get(), &mut least)? {
             found = Some(&slot.key);
         }
     }
@@ -103,4 +108,34 @@ fn nearest(alloc: Global, item: &Item, above: &[Key], missing: &Key) -> Mem<Stri
         }
         None => Ok(String::new(alloc)),
     }
+}
+
+/// Returns ` (nearest: NAME)` for the nearest of some names, or nothing if none is near.
+pub fn near(alloc: Global, word: &str, names: &[&str]) -> Mem<String> {
+    let mut least = most_others(word);
+    let mut found = None;
+    for name in names {
+        if is_nearer(alloc, word, *name, &mut least)? {
+            found = Some(*name);
+        }
+    }
+    match found {
+        Some(name) => format!(in alloc; " (nearest: {name})"),
+        None => Ok(String::new(alloc)),
+    }
+}
+
+/// Returns how many letters of a word are too many others: more than half of them.
+fn most_others(word: &str) -> usize {
+    word.len() / 2 + 1
+}
+
+/// Returns `true` if a name is nearer to a word than so many letters, and how near.
+fn is_nearer(alloc: Global, word: &str, name: &str, least: &mut usize) -> Mem<bool> {
+    let distance = strsim::osa_distance(alloc, name, word)?;
+    let is_nearer = distance < *least;
+    if is_nearer {
+        *least = distance;
+    }
+    Ok(is_nearer)
 }

@@ -1,11 +1,13 @@
 //! The program as one function.
-ghost use Rattle.std.specs.Prelude.{[], ◌≡◌, ◌≢◌, ◌≤◌, ◌⊎◌, IfErr, IfOk, string_bytes, true};
+ghost use Rattle.std.specs.Prelude.{[], ◌≡◌, ◌≤◌, IfErr, IfOk, MatchBool, string_bytes, true};
 ghost use Rattle.std.specs.Io.KnownBytes.{Appends};
 ghost use Rattle.toml_edit.specs.DocumentView.{tree_owned};
 ghost use Rattle.toml_edit_files.specs.Answers.{HasNoAnswer, IsAnswer};
-ghost use Rattle.toml_edit_files.specs.Folders.{OnlyLooks};
-ghost use Rattle.toml_edit_files.specs.Runs.{AnswersQuestion, IsDone, Leaves};
+ghost use Rattle.toml_edit_files.specs.Folders.{OnlyLooks, Stops};
+ghost use Rattle.toml_edit_files.specs.Runs.{AnswersQuestion, Ends, IsDone, Writes};
 ghost use Rattle.toml_edit_files.specs.Stops.{reason_of};
+ghost use Rattle.toml_edit_files.specs.declared.told.Told.{Told};
+ghost use Rattle.toml_edit_io.specs.Streams.{AppendsBeginning};
 ghost use Rattle.toml_edit_model.specs.Text.{Text};
 
 use crate::check::check;
@@ -15,24 +17,15 @@ use crate::get::{get, has};
 use crate::help::{VERSION, help};
 use crate::json::json;
 use crate::keys::keys;
+use crate::outcome::{Done, told_of};
 use crate::read::read_document;
-use crate::stop::{DONE, FAILED, NO, NO_MEMORY, Stop};
+use crate::stop::{FAILED, NO_MEMORY, Stop};
+use crate::told::Told;
 use crate::words::{Command, Question, Reading, request_of};
 use std::alloc::Global;
 use toml_edit::DocumentMut;
 use toml_edit_io::{Input, Output, write_all};
 use toml_edit_replace::Folder;
-
-/// What a command that is done leaves.
-#[derive(Drop)]
-struct Done {
-    /// Whether the answer is yes.
-    yes: bool,
-    /// What it writes to standard output.
-    output: String,
-    /// What it writes to standard error.
-    notes: String,
-}
 
 /// Runs the command that the words say, which are the arguments after the program's name, and
 /// returns the exit status.
@@ -43,16 +36,17 @@ struct Done {
 /// # Exit status
 ///
 /// - 0: done, or the answer is yes.
-/// - 1: the answer is no: nothing is at the path, a file is refused by `check` or `fmt` or is not
-///   formatted, or no element is equal.
+/// - 1: the answer is no: nothing is at the path, no element is equal, or a file is refused by `check`
+///   or `fmt`, or is not formatted.
 /// - 2: the words are no command, or what they say of the document cannot be done.
 /// - 3: out of memory.
-/// - 4: a file or a stream has failed.
-/// - 5: a file is no UTF-8 or no TOML.
+/// - 4: a file or a stream has failed, or a file has changed meanwhile, or is read-only.
+/// - 5: a file is not UTF-8 or not TOML, or is refused by `--locked`.
 ///
-/// From 2 on nothing is written but the message to `errors`, and no file has changed. But at 3 and 4
-/// the files before the one at which `fmt` fails have their new texts, and at 4 a beginning may be
-/// written if the output fails.
+/// A message about each file that is not done goes to `errors`. A command that stops has no output,
+/// and no file has changed; at 3 and 4 one that it writes holds the text before or the new one. But
+/// `check` and `fmt` go on with the next file, write what they found of each, and end with the greatest
+/// status; at 3 they go no further. If the output fails, the status is 4.
 pub fn run<F: Folder, I: Input, O: Output, E: Output>(
     alloc: Global,
     words: &[String],
@@ -62,23 +56,34 @@ pub fn run<F: Folder, I: Input, O: Output, E: Output>(
     errors: &mut E,
 ) -> u8
     ensures status { result ≤ 5 }
-    ensures unwritten { 2 ≤ result → result ≢ 4 → output.new ≡ output.old }
-    // The output is what a command writes that is done, with the answer yes.
-    ensures done { result ≡ 0 → (text : Text) × IsDone (F.history folder.old)
-        (F.history folder.new) (I.remaining input.old) true text
-        × Appends (O.contents output.old) (O.contents output.new) text }
-    // The folder is only looked at.
-    ensures refused { (result ≡ 2) ⊎ (result ≡ 5)
-        → OnlyLooks (F.history folder.old) (F.history folder.new) }
+    ensures ends { (told : Told)
+        × Ends (F.history folder.old) (F.history folder.new) (I.remaining input.old) told
+        × Writes O.contents output.old output.new told.status (string_bytes told.output) result }
 {
-    match answer(alloc, words, folder, input) {
-        Ok(done) => finish(&done, output, errors),
-        Err(Stop::Message(reason, message)) => {
-            tell(errors, message.as_str());
-            reason.status()
-        }
-        Err(Stop::Memory) => end_without_memory(errors),
+    let told = answer(alloc, words, folder, input);
+    let written = write(output, told.output.as_str());
+    tell(errors, told.notes.as_str());
+    if told.status == NO_MEMORY {
+        end_without_memory(errors);
     }
+    if written {
+        return told.status;
+    }
+    tell(errors, "tomlfile: write failed\n");
+    FAILED
+}
+
+/// Writes a text, if there is one, and returns `false` if that fails.
+fn write<O: Output>(output: &mut O, text: &str) -> bool
+    ensures written { MatchBool result
+        (Appends (O.contents output.old) (O.contents output.new) text.now)
+        (AppendsBeginning (O.contents output.old) (O.contents output.new) text.now) }
+    ensures none { text.now ≡ [] → (output.new ≡ output.old) × (result ≡ true) }
+{
+    if text.is_empty() {
+        return true;
+    }
+    write_all(output, text.as_bytes()).is_ok()
 }
 
 /// Writes to `errors` that memory ran out, and returns the exit status 3.
@@ -94,80 +99,39 @@ fn tell<E: Output>(errors: &mut E, text: &str) {
     let _ = write_all(errors, text.as_bytes());
 }
 
-/// Writes what a command leaves, and returns its status.
-fn finish<O: Output, E: Output>(done: &Done, output: &mut O, errors: &mut E) -> u8
-    ensures status { (result ≤ 1) ⊎ (result ≡ 4) }
-    ensures yes { result ≡ 0 → done.now.yes ≡ true }
-    ensures output { result ≤ 1 → Appends (O.contents output.old) (O.contents output.new)
-        (string_bytes done.now.output) }
-{
-    match write_all(output, done.output.as_bytes()) {
-        Ok(()) => {
-            tell(errors, done.notes.as_str());
-            if done.yes { DONE } else { NO }
-        }
-        Err(_) => {
-            tell(errors, "tomlfile: write failed\n");
-            FAILED
-        }
-    }
-}
-
-/// Runs the command up to its output.
+/// Runs the command up to what it writes.
 fn answer<F: Folder, I: Input>(
     alloc: Global,
     words: &[String],
     folder: &mut F,
     input: &mut I,
-) -> Result<Done, Stop>
-    ensures done { IfOk result (λ done. IsDone (F.history folder.old) (F.history folder.new)
-        (I.remaining input.old) done.yes (string_bytes done.output)) }
-    ensures stops { IfErr result
-        (λ stop. Leaves (F.history folder.old) (F.history folder.new) (reason_of stop)) }
+) -> Told
+    ensures { Ends (F.history folder.old) (F.history folder.new) (I.remaining input.old) result }
 {
-    let request = request_of(alloc, words)?;
-    let reading = request.reading;
-    match request.command {
-        Command::Help(topic) => Ok(answered(alloc, help(alloc, topic)?)),
-        Command::Version => Ok(answered(alloc, String::from_str(alloc, VERSION)?)),
-        Command::Check(files) => {
-            let checked = check(alloc, folder, input, files, reading)?;
-            Ok(Done {
-                yes: checked.accepted,
-                output: checked.report,
-                notes: String::new(alloc),
-            })
-        }
-        Command::Edit(command, edits) => {
-            let edited = edit(alloc, folder, input, &command, edits, reading)?;
-            Ok(Done {
-                yes: true,
-                output: edited.output,
-                notes: edited.notes,
-            })
-        }
-        Command::Fmt(command) => {
-            let report = fmt(alloc, folder, input, &command, reading)?;
-            Ok(Done {
-                yes: report.yes,
-                output: report.output,
-                notes: String::new(alloc),
-            })
-        }
-        Command::Ask(question) => ask(alloc, &question, folder, input, reading),
+    match request_of(alloc, words) {
+        Ok(request) => answer_command(alloc, request.command, folder, input, request.reading),
+        Err(stop) => told_of(alloc, Err(stop)),
     }
 }
 
-/// Returns that a command is done, with its output alone.
-fn answered(alloc: Global, output: String) -> Done
-    ensures yes { result.yes ≡ true }
-    ensures output { result.output ≡ output }
-    ensures notes { string_bytes result.notes ≡ [] }
+/// Runs the command up to what it writes.
+fn answer_command<F: Folder, I: Input>(
+    alloc: Global,
+    command: Command<'_>,
+    folder: &mut F,
+    input: &mut I,
+    reading: Reading,
+) -> Told
+    ensures { Ends (F.history folder.old) (F.history folder.new) (I.remaining input.old) result }
 {
-    Done {
-        yes: true,
-        output,
-        notes: String::new(alloc),
+    match command {
+        Command::Check(files) => check(alloc, folder, input, files.as_slice(), reading),
+        Command::Fmt(command) => fmt(alloc, folder, input, &command, reading),
+        Command::Show(text) => told_of(alloc, Ok(Done::new(alloc, true, text))),
+        Command::Ask(question) => told_of(alloc, ask(alloc, &question, folder, input, reading)),
+        Command::Edit(command, edits) => {
+            told_of(alloc, edit(alloc, folder, input, &command, edits, reading))
+        }
     }
 }
 
@@ -184,8 +148,7 @@ fn ask<F: Folder, I: Input>(
     ensures looks { OnlyLooks (F.history folder.old) (F.history folder.new) }
 {
     let document = read_document(alloc, folder, input, question.file(), reading)?;
-    let done = answer_of(alloc, &document, question)?;
-    Ok(done)
+    answer_of(alloc, &document, question)
 }
 
 /// Answers a question about a document.
@@ -197,13 +160,11 @@ fn answer_of(alloc: Global, document: &DocumentMut, question: &Question<'_>) -> 
         (reason_of stop)) }
 {
     match question {
-        Question::Get(command) => Ok(answered(alloc, get(alloc, document, command)?)),
-        Question::Keys(command) => Ok(answered(alloc, keys(alloc, document, command)?)),
-        Question::Json(command) => Ok(answered(alloc, json(alloc, document, command)?)),
-        Question::Has(command) => Ok(Done {
-            yes: has(document, command),
-            output: String::new(alloc),
-            notes: String::new(alloc),
-        }),
+        Question::Get(command) => Ok(Done::new(alloc, true, get(alloc, document, command)?)),
+        Question::Keys(command) => Ok(Done::new(alloc, true, keys(alloc, document, command)?)),
+        Question::Json(command) => Ok(Done::new(alloc, true, json(alloc, document, command)?)),
+        Question::Has(command) => {
+            Ok(Done::new(alloc, has(document, command), String::new(alloc)))
+        }
     }
 }

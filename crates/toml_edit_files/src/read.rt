@@ -1,13 +1,14 @@
 //! Reading a file, or standard input, and the document that it holds.
-ghost use Rattle.std.specs.Prelude.{◌≡◌, ◌≢◌, IfErr, IfOk, IfSome, Some, string_bytes};
+ghost use Rattle.std.specs.Prelude.{◌≡◌, IfErr, IfOk, IfSome, string_bytes};
+ghost use Rattle.std.specs.Str.{IsUtf8};
 ghost use Rattle.toml_edit.specs.DocumentView.{mode_owned, open_owned, tree_owned};
 ghost use Rattle.toml_edit_files.specs.Edited.{IsNotRead, IsRead, IsReadFrom, mode_by, version_by};
 ghost use Rattle.toml_edit_files.specs.Folders.{IsNoTextOf, IsTextOf, OnlyLooks};
-ghost use Rattle.toml_edit_files.specs.declared.stop.Reason.TheVariants.{Refused};
+ghost use Rattle.toml_edit_files.specs.declared.stop.Reason.TheVariants.{Failed};
 ghost use Rattle.toml_edit_replace.specs.Events.{NotesFound, found};
-ghost use Rattle.toml_edit_files.specs.Stops.{reason_of};
+ghost use Rattle.toml_edit_files.specs.Stops.{IsFor, IsUnread, reason_of};
 
-use crate::messages::{failed, located};
+use crate::messages::{failed, refused};
 use crate::stop::{Reason, Stop};
 use crate::words::Reading;
 use std::alloc::Global;
@@ -27,12 +28,19 @@ pub fn text_of<F: Folder, I: Input>(
 ) -> Result<String, Stop>
     ensures text { IfOk result (λ s. IsTextOf file.now (F.history folder.old)
         (F.history folder.new) (I.remaining input.old) (string_bytes s)) }
-    ensures refused { IfErr result (λ stop. reason_of stop ≡ Some Refused
-        → IsNoTextOf file.now (F.history folder.old) (F.history folder.new)
-        (I.remaining input.old)) }
+    ensures stops { IfErr result (λ stop. IsUnread (IsNoTextOf file.now (F.history folder.old)
+        (F.history folder.new)) (reason_of stop)) }
     ensures looks { OnlyLooks (F.history folder.old) (F.history folder.new) }
 {
     let bytes = bytes_of(alloc, folder, input, file)?;
+    utf8(alloc, file, bytes)
+}
+
+/// Returns the bytes of a file as a text.
+pub fn utf8(alloc: Global, file: &str, bytes: Vec<u8>) -> Result<String, Stop>
+    ensures text { IfOk result (λ s. string_bytes s ≡ bytes.items) }
+    ensures stops { IfErr result (λ stop. IsUnread (¬ (IsUtf8 bytes.items)) (reason_of stop)) }
+{
     match String::from_utf8(bytes) {
         Ok(text) => Ok(text),
         Err(_) => Err(Stop::Message(
@@ -51,7 +59,7 @@ fn bytes_of<F: Folder, I: Input>(
 ) -> Result<Vec<u8>, Stop>
     ensures text { IfOk result (λ bytes. IsTextOf file.now (F.history folder.old)
         (F.history folder.new) (I.remaining input.old) bytes.items) }
-    ensures failed { IfErr result (λ stop. reason_of stop ≢ Some Refused) }
+    ensures failed { IfErr result (λ stop. IsFor Failed (reason_of stop)) }
     ensures looks { OnlyLooks (F.history folder.old) (F.history folder.new) }
 {
     if file == STREAM {
@@ -63,7 +71,7 @@ fn bytes_of<F: Folder, I: Input>(
 
 /// Returns the bytes of standard input.
 fn input_bytes<I: Input>(alloc: Global, input: &mut I) -> Result<Vec<u8>, Stop>
-    ensures failed { IfErr result (λ stop. reason_of stop ≢ Some Refused) }
+    ensures failed { IfErr result (λ stop. IsFor Failed (reason_of stop)) }
     ensures bytes { IfOk result (λ bytes. IfSome (I.remaining input.old) (λ left. bytes.items ≡ left)) }
 {
     match read_to_end(alloc, input) {
@@ -78,7 +86,7 @@ fn input_bytes<I: Input>(alloc: Global, input: &mut I) -> Result<Vec<u8>, Stop>
 
 /// Returns the bytes of a file.
 fn file_bytes<F: Folder>(alloc: Global, folder: &mut F, file: &str) -> Result<Vec<u8>, Stop>
-    ensures failed { IfErr result (λ stop. reason_of stop ≢ Some Refused) }
+    ensures failed { IfErr result (λ stop. IsFor Failed (reason_of stop)) }
     ensures notes { NotesFound (F.history folder.old) (F.history folder.new)
         (λ bytes. found file.now bytes.items) result }
 {
@@ -102,11 +110,7 @@ pub fn document_of(
 {
     match DocumentMut::from_str_with(alloc, text, reading.options()) {
         Ok(document) => Ok(document),
-        Err(ParseFault::Toml(error)) => {
-            let line = located(alloc, file, &error)?;
-            let line = line.as_str();
-            Err(Stop::Message(Reason::Refused, format!(in alloc; "tomlfile: {line}")?))
-        }
+        Err(ParseFault::Toml(error)) => Err(refused(alloc, file, &error)),
         Err(ParseFault::Memory) => Err(Stop::Memory),
     }
 }

@@ -1,5 +1,5 @@
 //! Why a run ends before it is done.
-ghost use Rattle.std.specs.Prelude.{◌≡◌};
+ghost use Rattle.std.specs.Prelude.{◌≡◌, Some};
 ghost use Rattle.toml_edit_files.specs.Stops.{status_of};
 
 use std::alloc::{AllocError, AllocFailed, Global};
@@ -42,7 +42,7 @@ pub const FAILED: u8 = 4;
 impl Reason {
     /// Returns the exit status.
     pub fn status(self) -> u8
-        ensures { result ≡ status_of self }
+        ensures { result ≡ status_of (Some self) }
     {
         match self {
             Reason::No => NO,

@@ -5,9 +5,11 @@ ghost use Rattle.toml_edit_files.specs.Edited.{mode_by, version_by};
 ghost use Rattle.toml_edit_parser.specs.Options.{mode_of, version_of};
 
 use crate::edits::next_edit;
-use crate::help::{Topic, topic_of, usage};
-use crate::paths::path_of;
-use crate::stop::{Reason, Stop};
+use crate::help::{COMMANDS, Topic, VERSION, help, topic_of, usage};
+use crate::messages::mistaken;
+use crate::paths::{near, path_of, sort_path_of};
+use crate::read::STREAM;
+use crate::stop::Stop;
 use std::alloc::Global;
 use toml_edit::{Key, ParseOptions, Version};
 use toml_edit_script::Edit;
@@ -47,11 +49,11 @@ impl Reading {
 /// A command with its operands.
 #[derive(Drop)]
 pub enum Command<'w> {
-    Help(Topic),
-    Version,
+    /// To write this text.
+    Show(String),
     Ask(Question<'w>),
     Edit(EditCommand<'w>, Vec<Edit>),
-    Check(&'w [String]),
+    Check(Vec<&'w str>),
     Fmt(Fmt<'w>),
 }
 
@@ -127,6 +129,8 @@ pub struct EditCommand<'w> {
     pub dry_run: bool,
     pub output: Option<&'w str>,
     pub locked: bool,
+    /// Whether a read-only file is replaced.
+    pub force: bool,
 }
 
 /// The operands of `keys`.
@@ -150,6 +154,8 @@ pub struct Fmt<'w> {
     pub files: Vec<&'w str>,
     pub style: Style,
     pub check: bool,
+    /// Whether a read-only file is replaced.
+    pub force: bool,
 }
 
 /// What `fmt` changes besides the layout.
@@ -194,40 +200,41 @@ fn command_of<'w>(
     };
     match name.as_str() {
         "--help" | "-h" | "help" => return help_of(alloc, operands),
-        "--version" | "-V" => return Ok(Command::Version),
+        "--version" | "-V" => return Ok(Command::Show(String::from_str(alloc, VERSION)?)),
         _ => {}
     }
     let Some(topic) = topic_of(name.as_str()) else {
-        return Err(wrong_words(alloc, Topic::Program));
+        return Err(no_command(alloc, name.as_str()));
     };
     if asks_help(operands) {
-        return Ok(Command::Help(topic));
+        return Ok(Command::Show(help(alloc, topic)?));
     }
+    if topic == Topic::Edit {
+        return edit_of(alloc, operands, reading);
+    }
+    let words = split(alloc, topic, operands)?;
     match topic {
-        Topic::Program => Err(wrong_words(alloc, Topic::Program)),
-        Topic::Get => Ok(Command::Ask(Question::Get(get_of(alloc, operands)?))),
-        Topic::Has => Ok(Command::Ask(Question::Has(has_of(alloc, operands)?))),
-        Topic::Edit => edit_of(alloc, operands, reading),
-        Topic::Keys => Ok(Command::Ask(Question::Keys(keys_of(alloc, operands)?))),
-        Topic::Json => Ok(Command::Ask(Question::Json(json_of(alloc, operands)?))),
-        Topic::Check => match operands {
-            [] => Err(wrong_words(alloc, Topic::Check)),
-            _ => Ok(Command::Check(operands)),
-        },
-        Topic::Fmt => Ok(Command::Fmt(fmt_of(alloc, operands)?)),
+        Topic::Get => Ok(Command::Ask(Question::Get(get_of(alloc, &words)?))),
+        Topic::Has => Ok(Command::Ask(Question::Has(has_of(alloc, &words)?))),
+        Topic::Keys => Ok(Command::Ask(Question::Keys(keys_of(alloc, &words)?))),
+        Topic::Json => Ok(Command::Ask(Question::Json(json_of(alloc, &words)?))),
+        Topic::Fmt => Ok(Command::Fmt(fmt_of(alloc, words)?)),
+        _ if !words.operands.is_empty() => Ok(Command::Check(words.operands)),
+        _ => Err(wrong_words(alloc, topic)),
     }
 }
 
 /// Reads what `--help` is asked about.
 fn help_of<'w>(alloc: Global, operands: &'w [String]) -> Result<Command<'w>, Stop> {
-    match operands {
-        [] => Ok(Command::Help(Topic::Program)),
+    let topic = match operands {
+        [] => Topic::Program,
         [name] => match topic_of(name.as_str()) {
-            Some(topic) => Ok(Command::Help(topic)),
-            None => Err(wrong_words(alloc, Topic::Program)),
+            Some(topic) => topic,
+            None => return Err(no_command(alloc, name.as_str())),
         },
-        _ => Err(wrong_words(alloc, Topic::Program)),
-    }
+        _ => return Err(wrong_words(alloc, Topic::Program)),
+    };
+    Ok(Command::Show(help(alloc, topic)?))
 }
 
 /// Returns `true` if the first operand asks for help.
@@ -241,57 +248,157 @@ fn asks_help(operands: &[String]) -> bool {
 /// Returns that the words are no command, with the usage of the nearest one.
 pub fn wrong_words(alloc: Global, topic: Topic) -> Stop {
     let usage = usage(topic);
-    match format!(in alloc; "tomlfile: usage: {usage}\n") {
-        Ok(text) => Stop::Message(Reason::Mistaken, text),
+    mistaken(format!(in alloc; "tomlfile: usage: {usage}\n"))
+}
+
+/// Returns that there is no command of this name.
+fn no_command(alloc: Global, name: &str) -> Stop {
+    if is_option(name) {
+        return no_option(alloc, Topic::Program, name);
+    }
+    match near(alloc, name, COMMANDS) {
+        Ok(near) => {
+            let (near, usage) = (near.as_str(), usage(Topic::Program));
+            mistaken(format!(in alloc;
+                "tomlfile: unknown command {name}{near}\ntomlfile: usage: {usage}\n"
+            ))
+        }
         Err(_) => Stop::Memory,
     }
 }
 
-/// Reads the operands of `get`.
-fn get_of<'w>(alloc: Global, words: &'w [String]) -> Result<Get<'w>, Stop> {
-    let mut file = None;
-    let mut paths = Vec::new(alloc);
-    let mut shape = Shape::Spelled;
-    let mut default = None;
+/// Returns that a command has no option of this name.
+fn no_option(alloc: Global, topic: Topic, name: &str) -> Stop {
+    let usage = usage(topic);
+    mistaken(format!(in alloc; "tomlfile: no option {name}\ntomlfile: usage: {usage}\n"))
+}
+
+/// Returns `true` if the word is written as an option.
+fn is_option(word: &str) -> bool {
+    word.starts_with('-') && word != STREAM
+}
+
+/// The words of a command: its options, each with its operand, and the others.
+#[derive(Drop)]
+struct Words<'w> {
+    options: Vec<(&'w str, &'w str)>,
+    operands: Vec<&'w str>,
+}
+
+/// An option with its operand, which is empty if it takes none, and the words after it.
+#[derive(Clone, Copy)]
+struct Taken<'w> {
+    name: &'w str,
+    operand: &'w str,
+    rest: &'w [String],
+}
+
+/// Returns whether an option of a command takes an operand, or `None` if it has none of this name.
+fn takes_operand(topic: Topic, name: &str) -> Option<bool> {
+    match (topic, name) {
+        (Topic::Get, "--raw" | "--lines")
+        | (Topic::Keys, "--all")
+        | (Topic::Edit, "--dry-run" | "--locked" | "--force")
+        | (Topic::Fmt, "--check" | "--keys" | "--force") => Some(false),
+        (Topic::Get, "--default")
+        | (Topic::Edit, "--script" | "--output")
+        | (Topic::Fmt, "--sort") => { Some(true) }
+        _ => None,
+    }
+}
+
+/// Returns the option that the words begin with, if they do.
+fn option_of<'w>(
+    alloc: Global,
+    topic: Topic,
+    words: &'w [String],
+) -> Result<Option<Taken<'w>>, Stop> {
+    let [name, rest @ ..] = words else {
+        return Ok(None);
+    };
+    let name = name.as_str();
+    match (takes_operand(topic, name), rest) {
+        (None, _) => Ok(None),
+        (Some(false), _) => Ok(Some(Taken {
+            name,
+            operand: "",
+            rest,
+        })),
+        (Some(true), [operand, rest @ ..]) => Ok(Some(Taken {
+            name,
+            operand: operand.as_str(),
+            rest,
+        })),
+        (Some(true), []) => Err(wrong_words(alloc, topic)),
+    }
+}
+
+/// Tells options from operands. The word `--` ends the options, and before it no file is named as one.
+fn split<'w>(alloc: Global, topic: Topic, words: &'w [String]) -> Result<Words<'w>, Stop> {
+    let (mut options, mut operands) = (Vec::new(alloc), Vec::new(alloc));
+    let mut ended = false;
     let mut rest = words;
     'words: for _ in 0..words.len() {
+        if !ended {
+            if let Some(taken) = option_of(alloc, topic, rest)? {
+                options.push((taken.name, taken.operand))?;
+                rest = taken.rest;
+                continue;
+            }
+        }
         let [word, more @ ..] = rest else {
             break 'words;
         };
         rest = more;
-        match word.as_str() {
-            "--raw" => shape = Shape::Raw,
-            "--lines" => shape = Shape::Lines,
-            "--default" => {
-                let [text, more @ ..] = rest else {
-                    return Err(wrong_words(alloc, Topic::Get));
-                };
-                default = Some(text.as_str());
-                rest = more;
-            }
-            _ => match file {
-                None => file = Some(word.as_str()),
-                Some(file) => paths.push(path_of(alloc, file, word.as_str())?)?,
-            },
+        let word = word.as_str();
+        let is_file = operands.is_empty() || topic == Topic::Check || topic == Topic::Fmt;
+        if !ended && word == "--" {
+            ended = true;
+        } else if !ended && is_file && is_option(word) {
+            return Err(no_option(alloc, topic, word));
+        } else {
+            operands.push(word)?;
         }
     }
-    match file {
-        Some(file) if !paths.is_empty() => Ok(Get {
-            file,
-            paths,
-            shape,
-            default,
-        }),
-        _ => Err(wrong_words(alloc, Topic::Get)),
+    Ok(Words { options, operands })
+}
+
+/// Reads the operands of `get`.
+fn get_of<'w>(alloc: Global, words: &Words<'w>) -> Result<Get<'w>, Stop> {
+    let [file, texts @ ..] = words.operands.as_slice() else {
+        return Err(wrong_words(alloc, Topic::Get));
+    };
+    let file = *file;
+    let (mut shape, mut default) = (Shape::Spelled, None);
+    for option in words.options.as_slice() {
+        let (name, operand) = *option;
+        match name {
+            "--raw" => shape = Shape::Raw,
+            "--lines" => shape = Shape::Lines,
+            _ => default = Some(operand),
+        }
     }
+    let mut paths = Vec::new(alloc);
+    for text in texts {
+        paths.push(path_of(alloc, file, *text)?)?;
+    }
+    if paths.is_empty() {
+        return Err(wrong_words(alloc, Topic::Get));
+    }
+    Ok(Get {
+        file,
+        paths,
+        shape,
+        default,
+    })
 }
 
 /// Reads the operands of `has`.
-fn has_of<'w>(alloc: Global, words: &'w [String]) -> Result<Has<'w>, Stop> {
-    let (file, path, kind) = match words {
-        [file, path] => (file.as_str(), path.as_str(), None),
-        [file, path, kind] => match kind_of(kind.as_str()) {
-            Some(kind) => (file.as_str(), path.as_str(), Some(kind)),
+fn has_of<'w>(alloc: Global, words: &Words<'w>) -> Result<Has<'w>, Stop> {
+    let (file, path, kind) = match words.operands.as_slice() {
+        [file, path] => (*file, *path, None),
+        [file, path, kind] => match kind_of(*kind) {
+            Some(kind) => (*file, *path, Some(kind)),
             None => return Err(wrong_words(alloc, Topic::Has)),
         },
         _ => return Err(wrong_words(alloc, Topic::Has)),
@@ -327,36 +434,43 @@ enum Expected {
     Comma,
 }
 
-/// Reads the operands of `edit`.
+/// Reads the operands of `edit`. Those of an edit are never options.
 fn edit_of<'w>(alloc: Global, words: &'w [String], reading: Reading) -> Result<Command<'w>, Stop> {
     let mut command = no_operands();
     let mut edits = Vec::new(alloc);
     let mut expected = Expected::File;
+    let mut ended = false;
     let mut rest = words;
     'words: for _ in 0..words.len() {
+        if !ended {
+            if let Some(taken) = option_of(alloc, Topic::Edit, rest)? {
+                set_option(&mut command, taken);
+                rest = taken.rest;
+                continue;
+            }
+        }
         let [word, more @ ..] = rest else {
             break 'words;
         };
-        if let Some(after) = option_of(alloc, &mut command, word.as_str(), more)? {
-            rest = after;
-            continue;
-        }
-        match expected {
-            Expected::File => {
-                command.file = word.as_str();
-                rest = more;
-                expected = Expected::First;
+        let word = word.as_str();
+        if !ended && word == "--" {
+            ended = true;
+            rest = more;
+        } else if !ended && is_option(word) {
+            return Err(no_option(alloc, Topic::Edit, word));
+        } else if expected == Expected::Comma {
+            if word != "," {
+                return Err(wrong_words(alloc, Topic::Edit));
             }
-            Expected::Comma if word.as_str() == "," => {
-                rest = more;
-                expected = Expected::Next;
-            }
-            Expected::Comma => return Err(wrong_words(alloc, Topic::Edit)),
-            Expected::First | Expected::Next => {
-                let file = command.file;
-                rest = next_edit(alloc, &mut edits, file, rest, reading)?;
-                expected = Expected::Comma;
-            }
+            expected = Expected::Next;
+            rest = more;
+        } else if expected == Expected::File {
+            command.file = word;
+            expected = Expected::First;
+            rest = more;
+        } else {
+            rest = next_edit(alloc, &mut edits, command.file, rest, reading)?;
+            expected = Expected::Comma;
         }
     }
     match expected {
@@ -374,113 +488,67 @@ fn no_operands<'w>() -> EditCommand<'w> {
         dry_run: false,
         output: None,
         locked: false,
+        force: false,
     }
 }
 
-/// Takes an option of `edit` into the command, and returns the words after it, or `None` if the
-/// word is no option.
-fn option_of<'w>(
-    alloc: Global,
-    command: &mut EditCommand<'w>,
-    word: &str,
-    more: &'w [String],
-) -> Result<Option<&'w [String]>, Stop> {
-    match word {
+/// Takes an option into the command.
+fn set_option<'w>(command: &mut EditCommand<'w>, taken: Taken<'w>) {
+    match taken.name {
         "--dry-run" => command.dry_run = true,
         "--locked" => command.locked = true,
-        "--script" | "--output" => {
-            let [name, rest @ ..] = more else {
-                return Err(wrong_words(alloc, Topic::Edit));
-            };
-            if word == "--script" {
-                command.script = Some(name.as_str());
-            } else {
-                command.output = Some(name.as_str());
-            }
-            return Ok(Some(rest));
-        }
-        _ => return Ok(None),
+        "--force" => command.force = true,
+        "--script" => command.script = Some(taken.operand),
+        _ => command.output = Some(taken.operand),
     }
-    Ok(Some(more))
 }
 
 /// Reads the operands of `keys`.
-fn keys_of<'w>(alloc: Global, words: &'w [String]) -> Result<Keys<'w>, Stop> {
-    let mut file = None;
-    let mut path = None;
-    let mut all = false;
-    for word in words {
-        let word = word.as_str();
-        if word == "--all" {
-            all = true;
-        } else if file.is_none() {
-            file = Some(word);
-        } else if path.is_none() {
-            path = Some(word);
-        } else {
-            return Err(wrong_words(alloc, Topic::Keys));
-        }
-    }
-    match file {
-        Some(file) => Ok(Keys {
-            file,
-            path: some_path_of(alloc, file, path)?,
-            all,
-        }),
-        None => Err(wrong_words(alloc, Topic::Keys)),
-    }
+fn keys_of<'w>(alloc: Global, words: &Words<'w>) -> Result<Keys<'w>, Stop> {
+    let (file, path) = file_and_path(alloc, Topic::Keys, words)?;
+    let all = !words.options.is_empty();
+    Ok(Keys { file, path, all })
 }
 
 /// Reads the operands of `json`.
-fn json_of<'w>(alloc: Global, words: &'w [String]) -> Result<Json<'w>, Stop> {
-    let (file, path) = match words {
-        [file] => (file.as_str(), None),
-        [file, path] => (file.as_str(), Some(path.as_str())),
-        _ => return Err(wrong_words(alloc, Topic::Json)),
-    };
-    let path = some_path_of(alloc, file, path)?;
+fn json_of<'w>(alloc: Global, words: &Words<'w>) -> Result<Json<'w>, Stop> {
+    let (file, path) = file_and_path(alloc, Topic::Json, words)?;
     Ok(Json { file, path })
 }
 
-/// Reads the operands of `fmt`.
-fn fmt_of<'w>(alloc: Global, words: &'w [String]) -> Result<Fmt<'w>, Stop> {
-    let mut files = Vec::new(alloc);
-    let mut sorts = Vec::new(alloc);
-    let (mut check, mut keys) = (false, false);
-    let mut rest = words;
-    'words: for _ in 0..words.len() {
-        let [word, more @ ..] = rest else {
-            break 'words;
-        };
-        rest = more;
-        match word.as_str() {
-            "--check" => check = true,
-            "--keys" => keys = true,
-            "--sort" => {
-                let [path, more @ ..] = rest else {
-                    return Err(wrong_words(alloc, Topic::Fmt));
-                };
-                sorts.push(Edit::Sort(path_of(alloc, "--sort", path.as_str())?))?;
-                rest = more;
-            }
-            _ => files.push(word.as_str())?,
-        }
+/// Reads a file and a path, which is that of the root if it is missing.
+fn file_and_path<'w>(
+    alloc: Global,
+    topic: Topic,
+    words: &Words<'w>,
+) -> Result<(&'w str, Vec<Key>), Stop> {
+    match words.operands.as_slice() {
+        [file] => Ok((*file, Vec::new(alloc))),
+        [file, path] => Ok((*file, path_of(alloc, *file, *path)?)),
+        _ => Err(wrong_words(alloc, topic)),
     }
-    if files.is_empty() {
-        return Err(wrong_words(alloc, Topic::Fmt));
-    }
-    let style = Style { sorts, keys };
-    Ok(Fmt {
-        files,
-        style,
-        check,
-    })
 }
 
-/// Parses PATH, or returns the empty path, which is that of the root, if there is none.
-fn some_path_of(alloc: Global, file: &str, text: Option<&str>) -> Result<Vec<Key>, Stop> {
-    match text {
-        Some(text) => path_of(alloc, file, text),
-        None => Ok(Vec::new(alloc)),
+/// Reads the operands of `fmt`.
+fn fmt_of<'w>(alloc: Global, words: Words<'w>) -> Result<Fmt<'w>, Stop> {
+    if words.operands.is_empty() {
+        return Err(wrong_words(alloc, Topic::Fmt));
     }
+    let mut sorts = Vec::new(alloc);
+    let (mut check, mut keys, mut force) = (false, false, false);
+    for option in words.options.as_slice() {
+        let (name, operand) = *option;
+        match name {
+            "--check" => check = true,
+            "--keys" => keys = true,
+            "--force" => force = true,
+            _ => sorts.push(Edit::Sort(sort_path_of(alloc, "--sort", operand)?))?,
+        }
+    }
+    Ok(Fmt {
+        files: words.operands,
+        style: Style { sorts, keys },
+        check,
+        force,
+    })
 }

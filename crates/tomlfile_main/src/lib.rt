@@ -1,20 +1,22 @@
 //! The program `tomlfile` over the arguments, the files and the streams of its process.
 #![tactic(auto)]
 
-use process_words::words_of;
+use process_words::{WordsFault, words_of};
 use std::process;
 use std::process::ExitCode;
 use toml_edit_files::{end_without_memory, run};
-use toml_edit_io::Watched;
+use toml_edit_io::{Watched, write_all};
 use toml_edit_replace::Host;
 
 /// Runs `tomlfile` with the arguments, the files and the streams of the process, and returns its
 /// exit status.
 ///
-/// It is that of [`toml_edit_files::run`], but for one fault: out of memory for the arguments.
+/// It is that of [`toml_edit_files::run`], but for faults of the arguments: 3 if out of memory for
+/// them, and 2 if one is not UTF-8.
 pub fn run_process(rt: HostRuntime) -> ExitCode {
-    let Some(words) = words_of(&rt) else {
-        return ExitCode::from(end_without_memory(&mut Watched::new(rt.stderr())));
+    let words = match words_of(&rt) {
+        Ok(words) => words,
+        Err(fault) => return ExitCode::from(end_without_words(&rt, fault)),
     };
     let status = run(
         rt.alloc(),
@@ -25,4 +27,19 @@ pub fn run_process(rt: HostRuntime) -> ExitCode {
         &mut Watched::new(rt.stderr()),
     );
     ExitCode::from(status)
+}
+
+/// Writes why the arguments are not known, and returns the exit status.
+fn end_without_words(rt: &HostRuntime, fault: WordsFault) -> u8 {
+    let mut errors = Watched::new(rt.stderr());
+    let WordsFault::NotUtf8(number) = fault else {
+        return end_without_memory(&mut errors);
+    };
+    match format!(in rt.alloc(); "tomlfile: word {number} is not UTF-8\n") {
+        Ok(text) => {
+            let _ = write_all(&mut errors, text.as_bytes());
+            2
+        }
+        Err(_) => end_without_memory(&mut errors),
+    }
 }

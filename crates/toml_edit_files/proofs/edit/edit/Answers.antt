@@ -1,55 +1,71 @@
--- The text of the file is edited, and goes where it should.
-use Rattle.std.proofs.Common.{List, subst}
-use Rattle.std.specs.Prelude.{string_bytes}
-use Rattle.toml_edit_files.specs.Edited.{IsEdited}
-use Rattle.toml_edit_files.specs.Folders.{Puts}
+-- The script is read first.
+use Rattle.std.proofs.Common.{◌≡◌, ◌∙◌, List, false, true, string_bytes, subst, sym}
+use Rattle.std.proofs.lemmas.Result.{IfErr-weaker, IfOk-weaker}
 use Rattle.toml_edit_replace.specs.Events.{Text}
 use Rattle.toml_edit_script.specs.declared.edit.Edit.{Edit}
-use Rattle.toml_edit_files.proofs.FolderLaws.{looks_then, stops_looking, stops_putting}
-use Rattle.toml_edit_files.proofs.StopLaws.{passed}
-use Rattle.toml_edit_files.specs.EditFiles.{StopsEditing}
+use Rattle.toml_edit_files.specs.EditFiles.{EditsElsewhere, EditsFile, EditsInPlace, is_in_place, target_of}
+use Rattle.toml_edit_files.specs.Folders.{Stops}
 use Rattle.toml_edit_files.specs.Stops.{reason_of}
+use Rattle.toml_edit_files.proofs.FolderLaws.{stops_then}
+use Rattle.toml_edit_files.proofs.RunLaws.{chosen, chosen_not, target_in_place}
 use Rattle.toml_edit_files.proofs.edit.edit.Goals as goal
+
+pub returns-then-is_in_place-clause-edits : goal.returns-then-is_in_place-clause-edits
+returns-then-is_in_place-clause-edits g c =
+    let command = c.args.command.now in
+    let all = c.in_ok-edits.edits.items in
+    let scripted = g.F.Folder.history c.all_edits.new.folder in
+    let new = g.F.Folder.history c.edit_in_place.new.folder in
+    let is : is_in_place command ≡ true = sym c.is_in_place.ensures ∙ c.if-is_in_place.true in
+    IfOk-weaker c.edit_in_place.result
+    (λ d. EditsInPlace c.args.reading command c.as_slice-edits.result.now scripted new (string_bytes d.output))
+    (λ d. EditsFile c.args.reading command c.args.edits.items (g.F.Folder.history c.args.folder.now) new (string_bytes d.output))
+    (λ d h. (
+      all,
+      scripted,
+      c.in_ok-edits.ensures.looks,
+      c.in_ok-edits.ensures.edits,
+      chosen _ _ (is_in_place command) is
+          (subst (λ (es : List Edit). EditsInPlace c.args.reading command es scripted new (string_bytes d.output)) c.as_slice-edits.ensures.value h),
+    ))
+    c.edit_in_place.ensures.edits
+
+pub returns-then-is_in_place-clause-stops : goal.returns-then-is_in_place-clause-stops
+returns-then-is_in_place-clause-stops g c =
+    let command = c.args.command.now in
+    let old = g.F.Folder.history c.args.folder.now in
+    let scripted = g.F.Folder.history c.all_edits.new.folder in
+    let new = g.F.Folder.history c.edit_in_place.new.folder in
+    let is : is_in_place command ≡ true = sym c.is_in_place.ensures ∙ c.if-is_in_place.true in
+    IfErr-weaker c.edit_in_place.result (λ s. Stops command.file.now scripted new (reason_of s)) (λ s. Stops (target_of command) old new (reason_of s))
+    (λ s h. stops_then (target_of command) old scripted new (reason_of s) c.in_ok-edits.ensures.looks
+    (subst (λ (n : Text). Stops n scripted new (reason_of s)) (sym (target_in_place command is)) h))
+    c.edit_in_place.ensures.stops
 
 pub returns-clause-edits : goal.returns-clause-edits
 returns-clause-edits g c =
-    let before = string_bytes c.in_ok-text.text in
-    let text = string_bytes c.in_ok-edited.edited.output in
-    record {
-      all = c.in_ok-edits.edits.items;
-      before = before;
-      text = text;
-      scripted = g.F.Folder.history c.all_edits.new.folder;
-      read = g.F.Folder.history c.text_of.new.folder;
-      left = g.I.Input.remaining c.all_edits.new.input;
-      script = (c.in_ok-edits.ensures.looks, c.in_ok-edits.ensures.edits);
-      file = c.in_ok-text.ensures.text;
-      edited = subst (λ (es : List Edit). IsEdited c.args.reading es before text) c.as_slice.ensures.value
-          (subst (λ (s : Text). IsEdited c.args.reading c.as_slice.result.now s text) c.as_str.ensures.value c.in_ok-edited.ensures.text);
-      puts = subst (λ (s : Text). Puts c.args.command.now s text (g.F.Folder.history c.text_of.new.folder) (g.F.Folder.history c.put.new.folder) (string_bytes c.in_ok-output.output)) c.as_str-2.ensures.value c.in_ok-output.ensures.puts;
-    }
+    let command = c.args.command.now in
+    let scripted = g.F.Folder.history c.all_edits.new.folder in
+    let new = g.F.Folder.history c.edit_elsewhere.new.folder in
+    let is : is_in_place command ≡ false = sym c.is_in_place.ensures ∙ c.if-is_in_place.false in
+    IfOk-weaker c.edit_elsewhere.result
+    (λ d. EditsElsewhere c.args.reading command c.as_slice-edits.result.now scripted new (string_bytes d.output))
+    (λ d. EditsFile c.args.reading command c.args.edits.items (g.F.Folder.history c.args.folder.now) new (string_bytes d.output))
+    (λ d h. (
+      c.in_ok-edits.edits.items,
+      scripted,
+      c.in_ok-edits.ensures.looks,
+      c.in_ok-edits.ensures.edits,
+      chosen_not _ _ (is_in_place command) is
+          (subst (λ (es : List Edit). EditsElsewhere c.args.reading command es scripted new (string_bytes d.output)) c.as_slice-edits.ensures.value h),
+    ))
+    c.edit_elsewhere.ensures.edits
 
-pub returns-in_err-edits-clause-stops : goal.returns-in_err-edits-clause-stops
-returns-in_err-edits-clause-stops g c =
-    passed c.from_residual.result c.in_err-edits.field-0.0
-    (λ s. StopsEditing c.args.command.now (g.F.Folder.history c.args.folder.now) (g.F.Folder.history c.all_edits.new.folder) (reason_of s)) c.from_residual.ensures.1
-    (stops_looking c.args.command.now _ _ _ c.in_err-edits.ensures.looks)
-
-pub returns-in_err-text-clause-stops : goal.returns-in_err-text-clause-stops
-returns-in_err-text-clause-stops g c =
-    passed c.from_residual-in_err-text.result c.in_err-text.field-0.0
-    (λ s. StopsEditing c.args.command.now (g.F.Folder.history c.args.folder.now) (g.F.Folder.history c.text_of.new.folder) (reason_of s)) c.from_residual-in_err-text.ensures.1
-    (stops_looking c.args.command.now _ _ _ (looks_then _ _ _ c.in_ok-edits.ensures.looks c.in_err-text.ensures.looks))
-
-pub returns-in_err-edited-clause-stops : goal.returns-in_err-edited-clause-stops
-returns-in_err-edited-clause-stops g c =
-    passed c.from_residual-in_err-edited.result c.in_err-edited.field-0.0
-    (λ s. StopsEditing c.args.command.now (g.F.Folder.history c.args.folder.now) (g.F.Folder.history c.text_of.new.folder) (reason_of s)) c.from_residual-in_err-edited.ensures.1
-    (stops_looking c.args.command.now _ _ _ (looks_then _ _ _ c.in_ok-edits.ensures.looks c.in_ok-text.ensures.looks))
-
-pub returns-in_err-output-clause-stops : goal.returns-in_err-output-clause-stops
-returns-in_err-output-clause-stops g c =
-    passed c.from_residual-in_err-output.result c.in_err-output.field-0.0
-    (λ s. StopsEditing c.args.command.now (g.F.Folder.history c.args.folder.now) (g.F.Folder.history c.put.new.folder) (reason_of s)) c.from_residual-in_err-output.ensures.1
-    (stops_putting c.args.command.now _ _ _ _ _ c.in_err-output.ensures.reason
-    (looks_then _ _ _ c.in_ok-edits.ensures.looks c.in_ok-text.ensures.looks) c.in_err-output.ensures.stops)
+pub returns-clause-stops : goal.returns-clause-stops
+returns-clause-stops g c =
+    let target = target_of c.args.command.now in
+    let old = g.F.Folder.history c.args.folder.now in
+    let scripted = g.F.Folder.history c.all_edits.new.folder in
+    let new = g.F.Folder.history c.edit_elsewhere.new.folder in
+    IfErr-weaker c.edit_elsewhere.result (λ s. Stops target scripted new (reason_of s)) (λ s. Stops target old new (reason_of s))
+    (λ s h. stops_then target old scripted new (reason_of s) c.in_ok-edits.ensures.looks h) c.edit_elsewhere.ensures.stops

@@ -1,51 +1,40 @@
--- Each file is read, and then each text that changes is put.
-use Rattle.std.proofs.Common.{◌≡◌, Bor, List, ◌∙◌, ap, inl, map, subst}
-use Rattle.std.specs.List.{list_all}
-use Rattle.std.specs.Prelude.{MatchBool, flat_map}
+-- One more file is formatted, or memory runs out.
+use Rattle.std.proofs.Common.{◌≡◌, ◌<◌, ◌≤◌, Bor, List, false, true, length, arith, subst}
 use Rattle.toml_edit_replace.specs.Events.{Text}
-use Rattle.toml_edit_script.specs.declared.edit.Edit.{Edit}
-use Rattle.toml_edit_files.proofs.FormatLaws.{formats_looking, formats_putting}
-use Rattle.toml_edit_files.proofs.StopLaws.{passed}
-use Rattle.toml_edit_files.specs.FormatFiles.{ArePlanned, ArePut, StopsFormatting, is_fine, output_for}
-use Rattle.toml_edit_files.specs.Stops.{reason_of}
-use Rattle.toml_edit_files.specs.declared.fmt.Plan.{Plan}
-use Rattle.toml_edit_files.specs.declared.stop.Stop.TheVariants.{Memory}
+use Rattle.toml_edit_files.specs.FormatFiles.{FormatsFile}
+use Rattle.toml_edit_files.specs.Outcomes.{DoesAll}
+use Rattle.toml_edit_files.proofs.OutcomeLaws.{before_at, done_at, more_at, names_from}
 use Rattle.toml_edit_files.proofs.fmt.fmt.Goals as goal
 
-pub returns-in_err-plans-clause-stops : goal.returns-in_err-plans-clause-stops
-returns-in_err-plans-clause-stops g c =
-    passed c.from_residual.result c.in_err-plans.field-0.0
-    (λ s. StopsFormatting (g.F.Folder.history c.args.folder.now) (g.F.Folder.history c.plans_of.new.folder) (reason_of s)) c.from_residual.ensures.1
-    (formats_looking _ _ _ c.in_err-plans.ensures.looks)
-
-pub returns-in_err-output-clause-stops : goal.returns-in_err-output-clause-stops
-returns-in_err-output-clause-stops g c =
-    passed c.from_residual-in_err-output.result Memory
-    (λ s. StopsFormatting (g.F.Folder.history c.args.folder.now) (g.F.Folder.history c.plans_of.new.folder) (reason_of s))
-    c.from_residual-in_err-output.ensures.1 (inl c.in_ok-plans.ensures.looks)
-
-pub returns-in_err-put_all-clause-stops : goal.returns-in_err-put_all-clause-stops
-returns-in_err-put_all-clause-stops g c =
-    passed c.from_residual-in_err-put_all.result c.in_err-put_all.field-0.0
-    (λ s. StopsFormatting (g.F.Folder.history c.args.folder.now) (g.F.Folder.history c.put_all.new.folder) (reason_of s))
-    c.from_residual-in_err-put_all.ensures.1
-    (formats_putting _ _ _ _ _ c.in_err-put_all.ensures.reason c.in_ok-plans.ensures.looks c.in_err-put_all.ensures.stops)
-
-pub returns-clause-formats : goal.returns-clause-formats
-returns-clause-formats g c =
-    let command = c.args.command.now in
+pub returns-then-not-add : goal.returns-then-not-add
+returns-then-not-add g c =
+    let fs = c.as_slice-files.result.now in
+    let i = c.files.file-index in
     let start = g.F.Folder.history c.args.folder.now in
-    let read = g.F.Folder.history c.plans_of.new.folder in
-    let new = g.F.Folder.history c.put_all.new.folder in
-    let plans = c.in_ok-plans.plans.items in
-    let same = c.as_slice-plans.ensures.value in
-    record {
-      plans = plans;
-      read = read;
-      planned =
-          subst (λ (fs : List (Bor Text)). ArePlanned c.args.reading command.style (map (λ f. f.now) fs) plans start read) c.as_slice-files.ensures.value
-          c.in_ok-plans.ensures.planned;
-      puts = subst (λ (ps : List Plan). MatchBool command.check (new ≡ read) (ArePut ps read new)) same c.in_ok-put_all.ensures.puts;
-      answer = c.are_fine-yes.ensures ∙ ap (list_all (is_fine command.check)) same;
-      says = c.in_ok-output.ensures ∙ ap (flat_map (output_for command.check)) same;
-    }
+    let new = g.F.Folder.history c.fmt_file-formatted.new.folder in
+    let below : i < length fs = omega arith in
+    let is : c.add.result ≡ false = grind (arith, c.if-not-add.true) in
+    subst (λ (xs : List (Bor Text)). DoesAll (FormatsFile c.args.reading c.args.command.now) (names_from 0 xs) start new c.add.new.self)
+    c.as_slice-files.ensures.value
+    (before_at (FormatsFile c.args.reading c.args.command.now) fs start i (g.F.Folder.history c.files.folder) c.files.told c.files.invariant _ below
+    new c.fmt_file-formatted.result c.fmt_file-formatted.ensures c.add.new.self c.add.result c.add.ensures.told is)
+
+pub files-preserved : goal.files-preserved
+files-preserved g c =
+    let fs = c.as_slice-files.result.now in
+    let i = c.files.file-index in
+    let below : i < length fs = omega arith in
+    let is : c.add.result ≡ true = grind (arith, c.if-not-add.false) in
+    more_at (FormatsFile c.args.reading c.args.command.now) fs (g.F.Folder.history c.args.folder.now) i (g.F.Folder.history c.files.folder) c.files.told
+    c.files.invariant _ below (g.F.Folder.history c.fmt_file-formatted.new.folder) c.fmt_file-formatted.result c.fmt_file-formatted.ensures
+    c.add.new.self c.add.result c.add.ensures.told c.add.ensures.memory is
+
+pub returns : goal.returns
+returns g c =
+    let fs = c.as_slice-files.result.now in
+    let start = g.F.Folder.history c.args.folder.now in
+    let now = g.F.Folder.history c.files.folder in
+    let past : length fs ≤ c.files.file-index = omega arith in
+    subst (λ (xs : List (Bor Text)). DoesAll (FormatsFile c.args.reading c.args.command.now) (names_from 0 xs) start now c.files.told)
+    c.as_slice-files.ensures.value
+    (done_at (FormatsFile c.args.reading c.args.command.now) fs start c.files.file-index now c.files.told c.files.invariant past)

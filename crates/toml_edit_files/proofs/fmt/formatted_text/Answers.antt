@@ -1,19 +1,24 @@
 -- What the sorts leave is formatted and written.
-use Rattle.std.proofs.Common.{◌≡◌, ◌∙◌, Bool, List, Ok, ap, string_bytes, subst}
-use Rattle.std.specs.Prelude.{if◌then◌else◌}
-use Rattle.std.proofs.lemmas.Result.{IfOk-weaker}
+use Rattle.std.proofs.Common.{◌≡◌, ◌≢◌, ◌∙◌, Bool, List, Ok, ap, string_bytes, subst}
+use Rattle.std.specs.Prelude.{Option, Some, None, if◌then◌else◌}
+use Rattle.std.proofs.lemmas.Result.{IfErr-weaker, IfOk-weaker}
 use Rattle.toml_edit.specs.DocumentView.{open_owned, tree_owned}
 use Rattle.toml_edit_fmt_laws.specs.BareKeys.{bared}
 use Rattle.toml_edit_fmt_laws.specs.FormattedTree.{formatted}
 use Rattle.toml_edit_fmt_laws.specs.Rules.{Rules}
-use Rattle.toml_edit_files.specs.Edited.{IsWritten}
+use Rattle.toml_edit_files.specs.Edited.{IsNotWritten, IsWritten}
 use Rattle.toml_edit_files.specs.FormatFiles.{IsFormatted, formatted_by, sorted_by}
 use Rattle.toml_edit_script.specs.declared.edit.Edit.{Edit}
-use Rattle.toml_edit_files.proofs.FormatLaws.{formats}
+use Rattle.toml_edit_files.specs.Stops.{reason_of}
+use Rattle.toml_edit_files.specs.declared.stop.Reason.{Reason}
+use Rattle.toml_edit_files.specs.declared.stop.Reason.TheVariants.{Refused}
+use Rattle.toml_edit_files.specs.declared.stop.Stop.TheVariants.{Memory}
+use Rattle.toml_edit_files.proofs.FormatLaws.{formats, unread_written}
+use Rattle.toml_edit_files.proofs.StopLaws.{passed}
 use Rattle.toml_edit_files.proofs.fmt.formatted_text.Goals as goal
 
-pub returns : goal.returns
-returns c =
+pub returns-clause-formatted : goal.returns-clause-formatted
+returns-clause-formatted c =
     λ by_mode read.
     let d = c.in_ok-formatted.formatted in
     let y = tree_owned c.sort_all.new.document in
@@ -32,3 +37,13 @@ returns c =
     (c.in_ok-formatted.ensures.printed.1 ∙ c.sort_all.ensures.printed.1)
     c.in_ok-formatted.ensures.means c.formatted_reads.ensures.prints (string_bytes s) written)
     c.text_after.ensures.text
+
+pub returns-in_err-formatted-clause-read : goal.returns-in_err-formatted-clause-read
+returns-in_err-formatted-clause-read c =
+    passed c.from_residual-in_err-formatted.result Memory (λ s. reason_of s ≢ Some Refused) c.from_residual-in_err-formatted.ensures.1
+    (λ is. let no : None ≡ Some Refused = is in cc)
+
+pub returns-clause-read : goal.returns-clause-read
+returns-clause-read c =
+    IfErr-weaker c.text_after.result (λ s. IsNotWritten c.args.reading c.in_ok-formatted.formatted (reason_of s)) (λ s. reason_of s ≢ Some Refused)
+    (λ s h. unread_written c.args.reading c.in_ok-formatted.formatted (reason_of s) h) c.text_after.ensures.stops

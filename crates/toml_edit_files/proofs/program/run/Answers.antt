@@ -1,15 +1,21 @@
--- What is written is what the command made.
-use Rattle.std.proofs.Common.{Bool, ◌≤◌, subst, string_bytes, arith}
-use Rattle.toml_edit_files.specs.Runs.{IsDone}
+-- The output is written, or fails.
+use Rattle.std.proofs.Common.{Bool, List, ℕ, subst, string_bytes}
+use Rattle.std.specs.Prelude.{MatchBool}
+use Rattle.toml_edit_files.proofs.RunLaws.{unwritten, written}
 use Rattle.toml_edit_files.proofs.program.run.Goals as goal
 
-pub returns-in-Ok-clause-done : goal.returns-in-Ok-clause-done
-returns-in-Ok-clause-done g c =
-    let text = string_bytes c.in-Ok.done.output in
-    λ is. let low : c.finish.result ≤ 1 = omega (arith, is) in (
-      text,
-      subst
-          (λ (b : Bool). IsDone (g.F.Folder.history c.args.folder.now) (g.F.Folder.history c.answer.new.folder) (g.I.Input.remaining c.args.input.now) b text)
-          (c.finish.ensures.yes is) c.in-Ok.ensures.done,
-      c.finish.ensures.output low,
-    )
+pub returns-then-written-clause-ends : goal.returns-then-written-clause-ends
+returns-then-written-clause-ends g c = (
+  c.answer-told.result,
+  c.answer-told.ensures,
+  written g.O.Output.contents c.args.output.now c.write-written.new.output c.answer-told.result.status (string_bytes c.answer-told.result.output)
+      c.as_str.result.now c.as_str.ensures.value c.write-written.result c.write-written.ensures.written c.write-written.ensures.none c.if-written.true,
+)
+
+pub returns-clause-ends : goal.returns-clause-ends
+returns-clause-ends g c = (
+  c.answer-told.result,
+  c.answer-told.ensures,
+  unwritten g.O.Output.contents c.args.output.now c.write-written.new.output c.answer-told.result.status (string_bytes c.answer-told.result.output)
+      c.as_str.result.now c.as_str.ensures.value c.write-written.result c.write-written.ensures.written c.write-written.ensures.none c.if-written.false,
+)

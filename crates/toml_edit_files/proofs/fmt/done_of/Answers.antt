@@ -1,0 +1,73 @@
+-- The text is formatted, or refused.
+use Rattle.std.proofs.Common.{◌≡◌, ◌∙◌, ◌++◌, true, false, [], ap, arith, inl, inr, rules, string_bytes, subst}
+use Rattle.std.specs.Prelude.{Some, bytes_eq, codes, if◌then◌else◌}
+use Rattle.toml_edit_replace.specs.Events.{Text}
+use Rattle.toml_edit_files.specs.Checks.{IsReadAsRefused}
+use Rattle.toml_edit_files.specs.Edited.{IsAccepted, version_by}
+use Rattle.toml_edit_files.specs.Folders.{is_stream}
+use Rattle.toml_edit_files.specs.FormatFiles.{IsFormatted}
+use Rattle.toml_edit_files.specs.Stops.{reason_of}
+use Rattle.toml_edit_files.specs.declared.stop.Reason.TheVariants.{Refused}
+use Rattle.toml_edit_files.proofs.RunLaws.{formats_not, formats_out, line_so, stream_so}
+use Rattle.toml_edit_files.proofs.StopLaws.{passed}
+use Rattle.toml_edit_files.proofs.fmt.done_of.Goals as goal
+use Rattle.toml_edit_files.proofs.fmt.done_of.Goals.{else-not-command-via-then-not-command+else-ne, else-not-command-via-else-not-command}
+use Rattle.toml_edit_files.proofs.fmt.done_of.Goals.{then-eq, else-eq+in_ok-line}
+
+pub returns-in_err-text-clause-refused : goal.returns-in_err-text-clause-refused
+returns-in_err-text-clause-refused g c =
+    let v = version_by c.args.reading in
+    passed c.from_residual-in_err-text.result c.in_err-text.field-0.0
+    (λ s. reason_of s ≡ Some Refused → IsReadAsRefused v c.args.file.now (g.F.Folder.history c.args.folder.now) (g.F.Folder.history c.text_of.new.folder))
+    c.from_residual-in_err-text.ensures.1
+    (λ is. (
+      string_bytes c.in_ok-before.before,
+      inl (g.I.Input.remaining c.args.input.now, c.in_ok-before.ensures.text),
+      inr (subst (λ (s : Text). ¬ (IsAccepted v s)) c.as_str-before.ensures.value (c.in_err-text.ensures.refused is)),
+    ))
+
+pub returns-then-not-command-2-clause-done : goal.returns-then-not-command-2-clause-done
+returns-then-not-command-2-clause-done g c =
+    let command = c.args.command.now in
+    let file = c.args.file.now in
+    let text = string_bytes c.in_ok-text.text in
+    let unchecked : command.check ≡ false = grind (arith, c.if-not-command-2.true) in
+    let stream : is_stream file ≡ true =
+    elim c.else-not-command.branch [
+      | else-not-command-via-then-not-command+else-ne w ↦ stream_so file w.ne.result w.ne.ensures w.if-ne.false
+      | else-not-command-via-else-not-command w ↦ absurd (grind (arith, w.if-not-command.false, c.if-not-command-2.true))
+    ]
+    in
+    formats_out c.args.reading command file (string_bytes c.in_ok-before.before) text (g.F.Folder.history c.args.folder.now)
+    (g.F.Folder.history c.text_of.new.folder) (g.I.Input.remaining c.args.input.now) c.in_ok-before.ensures.text
+    (subst (λ (t : Text). IsFormatted c.args.reading command.style t text) c.as_str-before.ensures.value c.in_ok-text.ensures.formatted)
+    c.new.result.yes (string_bytes c.new.result.output) unchecked stream c.new.ensures.yes (ap string_bytes c.new.ensures.output)
+
+pub returns-clause-done : goal.returns-clause-done
+returns-clause-done g c =
+    let command = c.args.command.now in
+    let file = c.args.file.now in
+    let before = string_bytes c.in_ok-before.before in
+    let text = string_bytes c.in_ok-text.text in
+    let checked : command.check ≡ true = grind (arith, c.if-not-command-2.false) in
+    let same : bytes_eq c.as_str.result.now c.as_str-before.result.now ≡ bytes_eq text before =
+    ap (λ (t : Text). bytes_eq t c.as_str-before.result.now) c.as_str.ensures.value ∙ ap (λ (t : Text). bytes_eq text t) c.as_str-before.ensures.value in
+    let same-2 : bytes_eq c.as_str-2.result.now c.as_str-before.result.now ≡ bytes_eq text before =
+    ap (λ (t : Text). bytes_eq t c.as_str-before.result.now) c.as_str-2.ensures.value ∙ ap (λ (t : Text). bytes_eq text t) c.as_str-before.ensures.value in
+    let line : string_bytes c.if-eq.line ≡ (if c.eq.result then [] else file ++ codes ": not formatted\n") =
+    line_so c.eq.result (string_bytes c.if-eq.line) (file ++ codes ": not formatted\n")
+    (elim c.if-eq.branch [
+      | then-eq w ↦
+          let is = w.line-is in let made = w.new-line.ensures in
+          inl (w.if-eq.true, search rules)
+      | else-eq+in_ok-line w ↦
+          let is = w.line-is in let made = w.in_ok-line.ensures in
+          inr (w.if-eq.false, search rules)
+    ])
+    in
+    formats_not c.args.reading command file before text (g.F.Folder.history c.args.folder.now) (g.F.Folder.history c.text_of.new.folder)
+    (g.I.Input.remaining c.args.input.now) c.in_ok-before.ensures.text
+    (subst (λ (t : Text). IsFormatted c.args.reading command.style t text) c.as_str-before.ensures.value c.in_ok-text.ensures.formatted)
+    c.new-2.result.yes (string_bytes c.new-2.result.output) checked (c.new-2.ensures.yes ∙ c.eq-2.ensures ∙ same-2)
+    (ap string_bytes c.new-2.ensures.output
+    ∙ subst (λ b. string_bytes c.if-eq.line ≡ (if b then [] else file ++ codes ": not formatted\n")) (c.eq.ensures ∙ same) line)

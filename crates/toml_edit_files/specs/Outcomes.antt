@@ -1,0 +1,46 @@
+-- What commands come to, on one file and on several.
+use Rattle.std.specs.Prelude.{◌≡◌, ◌≢◌, ◌<◌, ◌⊎◌, ℕ, max, if◌then◌else◌, List, [], ◌∷◌, length, map, flat_map, Option, Result, Ok, Err, string_bytes}
+use Rattle.toml_edit_replace.specs.Events.{Text, Event}
+use Rattle.toml_edit_files.specs.Stops.{reason_of, status_of}
+use Rattle.toml_edit_files.specs.declared.outcome.Done.{Done}
+use Rattle.toml_edit_files.specs.declared.told.Told.{Told}
+use Rattle.toml_edit_files.specs.declared.stop.Reason.{Reason}
+use Rattle.toml_edit_files.specs.declared.stop.Stop.{Stop}
+
+-- the status and the output of a command
+abbrev pub Tells : ℕ → Text → Told → Type 0
+Tells status output told = (told.status ≡ status) × (string_bytes told.output ≡ output)
+
+-- those of one that stops
+abbrev pub TellsWhy : Option Reason → Told → Type 0
+TellsWhy why told = Tells (status_of why) [] told
+
+abbrev pub TellsOf : Result Done Stop → Told → Type 0
+TellsOf (Ok done) told = Tells (if done.yes then 0 else 1) (string_bytes done.output) told
+TellsOf (Err stop) told = TellsWhy (reason_of stop) told
+
+-- ---- several files
+
+-- the worst status, which is the greatest
+abbrev pub worst : List ℕ → ℕ
+worst [] = 0
+worst (status ∷ statuses) = max status (worst statuses)
+
+module _ (Does : Text → Told → Option (List Event) → Option (List Event) → Type 0) where
+  -- Each file is done, one after another, and has its outcome. Where memory runs out at one, it has
+  -- none, and the files after it are not touched.
+  abbrev pub AreDone : List Text → List Told → Option (List Event) → Option (List Event) → Type 0
+  AreDone [] [] old new = new ≡ old
+  AreDone [] (told ∷ more) old new = ⊥
+  AreDone (name ∷ names) [] old new = (told : Told) × Does name told old new
+  AreDone (name ∷ names) (told ∷ more) old new =
+      (next : Option (List Event)) × Does name told old next × (told.status ≢ 3)
+      × AreDone names more next new
+
+  -- the worst status of them, and their output, one after another
+  pub record DoesAll (names : List Text) (old new : Option (List Event)) (all : Told) : Type 0 where
+    pub told : List Told
+    pub done : AreDone names told old new
+    pub status : ((length told ≡ length names) × (all.status ≡ worst (map (λ t. t.status) told)))
+        ⊎ ((length told < length names) × (all.status ≡ 3))
+    pub output : string_bytes all.output ≡ flat_map (λ t. string_bytes t.output) told

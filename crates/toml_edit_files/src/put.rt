@@ -1,0 +1,144 @@
+//! Files that are read under their lock, and replaced.
+ghost use Rattle.std.specs.Prelude.{◌≡◌, IfErr, IfOk, OnErr, OnOk, string_bytes};
+ghost use Rattle.toml_edit_files.specs.Folders.{IsHeld, IsNoTextOf, IsPut, IsPutAt, MayBegin, OnlyLooks, Replaced, StopsPutting, asked_for, leads};
+ghost use Rattle.toml_edit_files.specs.Stops.{IsFor, IsUnread, reason_of};
+ghost use Rattle.toml_edit_files.specs.declared.stop.Reason.TheVariants.{Failed};
+ghost use Rattle.toml_edit_replace.specs.Replacing.{asked_by};
+
+use crate::messages::failed;
+use crate::read::utf8;
+use crate::stop::{Reason, Stop};
+use std::alloc::Global;
+use toml_edit_replace::{Folder, ReplaceFault, Replacement, read_locked, replace};
+
+/// A file as it was read: its name, links aside, and its text.
+#[derive(Drop)]
+pub struct Held {
+    pub name: String,
+    pub text: String,
+}
+
+/// Reads the file that a name leads to, under its lock.
+pub fn held_of<F: Folder>(alloc: Global, folder: &mut F, file: &str) -> Result<Held, Stop>
+    ensures held { IfOk result (λ held. IsHeld file.now (string_bytes held.name)
+        (F.history folder.old) (F.history folder.new) (string_bytes held.text)) }
+    ensures stops { IfErr result (λ stop. IsUnread (IsNoTextOf file.now (F.history folder.old)
+        (F.history folder.new)) (reason_of stop)) }
+    ensures looks { OnlyLooks (F.history folder.old) (F.history folder.new) }
+{
+    let name = name_of(alloc, folder, file)?;
+    match read_locked(alloc, folder, name.as_str()) {
+        Ok(bytes) => Ok(Held {
+            name,
+            text: utf8(alloc, file, bytes)?,
+        }),
+        Err(error) => Err(failed(alloc, file, &error)),
+    }
+}
+
+/// Returns the name that a name leads to.
+fn name_of<F: Folder>(alloc: Global, folder: &mut F, file: &str) -> Result<String, Stop>
+    ensures leads { IfOk result (λ name. F.history folder.new
+        ≡ leads file.now (string_bytes name) (F.history folder.old)) }
+    ensures failed { IfErr result (λ stop. IsFor Failed (reason_of stop)) }
+    ensures looks { OnlyLooks (F.history folder.old) (F.history folder.new) }
+{
+    match folder.target(alloc, file) {
+        Ok(name) => Ok(name),
+        Err(error) => Err(failed(alloc, file, &error)),
+    }
+}
+
+/// Replaces the text of a file, if it changes and is still there.
+pub fn put<'t, F: Folder>(
+    alloc: Global,
+    folder: &mut F,
+    file: &str,
+    held: &'t Held,
+    text: &'t str,
+    force: bool,
+) -> Result<(), Stop>
+    ensures puts { OnOk result (IsPut force (string_bytes held.now.name)
+        (string_bytes held.now.text) text.now (F.history folder.old) (F.history folder.new)) }
+    ensures stops { OnErr result (StopsPutting (string_bytes held.now.name) (F.history folder.old)
+        (F.history folder.new)) }
+    ensures reason { IfErr result (λ stop. IsFor Failed (reason_of stop)) }
+{
+    if text == held.text.as_str() {
+        return Ok(());
+    }
+    let asked = Replacement {
+        name: held.name.as_str(),
+        before: Some(held.text.as_bytes()),
+        text: text.as_bytes(),
+        force,
+    };
+    put_asked(alloc, folder, file, &asked)
+}
+
+/// Replaces the text of the file that a name leads to, whatever it is.
+pub fn put_at<F: Folder>(
+    alloc: Global,
+    folder: &mut F,
+    file: &str,
+    text: String,
+    force: bool,
+) -> Result<(), Stop>
+    ensures puts { OnOk result (IsPutAt force file.now (string_bytes text) (F.history folder.old)
+        (F.history folder.new)) }
+    ensures stops { OnErr result
+        (MayBegin file.now (F.history folder.old) (F.history folder.new)) }
+    ensures reason { IfErr result (λ stop. IsFor Failed (reason_of stop)) }
+{
+    let name = name_of(alloc, folder, file)?;
+    put_named(alloc, folder, file, name.as_str(), text.as_str(), force)
+}
+
+/// Replaces the text of the file of this name, whatever it is.
+fn put_named<'t, F: Folder>(
+    alloc: Global,
+    folder: &mut F,
+    file: &str,
+    name: &'t str,
+    text: &'t str,
+    force: bool,
+) -> Result<(), Stop>
+    ensures puts { OnOk result (Replaced (asked_for force name.now text.now)
+        (F.history folder.old) (F.history folder.new)) }
+    ensures stops { OnErr result
+        (StopsPutting name.now (F.history folder.old) (F.history folder.new)) }
+    ensures reason { IfErr result (λ stop. IsFor Failed (reason_of stop)) }
+{
+    let asked = Replacement {
+        name,
+        before: None,
+        text: text.as_bytes(),
+        force,
+    };
+    put_asked(alloc, folder, file, &asked)
+}
+
+/// Makes a replacement. A message about it names the file.
+fn put_asked<F: Folder>(
+    alloc: Global,
+    folder: &mut F,
+    file: &str,
+    asked: &Replacement<'_>,
+) -> Result<(), Stop>
+    ensures puts { OnOk result
+        (Replaced (asked_by asked.now) (F.history folder.old) (F.history folder.new)) }
+    ensures stops { OnErr result
+        (StopsPutting asked.now.name.now (F.history folder.old) (F.history folder.new)) }
+    ensures reason { IfErr result (λ stop. IsFor Failed (reason_of stop)) }
+{
+    let why = match replace(alloc, folder, asked) {
+        Ok(()) => return Ok(()),
+        Err(ReplaceFault::Failed(error)) => return Err(failed(alloc, file, &error)),
+        Err(ReplaceFault::Changed) => "changed meanwhile",
+        Err(ReplaceFault::ReadOnly) => "read-only (--force replaces it)",
+    };
+    Err(Stop::Message(
+        Reason::Failed,
+        format!(in alloc; "tomlfile: {file}: {why}\n")?,
+    ))
+}
