@@ -15,11 +15,11 @@
  * `toml_edit_check`, the sizes of `toml_edit_run`, and memory that it takes by `malloc` and gives
  * back before it returns.
  *
- * A call takes some 20 KB of stack for most documents, and up to 300 KB for one at the limits, which
- * are 80 keys in a path and 80 brackets in one another. A document or a value of both, as 80 inline
- * tables in one another, each behind a path of 80 keys, has some 13 KB and takes 9 MB; where it is
- * copied, as `toml_edit_edit` copies values and `toml_edit_get` arrays of tables, it takes 23 MB.
- * Lend 32 MB to a thread that reads texts of others.
+ * A call takes up to 20 KB of stack for most documents, and 400 KB for one at the limits, which are
+ * 80 keys in a path and 80 brackets in one another. A document or a value of both, as 80 inline
+ * tables in one another, each behind a path of 80 keys, has some 13 KB and takes up to 10 MB; where
+ * it is copied, as `toml_edit_edit` copies values and `toml_edit_get` arrays of tables, up to 30 MB.
+ * An overflow ends the process, so lend 32 MB to a thread that reads untrusted texts.
  *
  * A call may not be made from a signal handler, or from the child of a fork of a process with
  * threads. `malloc`, `realloc` and `free` have to be of one allocator.
@@ -55,9 +55,9 @@ enum {
     TOML_EDIT_REFUSED = 2,
     /* The text is not UTF-8. */
     TOML_EDIT_NOT_UTF8 = 3,
-    /* The path is none. */
+    /* The path is not valid. */
     TOML_EDIT_BAD_PATH = 4,
-    /* The value is none. */
+    /* The value is not valid. */
     TOML_EDIT_BAD_VALUE = 5,
     /* Nothing is at the path. */
     TOML_EDIT_NO_SUCH_PATH = 6,
@@ -66,9 +66,9 @@ enum {
     /* The changed document would not be valid, as after 80 brackets in one another. */
     TOML_EDIT_UNFIT = 8,
     TOML_EDIT_OUT_OF_MEMORY = 9,
-    /* The flags are none. */
+    /* The flags are not valid. */
     TOML_EDIT_BAD_FLAGS = 10,
-    /* The script is none. */
+    /* The script is not UTF-8, or an edit has no such word, or too few operands. */
     TOML_EDIT_BAD_SCRIPT = 11,
     /* No element of the array is equal. */
     TOML_EDIT_NO_SUCH_ELEMENT = 12,
@@ -81,7 +81,8 @@ enum {
 struct toml_edit_answer {
     /* One of the numbers above. */
     uint32_t status;
-    /* How many bytes the text has, whether they fit or not; 0 if there is none. */
+    /* How many bytes the text has, whether they fit or not. If there is none: 0, but for
+     * `toml_edit_check` and `toml_edit_edit`, which say what it is then. */
     size_t needed;
 };
 
@@ -112,12 +113,14 @@ struct toml_edit_answer toml_edit_get(
 
 /* Gives the text with a value at a path. A value that is there is replaced, and its comments stay.
  * A key that is missing is added at the end of its table, below other missing keys in an inline
- * table. Every other statement stays as it was. */
+ * table, in its default spelling. Every other statement stays as `toml_edit_print` gives it. */
 struct toml_edit_answer toml_edit_set(
     uint32_t flags, const uint8_t *text, size_t text_size, const uint8_t *path, size_t path_size,
     const uint8_t *value, size_t value_size, uint8_t *room, size_t room_size);
 
-/* Gives the text without the item at a path. Every other statement stays as it was. */
+/* Gives the text without the item at a path. Every other statement stays as `toml_edit_print` gives
+ * it. Of an element of an array the value goes alone, and its comments stay: the edit `remove` of
+ * `toml_edit_edit` takes its line and its comments too. */
 struct toml_edit_answer toml_edit_remove(
     uint32_t flags, const uint8_t *text, size_t text_size, const uint8_t *path, size_t path_size,
     uint8_t *room, size_t room_size);
@@ -150,15 +153,29 @@ struct toml_edit_answer toml_edit_format(
  * last may lack:
  *
  *     set PATH VALUE       puts a value, below inline tables where tables are missing
+ *     string PATH TEXT     puts the string of these characters, as `set` does
  *     header PATH VALUE    puts a value, below headers where tables are missing
- *     remove PATH          removes an item
+ *     table PATH VALUE     adds `[[PATH]]` with the pairs of an inline table
+ *     remove PATH          removes an item: an element of an array with its line and its comments
  *     append PATH VALUE    adds a value at the end of an array, on a line if the others are
  *     insert PATH VALUE    inserts a value before an element, or at the end
- *     take PATH VALUE      removes the first equal value of an array, with its line
- *     rename PATH NAME     gives a key another name
+ *     take PATH VALUE      removes the first equal value of an array, with its line and comments
+ *     rename PATH KEY      gives a key another name; KEY is one key, spelled as in a path
  *     move PATH PATH       moves a key with its item
- *     sort PATH            sorts the keys of a table; the empty path is the root
- *     comment PATH TEXT    sets the comment after a value or a header; the empty text removes it
+ *     sort PATH            sorts the keys of a table
+ *     comment PATH TEXT    sets the comment after a value or a header to TEXT, if that begins with
+ *                          `#`, else to `# TEXT`; the empty TEXT, and `#` alone, remove it
+ *
+ * The empty path is the root. New keys get their default spelling, bare where they can be. In an
+ * array of tables `append`, `insert` and `take` go by the pairs of an inline table, `remove` and
+ * `move` by the number of a table.
+ *
+ * If an edit is refused, or its words are not valid, `needed` is its number, from 1: the first for
+ * which that is so. It is 0 for TOML_EDIT_UNFIT, which is about all edits, and for reasons that are
+ * about none. The words are read before the text.
+ *
+ * A zero byte in a word ends it, and what is behind it are the words of other edits: the library
+ * can't see that, and refuses only what makes no edits. So refuse it in words from elsewhere.
  */
 struct toml_edit_answer toml_edit_edit(
     uint32_t flags, const uint8_t *text, size_t text_size, const uint8_t *script, size_t script_size,
@@ -176,7 +193,7 @@ enum {
     TOML_EDIT_RUN_DONE = 0,
     /* The input is not TOML: why is in the room for the errors, and there is no output. */
     TOML_EDIT_RUN_REFUSED = 1,
-    /* The words are no command, whatever the input is, or it cannot be done: likewise. */
+    /* The words are not a command, whatever the input is, or it cannot be done: likewise. */
     TOML_EDIT_RUN_MISTAKEN = 2,
     /* Memory ran out. Nothing was written. */
     TOML_EDIT_RUN_OUT_OF_MEMORY = 3,
@@ -185,8 +202,8 @@ enum {
 };
 
 /* Runs the program `tomled` with these words on an input, and gives its output, its errors and its
- * exit status. Each word has a zero byte after it, which the last may lack. Words, a path or a value
- * that are none are told of before an input that is refused. */
+ * exit status. Each word has a zero byte after it, which the last may lack. Invalid words, and an
+ * invalid path or value, are reported before an invalid input. */
 uint32_t toml_edit_run(
     const uint8_t *words, size_t words_size, const uint8_t *input, size_t input_size,
     uint8_t *output, size_t output_size, uint8_t *errors, size_t errors_size,

@@ -22,7 +22,9 @@ PARTS = [b"a = 1\n", b"[a.b]\n", b"[[t]]\n", b"x.y = 'z' # c\r\n", b'"\\u00e9" =
 PARTS += [b"\xef\xbb\xbf", b"d = 1979-05-27T07:32:00Z", b"\n", b"\r", b"[", b"]", b"=", b"#\x01", b"\xff", b"'''", b"f = -inf\n", b"\0"]
 PATHS = [b"a", b"a.b", b"t.0", b"x.y", b"l.1.0", b"i.j", b"", b"\xff", b"a..b", b"'q'.r", b'"\\u00e9"', b"t.0.n.m"]
 VALUES = [b"1", b"'s'", b"[1, 2]", b"{ a = 1 }", b"1979-05-27", b"", b"\xff", b"{ a = 1, }", b"[", b"+inf", b'"""\n"""']
-WORDS = [b"set", b"header", b"remove", b"append", b"insert", b"take", b"rename", b"move", b"sort", b"comment", b"other", b"\xff"]
+WORDS = [b"set", b"header", b"remove", b"append", b"insert", b"take", b"table", b"string", b"rename", b"move", b"sort", b"comment", b"other", b"\xff"]
+# The statuses of a script that say of which edit they are.
+OF_EDITS = {4, 5, 6, 7, 11, 12, 13, 14}
 GUARD = 16
 # Memory that is there once it is written to.
 HUGE = 1 << 40
@@ -55,6 +57,13 @@ def texts_of(name: str, random_: random.Random) -> list[bytes]:
     return [text(random_), random_.choice(PATHS), random_.choice(VALUES)][: _core._CALLS[name]]
 
 
+def is_told(name: str, texts: list[bytes], status: int, needed: int) -> bool:
+    """Whether a call without a text says what it has to: the number of an edit, or nothing."""
+    if name != "edit" or status not in OF_EDITS:
+        return status > 1 and needed == 0
+    return (needed > 0 or status == 11) and needed <= texts[1].count(b"\0") + 1
+
+
 def guarded(size: int, random_: random.Random) -> tuple[ctypes.Array, bytes]:
     filling = random_.randbytes(size + 2 * GUARD)
     return ctypes.create_string_buffer(filling, len(filling)), filling
@@ -84,7 +93,7 @@ def one(name: str, random_: random.Random) -> int:
             whole = left[GUARD : GUARD + wanted]
         else:
             assert left == filling, "a write without a text"
-            assert (found == 1) == (wanted > 0) and (found != 1 or wanted > size)
+            assert wanted > size if found == 1 else is_told(name, texts, found, wanted), (name, flags, texts, found, wanted)
         if size == 1 << 12:
             needed, status = wanted, found
         else:
@@ -113,7 +122,7 @@ def huge(name: str, space: ctypes.Array, random_: random.Random) -> int:
     words = [word for at, it in enumerate(texts) for word in ((space, HUGE) if at == largest else (it, len(it)))]
     room, filling = guarded(64, random_)
     answer = _core._FUNCTIONS[name](0, *words, room, 64)
-    assert answer.status > 1 and answer.needed == 0 and room.raw == filling
+    assert is_told(name, texts, answer.status, answer.needed) and room.raw == filling
     texts = texts_of(name, random_)
     words = [word for it in texts for word in (it, len(it))]
     answer = _core._FUNCTIONS[name](0, *words, space, HUGE)

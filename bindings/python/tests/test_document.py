@@ -164,10 +164,17 @@ class Editing(unittest.TestCase):
     def test_rename_comment_sort(self) -> None:
         document = toml_edit.loads("[b]\ny = 1 # one\nx = 2\n")
         document["b"].rename("y", "z")
-        document["b"].comment("x", " two")
+        document["b"].comment("x", "two")
         self.assertEqual(str(document), "[b]\nz = 1 # one\nx = 2 # two\n")
         document["b"].sort()
         self.assertEqual(str(document), "[b]\nx = 2 # two\nz = 1 # one\n")
+        document["b"].comment("x", "#!two")
+        document["b"].comment("z", "")
+        document["b"].rename("z", "a b")
+        self.assertEqual(str(document), '[b]\nx = 2 #!two\n"a b" = 1\n')
+        document = toml_edit.loads("b = 1\na = 2 # two\n")
+        document.sort()
+        self.assertEqual(str(document), "a = 2 # two\nb = 1\n")
 
     def test_format(self) -> None:
         document = toml_edit.loads("b  =  [ 1,2 ]   # two\n\n\n[ t ]\nc=1\n")
@@ -219,7 +226,261 @@ class Editing(unittest.TestCase):
         long = "a = '%s'" % ("b" * 5000)
         self.assertEqual(toml_edit.run(["exact", "print"], long.encode()), (0, long.encode(), b""))
 
-    def test_threads(self) -> None:
+    def test_words_have_no_nul(self) -> None:
+        text = 'a = 1\nsecret = "x"\n'
+        document = toml_edit.loads(text)
+        for change in (
+            lambda: document.comment("a", "hi\0remove\0secret"),
+            lambda: document.edit(["set", "a", "1\0remove\0secret"]),
+            lambda: document.edit(["remove\0secret\0remove", "a"]),
+            lambda: toml_edit.run(["remove", "a\0b"], b""),
+        ):
+            with self.assertRaisesRegex(ValueError, "^[^\0]*a word has a NUL$"):
+                change()
+        with self.assertRaisesRegex(ValueError, r"^edit 1 \(comment a\): too few words"):
+            document.edit(["comment", "a"], ["remove", "secret"])
+        self.assertEqual(str(document), text)
+        document.rename("a", "c\0remove\0secret")
+        self.assertEqual(document, {"c\0remove\0secret": 1, "secret": "x"})
+
+    def test_comments_go_with_their_elements(self) -> None:
+        text = 'x = [\n  "a", # one\n  "b", # two\n  "c", # three\n]\n'
+        for change, kept in (
+            (lambda x: x.__delitem__(0), "bc"),
+            (lambda x: x.__delitem__(slice(None, None, 2)), "b"),
+            (lambda x: x.remove("b"), "ac"),
+            (lambda x: self.assertEqual(x.pop(), "c"), "ab"),
+        ):
+            document = toml_edit.loads(text)
+            change(document["x"])
+            lines = [line for line in text.split("\n") if line[:3] != '  "' or line[3] in kept]
+            self.assertEqual(str(document), "\n".join(lines))
+        document["x"].clear()
+        document["x"].clear()
+        self.assertEqual(document, {"x": []})
+        self.assertNotIn("#", str(document))
+
+    def test_errors_name_the_edit_and_the_path(self) -> None:
+        document = toml_edit.loads("# first\na = 1\nb = [1]\n[t]\n")
+        for edit, kind, why in (
+            (["remove", "nope"], KeyError, "no such path"),
+            (["set", "t.", "1"], ValueError, "bad path"),
+            (["set", "a", "hi"], ValueError, "bad value"),
+            (["sort", "a"], TypeError, "wrong kind"),
+            (["paint", "a", "red"], ValueError, "no such edit"),
+            (["take", "b", "2"], ValueError, "no such element"),
+            (["rename", "a", "b"], ValueError, "the key is there already"),
+            (["comment", "a", "x\ny"], ValueError, "a comment has no line break and no other control character"),
+        ):
+            with self.assertRaises(kind) as caught:
+                document.edit(["set", "c", "1"], edit)
+            self.assertEqual(caught.exception.args, ("edit 2 (%s %s): %s" % (*edit[:2], why),))
+        with self.assertRaisesRegex(toml_edit.Unfit, "^edits: the document would not be valid$"):
+            document.edit(["set", "a", "[" * 80 + "]" * 80], ["set", ".".join("c" * 60), "[" * 60 + "]" * 60])
+        with self.assertRaises(KeyError) as missing:
+            document.spelled("nope")
+        self.assertEqual(missing.exception.args, ("get nope: no such path",))
+        self.assertEqual(str(document), "# first\na = 1\nb = [1]\n[t]\n")
+
+    def test_edits(self) -> None:
+        document = toml_edit.loads("a = 1 # one\n")
+        table = document.setdefault("t", {})
+        document.edit(["string", "a", 'x "y"'], ["header", "t.u.v", "2"], ["set", '"k"', "3"])
+        self.assertEqual(document, {"a": 'x "y"', "t": {"u": {"v": 2}}, "k": 3})
+        self.assertIn("k = 3\n", str(document))
+        with self.assertRaises(RuntimeError):
+            len(table)
+
+    def test_arrays_of_tables(self) -> None:
+        document = toml_edit.loads(MANIFEST)
+        document["bin"].append({"name": "three"})
+        self.assertEqual(str(document), MANIFEST + '\n[[bin]]\nname = "three"\n')
+        document["bin"].insert(0, {"name": "zero", "x": {"y": 1}})
+        added = '[[bin]]\nname = "zero"\nx = { y = 1 }\n\n[[bin]]\nname = "one"'
+        self.assertEqual(str(document), self.edited(('[[bin]]\nname = "one"', added)) + '\n[[bin]]\nname = "three"\n')
+        document["bin"].remove({"name": "one"})
+        self.assertEqual([it["name"] for it in document["bin"]], ["zero", "two", "three"])
+        for change in (lambda: document["bin"].append(1), lambda: document["bin"].__setitem__(0, [{"a": 1}])):
+            with self.assertRaisesRegex(TypeError, "^edit 1 .*: wrong kind$"):
+                change()
+        bins = document["bin"]
+        bins.clear()
+        self.assertNotIn("bin", document)
+        bins.append({"name": "again"})
+        self.assertTrue(str(document).endswith('\n[[bin]]\nname = "again"\n'))
+
+    def test_new_arrays_of_tables(self) -> None:
+        document = toml_edit.loads("a = 1\ni = {}\n")
+        document["bin"] = [{"name": "one", "sub": {"x": 1}, "deep": [{"y": 2}]}, {"name": "two"}]
+        document["i"]["x"] = [{"y": 1}]
+        document["e"] = [{}]
+        expected = {"a": 1, "i": {"x": [{"y": 1}]}, "bin": [{"name": "one", "sub": {"x": 1}, "deep": [{"y": 2}]}, {"name": "two"}], "e": [{}]}
+        self.assertEqual(tomllib.loads(str(document)), expected)
+        self.assertEqual([line for line in str(document).split("\n") if line[:1] == "["], ["[[bin]]", "[bin.sub]", "[[bin.deep]]", "[[bin]]"])
+        document["bin"] = [{"name": "three"}]
+        self.assertTrue(str(document).endswith('\n[[bin]]\nname = "three"\n'))
+        # As in tomlkit's tests.
+        self.assertEqual(toml_edit.dumps({"foo": ({"a": 1}, {"a": 2})}), "[[foo]]\na = 1\n\n[[foo]]\na = 2\n")
+        self.assertEqual(toml_edit.dumps({"foo": {"bar": [{"a": 1}]}}), "[[foo.bar]]\na = 1\n")
+        text = "[a]\nx = 1\n\n[[a.b]]\ny = 2\n\n[[a.b]]\n\n[a.b.c]\nz = 2\n\n[[a.b.c.d]]\nw = 2\n"
+        document = toml_edit.loads(text)
+        document["c"] = document.pop("a")
+        self.assertEqual(str(document), text.replace("[a", "[c"))
+
+    def test_plain_changes_keep_comments(self) -> None:
+        document = toml_edit.loads('x = [\n  "a", # one\n]\n\n[t]\ny = [ # two\n  1,\n]\nz = 1\n')
+        document["x"] += ["b"]
+        document["t"] = {"y": [1], "z": 2}
+        self.assertEqual(str(document), 'x = [\n  "a", # one\n  "b",\n]\n\n[t]\ny = [ # two\n  1,\n]\nz = 2\n')
+        document["x"].reverse()
+        self.assertEqual(document["x"], ["b", "a"])
+        document.setdefault("s", {})["x"] = 1
+        self.assertEqual((document["s"], document.popitem()[1]), ({"x": 1}, ["b", "a"]))
+
+    def test_tables_that_lose_their_last_key(self) -> None:
+        document = toml_edit.loads("a.b = 1\n")
+        table = document["a"]
+        del table["b"]
+        self.assertEqual(table, {})
+        table["c"] = 2
+        self.assertEqual(document, {"a": {"c": 2}})
+        document = toml_edit.loads("a.b = 1\n")
+        document["a"] = {"c": 2}
+        self.assertEqual(document, {"a": {"c": 2}})
+        document["a"] = {}
+        self.assertEqual(document, {"a": {}})
+
+
+PEOPLE = """\
+x = [[1], [2]]
+d = { e = { f = 1 } }
+
+[[p]]
+n = "first"
+
+[[p]]
+n = "second"
+
+[[p]]
+n = "third"
+"""
+
+
+class Views(unittest.TestCase):
+    def test_leave(self) -> None:
+        """Each change, the view that leads to something else then, and one that stays."""
+        for change, left, kept in (
+            (lambda d: d["p"].__delitem__(0), lambda d: d["p"][0], lambda d: d["p"]),
+            (lambda d: d["p"].__delitem__(0), lambda d: d["p"][1], lambda d: d["x"][1]),
+            (lambda d: d["p"].remove({"n": "second"}), lambda d: d["p"][2], lambda d: d["p"][0]),
+            (lambda d: d["p"].pop(), lambda d: d["p"][2], lambda d: d["p"][1]),
+            (lambda d: d["p"].insert(1, {"n": "new"}), lambda d: d["p"][1], lambda d: d["p"][0]),
+            (lambda d: d["x"].insert(0, 0), lambda d: d["x"][1], lambda d: d["p"][1]),
+            (lambda d: d["x"].__setitem__(0, [3]), lambda d: d["x"][0], lambda d: d["x"][1]),
+            (lambda d: d["p"].__setitem__(0, {"n": "new"}), lambda d: d["p"][0], lambda d: d["p"][1]),
+            (lambda d: d["p"].reverse(), lambda d: d["p"][0], lambda d: d["p"]),
+            (lambda d: d.__setitem__("x", [4]), lambda d: d["x"], lambda d: d["d"]),
+            (lambda d: d.__setitem__("d", 4), lambda d: d["d"]["e"], lambda d: d["x"][0]),
+            (lambda d: d.pop("d"), lambda d: d["d"]["e"], lambda d: d["p"][0]),
+            (lambda d: d.rename("d", "g"), lambda d: d["d"]["e"], lambda d: d["p"][0]),
+            (lambda d: d["d"].rename("e", "g"), lambda d: d["d"]["e"], lambda d: d["d"]),
+            (lambda d: d.clear(), lambda d: d["d"], lambda d: d),
+            (lambda d: d.edit(["move", "d", "h"]), lambda d: d["d"], lambda d: d),
+        ):
+            document = toml_edit.loads(PEOPLE)
+            old, other = left(document), kept(document)
+            change(document)
+            text = str(document)
+            for use in (len, list, repr, toml_edit.Table.unwrap, copy.deepcopy, lambda it: it == {}, lambda it: it.clear()):
+                with self.assertRaisesRegex(RuntimeError, "^the document changed"):
+                    use(old)
+            self.assertEqual(str(document), text)
+            list(other)
+
+    def test_stay(self) -> None:
+        document = toml_edit.loads(PEOPLE)
+        views = [document["p"], document["p"][1], document["x"], document["x"][0], document["d"], document["d"]["e"]]
+        views[1]["n"] = "2"
+        views[5]["f"] = 3
+        document["new"] = {"a": 1}
+        document["x"].append([3])
+        document["p"].append({"n": "last"})
+        document["d"].comment("e", "")
+        document.sort()
+        document.format()
+        del document["new"]
+        self.assertEqual([it.unwrap() for it in views[1::2]], [{"n": "2"}, [1], {"f": 3}])
+        self.assertEqual(list(map(len, views[::2])), [4, 3, 1])
+
+    def test_loops(self) -> None:
+        document = toml_edit.loads(PEOPLE)
+        with self.assertRaises(RuntimeError):
+            for table in document["p"]:
+                if table["n"] == "first":
+                    document["p"].remove(table)
+                table["n"] = "changed"
+        self.assertEqual(document["p"], [{"n": "second"}, {"n": "third"}])
+        with self.assertRaises(RuntimeError):
+            for table in document["p"]:
+                document["p"].remove(table)
+        for change in (lambda key: document.pop(key), lambda key: document.update({key + "2": 1})):
+            with self.assertRaises(RuntimeError):
+                for key in document:
+                    change(key)
+        document = toml_edit.loads(PEOPLE)
+        with self.assertRaises(RuntimeError):
+            document["p"][0], document["p"][1] = document["p"][1], document["p"][0]
+
+    def test_copies(self) -> None:
+        document = toml_edit.loads(PEOPLE)
+        for other in (copy.deepcopy(document["d"]), pickle.loads(pickle.dumps(document["d"]))):
+            other["e"] = 1
+            self.assertEqual((other, document["d"]), ({"e": 1}, {"e": {"f": 1}}))
+
+
+class Threads(unittest.TestCase):
+    def run_in_two(self, work: object) -> None:
+        threads = [threading.Thread(target=work, args=(number,)) for number in range(2)]
+        for thread in threads:
+            thread.start()
+        for thread in threads:
+            thread.join()
+
+    def test_one_document(self) -> None:
+        document = toml_edit.loads("[t]\nfirst = 1\n")
+        table = document["t"]
+
+        def work(number: int) -> None:
+            for step in range(300):
+                table["k%d_%d" % (number, step)] = step
+
+        self.run_in_two(work)
+        self.assertEqual(len(tomllib.loads(str(document))["t"]), 601)
+
+    def test_one_array(self) -> None:
+        document = toml_edit.loads("a = []\nb = [%s]\n" % ", ".join(map(str, range(100))))
+
+        def work(number: int) -> None:
+            for step in range(50):
+                document["a"].append(step)
+                document["b"].remove(2 * step + number)
+
+        self.run_in_two(work)
+        self.assertEqual((sorted(document["a"]), document["b"]), (sorted([*range(50)] * 2), []))
+
+    def test_two_documents(self) -> None:
+        """Each thread hands its document views of the other one's, for whose lock it may not wait with its own."""
+        documents = [toml_edit.loads("a = [1]\nb = {}\n") for _ in range(2)]
+
+        def work(number: int) -> None:
+            for step in range(50):
+                documents[number]["b"]["k"] = {"x": documents[1 - number]["a"]}
+                self.assertEqual(documents[number]["a"], documents[1 - number]["a"])
+
+        self.run_in_two(work)
+        self.assertEqual([it.unwrap() for it in documents], [{"a": [1], "b": {"k": {"x": [1]}}}] * 2)
+
+    def test_own_documents(self) -> None:
         texts = []
 
         def work(number: int) -> None:
@@ -233,7 +494,7 @@ class Editing(unittest.TestCase):
             thread.start()
         for thread in threads:
             thread.join()
-        self.assertEqual(sorted(texts), [self.edited(("'1.0'", '"%d.49"' % number)) for number in range(4)])
+        self.assertEqual(sorted(texts), [MANIFEST.replace("'1.0'", '"%d.49"' % number) for number in range(4)])
 
 
 if __name__ == "__main__":

@@ -4,11 +4,13 @@ from __future__ import annotations
 
 import ctypes
 import os
+from collections.abc import Sequence
 
 EXACT = 1
 TOML_1_0 = 2
 
-_DONE, _SHORT, _REFUSED, _NOT_UTF8, _BAD_PATH, _BAD_VALUE, _NO_SUCH_PATH, _WRONG_KIND, _UNFIT, _MEMORY = range(10)
+_DONE, _SHORT, _REFUSED, _NOT_UTF8 = range(4)
+_MEMORY = 9
 
 _RUN_MEMORY, _RUN_SHORT = 3, 5
 
@@ -32,6 +34,22 @@ class TomlError(ValueError):
 
 class Unfit(ValueError):
     """A change after which the document would not be valid TOML. It was not made."""
+
+
+# What other statuses raise, and say.
+_FAULTS: dict[int, tuple[type[Exception], str]] = {
+    4: (ValueError, "bad path"),
+    5: (ValueError, "bad value"),
+    6: (KeyError, "no such path"),
+    7: (TypeError, "wrong kind"),
+    8: (Unfit, "the document would not be valid"),
+    _MEMORY: (MemoryError, "out of memory"),
+    10: (ValueError, "bad flags"),
+    11: (ValueError, "no such edit"),
+    12: (ValueError, "no such element"),
+    13: (ValueError, "the key is there already"),
+    14: (ValueError, "a comment has no line break and no other control character"),
+}
 
 
 def _excerpt(text: str, line: int, column: int) -> str:
@@ -68,18 +86,16 @@ def _folder() -> str:
     raise ImportError("no libtoml_edit.so: build it by bindings/build")
 
 
-_FOLDER = _folder()
-_LIBRARY = ctypes.CDLL(os.path.join(_FOLDER, "libtoml_edit.so"))
+FOLDER = _folder()
+_LIBRARY = ctypes.CDLL(os.path.join(FOLDER, "libtoml_edit.so"))
 
 
 def _declared() -> dict:
     calls = {}
     for name, count in _CALLS.items():
-        function = getattr(_LIBRARY, "toml_edit_" + name, None)
-        if function is not None:
-            function.restype = _Answer
-            function.argtypes = [ctypes.c_uint32, *_TEXT * count, *_TEXT]
-            calls[name] = function
+        function = calls[name] = getattr(_LIBRARY, "toml_edit_" + name)
+        function.restype = _Answer
+        function.argtypes = [ctypes.c_uint32, *_TEXT * count, *_TEXT]
     _LIBRARY.toml_edit_run.restype = ctypes.c_uint32
     _LIBRARY.toml_edit_run.argtypes = [*_TEXT * 4, ctypes.POINTER(_Sizes)]
     _LIBRARY.toml_edit_check.restype = _Answer
@@ -92,13 +108,8 @@ _FUNCTIONS = _declared()
 
 def built() -> str:
     """How the library was built: `proved`, `unproved` or `asan`."""
-    with open(os.path.join(_FOLDER, "BUILT"), encoding="utf-8") as file:
+    with open(os.path.join(FOLDER, "BUILT"), encoding="utf-8") as file:
         return file.read().strip()
-
-
-def has(name: str) -> bool:
-    """Whether the library has this call."""
-    return name in _FUNCTIONS
 
 
 def raw(name: str, flags: int, texts: list[bytes], room: ctypes.Array) -> tuple[int, int]:
@@ -108,11 +119,11 @@ def raw(name: str, flags: int, texts: list[bytes], room: ctypes.Array) -> tuple[
     return answer.status, answer.needed
 
 
-def call(name: str, flags: int, *texts: bytes) -> bytes:
-    """Makes a call, and returns the text that it gives.
+def call(name: str, flags: int, *texts: bytes, edits: Sequence[Sequence[bytes]] = ()) -> bytes:
+    """Makes a call, and returns the text that it gives. `edits` are those of the script, for the message.
 
-    Raises `TomlError` if the text is refused, `KeyError` if nothing is at the path, `TypeError` if something else is
-    there, `Unfit` if the change would leave no valid document, and `ValueError` for a path or a value that is none.
+    Raises `TomlError` if the text is refused, `KeyError` if nothing is at a path, `TypeError` if something of another
+    kind is there, `Unfit` if the document would not be valid, and `ValueError` for words that are mistaken.
     """
     room = ctypes.create_string_buffer(sum(map(len, texts)) + 64)
     status, needed = raw(name, flags, list(texts), room)
@@ -121,25 +132,33 @@ def call(name: str, flags: int, *texts: bytes) -> bytes:
         status, needed = raw(name, flags, list(texts), room)
     if status == _DONE:
         return room.raw[:needed]
-    raise _error(status, flags, texts)
-
-
-def _error(status: int, flags: int, texts: tuple[bytes, ...]) -> Exception:
-    path = texts[1].decode("utf-8", "replace") if len(texts) > 1 else ""
     if status in (_REFUSED, _NOT_UTF8):
-        return check(flags, texts[0]) or TomlError("not TOML")
-    return {
-        _BAD_PATH: ValueError("not a path: %r" % path),
-        _BAD_VALUE: ValueError("not a value: %r" % texts[-1].decode("utf-8", "replace")),
-        _NO_SUCH_PATH: KeyError(path),
-        _WRONG_KIND: TypeError("another kind of item is at %s" % path),
-        _UNFIT: Unfit("the document would not be valid"),
-        _MEMORY: MemoryError(),
-    }.get(status, ValueError("status %d" % status))
+        raise check(flags, texts[0]) or TomlError("not TOML")
+    kind, why = _FAULTS.get(status, (ValueError, "status %d" % status))
+    where = named(edits, 1 if len(edits) == 1 else needed) if edits else " ".join([name, *(text.decode() for text in texts[1:])])
+    raise kind("%s: %s" % (where, why))
+
+
+def named(edits: Sequence[Sequence[bytes]], number: int) -> str:
+    """How messages name an edit, of which the number is counted from 1, or all if it is 0."""
+    return "edit %d (%s)" % (number, b" ".join(edits[number - 1][:2]).decode().rstrip().replace("\0", "\\0")) if number else "edits"
+
+
+def edit(flags: int, text: bytes, edits: Sequence[Sequence[bytes]]) -> bytes:
+    """Makes edits, each a word and its operands, one after another or none of them."""
+    for number, words in enumerate(edits, 1):
+        if any(b"\0" in word for word in words):
+            # The library would take what is behind a NUL for the next word.
+            raise ValueError("%s: a word has a NUL" % named(edits, number))
+        if len(words) != (2 if words[:1] in ([b"remove"], [b"sort"]) else 3):
+            raise ValueError("%s: too few words, or too many" % named(edits, number))
+    return call("edit", flags, text, b"".join(word + b"\0" for words in edits for word in words), edits=edits)
 
 
 def run(words: list[str], text: bytes) -> tuple[int, bytes, bytes]:
     """Runs `tomled` with these words on a text, and returns its exit status, its output and its errors."""
+    if any("\0" in word for word in words):
+        raise ValueError("a word has a NUL")
     said = b"".join(word.encode() + b"\0" for word in words)
     output, errors = (ctypes.create_string_buffer(size) for size in (len(text) + len(said) + 64, 400))
     while True:

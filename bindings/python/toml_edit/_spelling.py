@@ -31,9 +31,9 @@ def key(name: Key) -> str:
     return text if _BARE.match(text) else string(text)
 
 
-def path(keys: Sequence[Key]) -> bytes:
+def path(keys: Sequence[Key]) -> str:
     """The spelling of a path."""
-    return ".".join(map(key, keys)).encode()
+    return ".".join(map(key, keys))
 
 
 def value(given: Any) -> str:

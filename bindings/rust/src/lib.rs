@@ -14,8 +14,7 @@
 //! A path has keys with dots between them, as TOML spells them. In an array, or in an array of tables, a key is the decimal number of an
 //! element, from 0. A value is spelled as TOML spells it.
 //!
-//! A call takes some 20 KB of stack for most documents, and up to 31 MB for 80 inline tables in one another that each have a path of 80 keys:
-//! a thread that reads texts of others needs a stack of 32 MB.
+//! `toml_edit.h` says how much stack a call takes, and what a thread needs that reads texts of others.
 use std::fmt;
 
 mod sys {
@@ -52,7 +51,6 @@ mod sys {
             _: Room,
             _: usize,
         ) -> Answer;
-        pub fn toml_edit_remove(_: u32, _: Text, _: usize, _: Text, _: usize, _: Room, _: usize) -> Answer;
         pub fn toml_edit_json(_: u32, _: Text, _: usize, _: Text, _: usize, _: Room, _: usize) -> Answer;
         pub fn toml_edit_edit(_: u32, _: Text, _: usize, _: Text, _: usize, _: Room, _: usize) -> Answer;
         pub fn toml_edit_check(_: u32, _: Text, _: usize, _: &mut Place, _: Room, _: usize) -> Answer;
@@ -95,12 +93,13 @@ impl fmt::Display for Refusal {
 
 /// Why a call has no text.
 #[derive(Clone, Debug, PartialEq, Eq)]
+#[non_exhaustive]
 pub enum Error {
     /// The text is not TOML.
     Refused(Refusal),
-    /// The path is none.
+    /// The path is not valid.
     BadPath,
-    /// The value is none.
+    /// The value is not valid.
     BadValue,
     /// Nothing is at the path.
     NoSuchPath,
@@ -108,7 +107,7 @@ pub enum Error {
     WrongKind,
     /// The changed document would not be valid.
     Unfit,
-    /// The words are no edits.
+    /// A word has a NUL, or these words are not an edit.
     BadScript,
     /// No element of the array is equal.
     NoSuchElement,
@@ -117,6 +116,40 @@ pub enum Error {
     /// The comment has a control character.
     BadComment,
     OutOfMemory,
+    /// An edit of [`edit`] is refused.
+    Edit(RefusedEdit),
+    /// A status of the library that this crate doesn't know.
+    Status(u32),
+}
+
+/// The first edit that cannot be made, or whose words are not valid, and why.
+#[derive(Clone, Debug, PartialEq, Eq)]
+#[non_exhaustive]
+pub struct RefusedEdit {
+    /// The number of the edit, from 1.
+    pub number: usize,
+    /// Its word, as `set`.
+    pub word: String,
+    pub path: String,
+    pub reason: Box<Error>,
+}
+
+impl RefusedEdit {
+    fn new(script: &str, number: usize, reason: Error) -> RefusedEdit {
+        let mut words = script.split('\0');
+        for _ in 1..number {
+            let operands = if matches!(words.next(), Some("remove" | "sort")) { 1 } else { 2 };
+            words.nth(operands - 1);
+        }
+        let mut word = || words.next().unwrap_or_default().to_string();
+        RefusedEdit { number, word: word(), path: word(), reason: Box::new(reason) }
+    }
+}
+
+impl fmt::Display for RefusedEdit {
+    fn fmt(&self, f: &mut fmt::Formatter<'_>) -> fmt::Result {
+        write!(f, "edit {} ({} {}): {}", self.number, self.word, self.path, self.reason)
+    }
 }
 
 impl fmt::Display for Error {
@@ -128,11 +161,13 @@ impl fmt::Display for Error {
             Error::NoSuchPath => f.write_str("no such path"),
             Error::WrongKind => f.write_str("wrong kind"),
             Error::Unfit => f.write_str("does not fit"),
-            Error::BadScript => f.write_str("no edits"),
+            Error::BadScript => f.write_str("not an edit"),
             Error::NoSuchElement => f.write_str("no such element"),
             Error::Taken => f.write_str("the key is there already"),
             Error::BadComment => f.write_str("bad comment"),
             Error::OutOfMemory => f.write_str("out of memory"),
+            Error::Edit(edit) => edit.fmt(f),
+            Error::Status(status) => write!(f, "status {status}"),
         }
     }
 }
@@ -155,14 +190,18 @@ pub fn get(text: &str, path: &str, options: Options) -> Result<String, Error> {
     given(Call::Get(path), text, options)
 }
 
-/// Returns the text with a value at a path. Every statement but that of the path stays as it was.
+/// Returns the text with a value at a path. Every other statement stays as [`print`] gives it.
 pub fn set(text: &str, path: &str, value: &str, options: Options) -> Result<String, Error> {
     given(Call::Set(path, value), text, options)
 }
 
-/// Returns the text without the item at a path. Every statement but those of the item stays as it was.
+/// Returns the text without the item at a path, an element of an array with its line and its comments. Every other statement stays as
+/// [`print`] gives it.
 pub fn remove(text: &str, path: &str, options: Options) -> Result<String, Error> {
-    given(Call::Remove(path), text, options)
+    if path.contains('\0') {
+        return Err(Error::BadPath);
+    }
+    given(Call::Remove(&format!("remove\0{path}\0")), text, options)
 }
 
 /// Returns the item at a path as JSON, on one line. The empty path leads to the whole document.
@@ -170,8 +209,17 @@ pub fn json(text: &str, path: &str, options: Options) -> Result<String, Error> {
     given(Call::Json(path), text, options)
 }
 
-/// Returns the text with edits, which are made one after another or not at all. The words are those of the edits, as
-/// `["set", "a.b", "1", "sort", ""]`: `toml_edit.h` has them.
+/// Returns the text with edits, which are made one after another or not at all. The words are those of the edits, which `toml_edit.h` has.
+///
+/// ```
+/// use toml_edit_proved::{edit, Error, Options};
+///
+/// let words = ["string", "c", "x", "comment", "a", "why", "sort", ""];
+/// assert_eq!(edit("b = 2\na = 1\n", &words, Options::default())?, "a = 1 # why\nb = 2\nc = \"x\"\n");
+/// let error = edit("a = 1\n", &["set", "b", "2", "remove", "nope"], Options::default()).unwrap_err();
+/// assert_eq!(error.to_string(), "edit 2 (remove nope): no such path");
+/// # Ok::<(), Error>(())
+/// ```
 pub fn edit(text: &str, words: &[&str], options: Options) -> Result<String, Error> {
     if words.iter().any(|word| word.contains('\0')) {
         return Err(Error::BadScript);
@@ -184,11 +232,11 @@ pub fn edit(text: &str, words: &[&str], options: Options) -> Result<String, Erro
 pub fn check(text: &str, options: Options) -> Result<(), Error> {
     let mut place = sys::Place::default();
     // SAFETY: as in `Call::made`; the place is one.
-    let (status, message) = asked(200, |room| unsafe {
+    let (answer, message) = asked(200, |room| unsafe {
         let (to, size) = (room.as_mut_ptr(), room.len());
         sys::toml_edit_check(options.flags(), text.as_ptr(), text.len(), &mut place, to, size)
     });
-    match status {
+    match answer.status {
         0 => Ok(()),
         2 => {
             let is_some = place.line > 0;
@@ -198,11 +246,11 @@ pub fn check(text: &str, options: Options) -> Result<(), Error> {
                 line_column: is_some.then_some((place.line, place.column)),
             }))
         }
-        _ => Err(Error::OutOfMemory),
+        status => Err(reason(status)),
     }
 }
 
-/// A call on a text, with its other texts.
+/// A call on a text, with its other texts: those of `Remove` and `Edit` are scripts.
 #[derive(Clone, Copy)]
 enum Call<'a> {
     Print,
@@ -237,9 +285,10 @@ impl Call<'_> {
                     to,
                     size,
                 ),
-                Call::Remove(path) => sys::toml_edit_remove(flags, text, len, path.as_ptr(), path.len(), to, size),
                 Call::Json(path) => sys::toml_edit_json(flags, text, len, path.as_ptr(), path.len(), to, size),
-                Call::Edit(script) => sys::toml_edit_edit(flags, text, len, script.as_ptr(), script.len(), to, size),
+                Call::Remove(script) | Call::Edit(script) => {
+                    sys::toml_edit_edit(flags, text, len, script.as_ptr(), script.len(), to, size)
+                }
             }
         }
     }
@@ -259,33 +308,47 @@ impl Call<'_> {
 
 /// Returns the text that a call gives.
 fn given(call: Call, text: &str, options: Options) -> Result<String, Error> {
-    let (status, made) = asked(call.guess(text), |room| call.made(text, options, room));
-    match status {
+    let (answer, made) = asked(call.guess(text), |room| call.made(text, options, room));
+    match answer.status {
         0 => Ok(String::from_utf8(made).expect("the library writes UTF-8")),
         2 => Err(check(text, options).expect_err("the text was refused")),
-        4 => Err(Error::BadPath),
-        5 => Err(Error::BadValue),
-        6 => Err(Error::NoSuchPath),
-        7 => Err(Error::WrongKind),
-        8 => Err(Error::Unfit),
-        11 => Err(Error::BadScript),
-        12 => Err(Error::NoSuchElement),
-        13 => Err(Error::Taken),
-        14 => Err(Error::BadComment),
-        _ => Err(Error::OutOfMemory),
+        status => match call {
+            Call::Edit(script) if answer.needed > 0 => {
+                Err(Error::Edit(RefusedEdit::new(script, answer.needed, reason(status))))
+            }
+            _ => Err(reason(status)),
+        },
     }
 }
 
-/// Makes a call with as much room as it needs, and returns its status and the text that it gives.
-fn asked(guess: usize, mut call: impl FnMut(&mut [u8]) -> sys::Answer) -> (u32, Vec<u8>) {
+/// Returns the error of a status.
+fn reason(status: u32) -> Error {
+    match status {
+        4 => Error::BadPath,
+        5 => Error::BadValue,
+        6 => Error::NoSuchPath,
+        7 => Error::WrongKind,
+        8 => Error::Unfit,
+        9 => Error::OutOfMemory,
+        11 => Error::BadScript,
+        12 => Error::NoSuchElement,
+        13 => Error::Taken,
+        14 => Error::BadComment,
+        _ => Error::Status(status),
+    }
+}
+
+/// Makes a call with as much room as it needs, and returns its answer and the text that it gives.
+fn asked(guess: usize, mut call: impl FnMut(&mut [u8]) -> sys::Answer) -> (sys::Answer, Vec<u8>) {
     let mut room = vec![0; guess];
     let mut answer = call(&mut room);
-    if answer.needed > room.len() {
+    // Only up to status 2 it is a number of bytes.
+    if answer.status <= 2 && answer.needed > room.len() {
         room.resize(answer.needed, 0);
         answer = call(&mut room);
     }
     room.truncate(answer.needed);
-    (answer.status, room)
+    (answer, room)
 }
 
 /// The page of the bindings, whose session is a test.

@@ -2,7 +2,7 @@
 pub mod Outcomes
 pub mod Splitting
 pub mod Verbs
-pub mod Editing
+pub mod Wrong
 pub mod Ending
 pub mod Items
 pub mod Counted

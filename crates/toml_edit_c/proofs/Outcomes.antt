@@ -1,5 +1,5 @@
 -- What the exports give, and what stops them.
-use Rattle.std.proofs.Common.{◌≡◌, ◌≤◌, ◌<◌, ◌⊎◌, sym, subst, ℕ, List, Result, Ok, Err, IfOk, IfErr, inl, inr, arith, string_bytes, String, Global, Some}
+use Rattle.std.proofs.Common.{◌≡◌, ◌≤◌, ◌<◌, ◌⊎◌, ap, sym, subst, ℕ, List, Result, Ok, Err, IfOk, IfErr, inl, inr, arith, string_bytes, String, Global, Some}
 use Rattle.std.proofs.lemmas.Result.{IfErr-weaker, IfOk-weaker}
 use Rattle.toml_edit_model.specs.Mode.{Mode}
 use Rattle.toml_edit_model.specs.Text.{Text}
@@ -14,8 +14,9 @@ use Rattle.toml_edit_command.proofs.Local.{made-written}
 use Rattle.toml_edit_c.specs.Answers.{Gives, Holds, IsAtFront, IsTooLong, IsUnanswered}
 use Rattle.toml_edit_c.specs.Made.{IsMade, MakesOf, StopsAction, StopsCall, StopsMaking, StopsPrinting}
 use Rattle.toml_edit_c.specs.Scripts.{StopsEditing}
-use Rattle.toml_edit_c.specs.Statuses.{status_of}
+use Rattle.toml_edit_c.specs.Statuses.{of_none, status_of}
 use Rattle.toml_edit_c.specs.declared.answer.Answer.{Answer}
+use Rattle.toml_edit_c.specs.declared.stop.EditStop.{EditStop}
 use Rattle.toml_edit_c.specs.declared.stop.Stop.{Stop}
 use Rattle.toml_edit_c.specs.declared.stop.Stop.TheVariants.{Refused, NotUtf8, Path, Value, NoSuchPath, WrongKind, Unfit, Memory, Flags, Script, NoSuchElement, Taken, Comment}
 
@@ -32,7 +33,7 @@ module _ (mode : Mode) (version : Version) (a : Action) (text : Text) (h : Held)
 
 -- the print of what a change leaves
 module _ (h k : Held) (same_mode : k.mode ≡ h.mode) (same_end : k.is_open ≡ h.is_open) where
-  print-as : (u : Tree) (x : Text) → IsPrintFor k u x → IsPrintFor h u x
+  pub print-as : (u : Tree) (x : Text) → IsPrintFor k u x → IsPrintFor h u x
   print-as u x print = subst (λ b. IsPrintOf h.mode b u x) same_end (subst (λ m. IsPrintOf m k.is_open u x) same_mode print)
 
   pub printed : (r : Result (String Global) Stop) → IfOk r (λ s. IsPrintFor k k.tree (string_bytes s))
@@ -55,16 +56,12 @@ module _ (h k : Held) (same_mode : k.mode ≡ h.mode) (same_end : k.is_open ≡ 
       → IfErr r (StopsMaking a h)
   unprinted a r changes why = IfErr-weaker r (StopsPrinting k) (StopsMaking a h) (stops-as a changes) why
 
-  stops-edit : (es : List Edit) → applied es h.tree ≡ Ok k.tree → (stop : Stop) → StopsPrinting k stop → StopsEditing es h stop
+  pub stops-edit : (es : List Edit) → applied es h.tree ≡ Ok k.tree → (stop : Stop) → StopsPrinting k stop → StopsEditing es h (of_none stop)
   stops-edit es made stop why =
       elim why [
-        | inl memory ↦ inl memory
-        | inr unfit ↦ inr (inr (unfit.0, (k.tree, made, unfit-as unfit.1)))
+        | inl memory ↦ inl (ap of_none memory)
+        | inr unfit ↦ inr (inr (ap of_none unfit.0, (k.tree, made, unfit-as unfit.1)))
       ]
-
-  pub unedited : (es : List Edit) (r : Result (String Global) Stop) → applied es h.tree ≡ Ok k.tree → IfErr r (StopsPrinting k)
-      → IfErr r (StopsEditing es h)
-  unedited es r made why = IfErr-weaker r (StopsPrinting k) (StopsEditing es h) (stops-edit es made) why
 
 -- ---- by the words
 
@@ -125,3 +122,22 @@ module _ (answer : Answer) (old new : List ℕ) where
       → IfErr r (λ stop. IsUnanswered answer old new) → 1 < answer.status → IsUnanswered answer old new
   unanswered (Ok s) holds none over = absurd (omega (arith, low (string_bytes s) answer old new holds, over))
   unanswered (Err stop) holds none over = none
+
+  -- so it is with what a script made, and with the number of the edit that is refused
+  pub edited : (r : Result (String Global) EditStop) (Is : Text → Type 0) → IfOk r (λ s. Is (string_bytes s))
+      → IfOk r (λ s. Holds (string_bytes s) answer old new) → IfErr r (λ e. answer.status ≡ status_of e.stop)
+      → answer.status ≤ 1 → Gives Is answer old new
+  edited (Ok s) Is is holds status under = (string_bytes s, is, holds)
+  edited (Err e) Is is holds status under = absurd (omega (arith, high e.stop, status, under))
+
+  pub numbered : (r : Result (String Global) EditStop) (Stops : EditStop → Type 0) → IfErr r Stops
+      → IfOk r (λ s. Holds (string_bytes s) answer old new) → IfErr r (λ e. answer.status ≡ status_of e.stop)
+      → IfErr r (λ e. answer.needed ≡ e.number) → 1 < answer.status
+      → (e : EditStop) × (answer.status ≡ status_of e.stop) × (answer.needed ≡ e.number) × Stops e
+  numbered (Ok s) Stops stops holds status number over = absurd (omega (arith, low (string_bytes s) answer old new holds, over))
+  numbered (Err e) Stops stops holds status number over = (e, status, number, stops)
+
+  pub untouched : (r : Result (String Global) EditStop) → IfOk r (λ s. Holds (string_bytes s) answer old new)
+      → IfErr r (λ e. new ≡ old) → 1 < answer.status → new ≡ old
+  untouched (Ok s) holds same over = absurd (omega (arith, low (string_bytes s) answer old new holds, over))
+  untouched (Err e) holds same over = same

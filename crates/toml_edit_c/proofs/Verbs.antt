@@ -1,17 +1,16 @@
--- The names of edits, and the words of an edit.
+-- The names of edits, and words that are no edit.
 use Rattle.std.proofs.Common.{◌≡◌, ◌<◌, refl, sym, ap, ◌∙◌, Bool, true, false, if◌then◌else◌, ℕ, List, [], ◌∷◌, ◌++◌, length, Option, None, Some, codes, arith, append_assoc, append-nil, length-append}
 use Rattle.toml_edit_model.specs.Text.{Text, same_text}
 use Rattle.toml_edit_model.specs.Version.{Version}
 use Rattle.toml_edit_laws.proofs.common.Tests.{same_text-is}
 use Rattle.toml_edit_script.specs.declared.edit.Edit.{Edit}
-use Rattle.toml_edit_script.specs.declared.edit.Edit.TheVariants as edits
-use Rattle.toml_edit_c.specs.Scripts.{IsNoEdit, SaysEdit, SaysEdits}
-use Rattle.toml_edit_c.specs.Verbs.{name_of, verb_named}
+use Rattle.toml_edit_c.specs.Scripts.{IsNoForm, SaysEdit, SaysEdits}
+use Rattle.toml_edit_c.specs.Verbs.{name_of, operands, verb_named}
 use Rattle.toml_edit_c.specs.declared.verb.PathVerb.TheVariants.{Remove, Sort}
-use Rattle.toml_edit_c.specs.declared.verb.TextVerb.TheVariants.{Rename, Comment}
-use Rattle.toml_edit_c.specs.declared.verb.ValueVerb.TheVariants.{Set, Header, Append, Insert, Take}
+use Rattle.toml_edit_c.specs.declared.verb.TextVerb.TheVariants.{String, Comment}
+use Rattle.toml_edit_c.specs.declared.verb.ValueVerb.TheVariants.{Set, Header, Append, Insert, Take, Table}
 use Rattle.toml_edit_c.specs.declared.verb.Verb.{Verb}
-use Rattle.toml_edit_c.specs.declared.verb.Verb.TheVariants.{Path, Value, Text as OfText, Move}
+use Rattle.toml_edit_c.specs.declared.verb.Verb.TheVariants.{Path, Value, Text as OfText, Rename, Move}
 
 -- ---- names
 
@@ -33,10 +32,12 @@ name-is t v is =
     (step t (codes "append") (Value Append) _ refl
     (step t (codes "insert") (Value Insert) _ refl
     (step t (codes "take") (Value Take) _ refl
-    (step t (codes "rename") (OfText Rename) _ refl
+    (step t (codes "table") (Value Table) _ refl
+    (step t (codes "string") (OfText String) _ refl
+    (step t (codes "rename") Rename _ refl
     (step t (codes "move") Move _ refl
     (step t (codes "sort") (Path Sort) _ refl
-    (step t (codes "comment") (OfText Comment) None refl (λ w none. absurd cc))))))))))
+    (step t (codes "comment") (OfText Comment) None refl (λ w none. absurd cc))))))))))))
     v is
 
 is-named : (v : Verb) → verb_named (name_of v) ≡ Some v
@@ -47,74 +48,37 @@ is-named (Value Header) = refl
 is-named (Value Append) = refl
 is-named (Value Insert) = refl
 is-named (Value Take) = refl
-is-named (OfText Rename) = refl
+is-named (Value Table) = refl
+is-named (OfText String) = refl
+is-named Rename = refl
 is-named (OfText Comment) = refl
 is-named Move = refl
 
--- ---- the words of an edit
-
-abbrev pub verb_in : Edit → Verb
-verb_in (edits.Set path v) = Value Set
-verb_in (edits.Header path v) = Value Header
-verb_in (edits.Remove path) = Path Remove
-verb_in (edits.Append path v) = Value Append
-verb_in (edits.Insert path v) = Value Insert
-verb_in (edits.Take path v) = Value Take
-verb_in (edits.Rename path name) = OfText Rename
-verb_in (edits.Move path to) = Move
-verb_in (edits.Sort path) = Path Sort
-verb_in (edits.Comment path text) = OfText Comment
-
--- how many words follow the name
-abbrev pub operands : Verb → ℕ
-operands (Path v) = 1
-operands (Value v) = 2
-operands (OfText v) = 2
-operands Move = 2
+-- ---- words that are no edit
 
 has-operand : (v : Verb) → 0 < operands v
 has-operand (Path v) = omega arith
 has-operand (Value v) = omega arith
 has-operand (OfText v) = omega arith
+has-operand Rename = omega arith
 has-operand Move = omega arith
 
+-- no edit has this name
+pub unnamed : (name : Text) (ws : List Text) → verb_named name ≡ None → IsNoForm (name ∷ ws)
+unnamed name ws none v more (rest, is, count) =
+    let same : name ≡ name_of v = cc in let some = ap verb_named same ∙ is-named v in absurd cc
+
+-- the edit of this name takes two operands
+pub short : (name path : Text) (v : Verb) → verb_named name ≡ Some v → operands v ≡ 2 → IsNoForm (name ∷ path ∷ [])
+short name path v named two w more (rest, is, count) =
+    let same : name ≡ name_of w = cc in let some = ap verb_named same ∙ is-named w in let one : v ≡ w = cc in
+    let counted : length more ≡ 2 = count ∙ ap operands (sym one) ∙ two in omega (arith, ap length is, length-append more rest, counted)
+
+-- an edit has two words or more
+pub few : (ws : List Text) → length ws < 2 → IsNoForm ws
+few ws less v more (rest, is, count) = let some = has-operand v in omega (arith, ap length is, length-append more rest, count, some)
+
 module _ (version : Version) where
-  said-words : (ws : List Text) (e : Edit) → SaysEdit version ws e
-      → (more : List Text) × (ws ≡ name_of (verb_in e) ∷ more) × (length more ≡ operands (verb_in e))
-  said-words ws (edits.Set path v) s = (s.0 ∷ s.1 ∷ [], s.2, refl)
-  said-words ws (edits.Header path v) s = (s.0 ∷ s.1 ∷ [], s.2, refl)
-  said-words ws (edits.Remove path) s = (s.0 ∷ [], s.1, refl)
-  said-words ws (edits.Append path v) s = (s.0 ∷ s.1 ∷ [], s.2, refl)
-  said-words ws (edits.Insert path v) s = (s.0 ∷ s.1 ∷ [], s.2, refl)
-  said-words ws (edits.Take path v) s = (s.0 ∷ s.1 ∷ [], s.2, refl)
-  said-words ws (edits.Rename path name) s = (s.0 ∷ _ ∷ [], s.1, refl)
-  said-words ws (edits.Move path to) s = (s.0 ∷ s.1 ∷ [], s.2, refl)
-  said-words ws (edits.Sort path) s = (s.0 ∷ [], s.1, refl)
-  said-words ws (edits.Comment path text) s = (s.0 ∷ _ ∷ [], s.1, refl)
-
-  no-edit : (ws : List Text)
-      → ((v : Verb) (more rest : List Text) → ws ≡ name_of v ∷ (more ++ rest) → length more ≡ operands v → ⊥) → IsNoEdit version ws
-  no-edit ws none e first rest is said =
-      let s = said-words first e said in none (verb_in e) s.0 rest (is ∙ ap (λ l. l ++ rest) s.1) s.2
-
-  -- no edit has this name
-  pub unnamed : (name : Text) (ws : List Text) → verb_named name ≡ None → IsNoEdit version (name ∷ ws)
-  unnamed name ws none =
-      no-edit (name ∷ ws)
-      (λ v more rest is count. let same : name ≡ name_of v = cc in let some = ap verb_named same ∙ is-named v in absurd cc)
-
-  -- the edit of this name takes two operands
-  pub short : (name path : Text) (v : Verb) → verb_named name ≡ Some v → operands v ≡ 2 → IsNoEdit version (name ∷ path ∷ [])
-  short name path v named two =
-      no-edit (name ∷ path ∷ [])
-      (λ w more rest is count.
-      let same : name ≡ name_of w = cc in let some = ap verb_named same ∙ is-named w in let one : v ≡ w = cc in
-      let counted : length more ≡ 2 = count ∙ ap operands (sym one) ∙ two in omega (arith, ap length is, length-append more rest, counted))
-
-  -- an edit has two words or more
-  pub few : (ws : List Text) → length ws < 2 → IsNoEdit version ws
-  few ws less = no-edit ws (λ v more rest is count. let some = has-operand v in omega (arith, ap length is, length-append more rest, count, some))
-
   -- ---- one after another
 
   pub said-more : (front ws : List Text) (es : List Edit) (e : Edit) → SaysEdits version front es → SaysEdit version ws e

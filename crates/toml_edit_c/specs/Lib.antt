@@ -7,8 +7,8 @@ pub mod Checks
 pub mod Json
 pub mod Formats
 pub mod Split
+pub mod Verbs
 pub mod Scripts
 pub mod Runs
 -- Cited inside this crate alone.
-pub mod Verbs
 pub mod Commands

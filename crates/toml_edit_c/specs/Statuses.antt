@@ -2,6 +2,7 @@
 use Rattle.std.specs.Prelude.{ℕ}
 use Rattle.toml_edit_paths.specs.declared.fault.ChangeFault.{ChangeFault}
 use Rattle.toml_edit_paths.specs.declared.fault.ChangeFault.TheVariants as faults
+use Rattle.toml_edit_c.specs.declared.stop.EditStop.{EditStop}
 use Rattle.toml_edit_c.specs.declared.stop.Stop.{Stop}
 use Rattle.toml_edit_c.specs.declared.stop.Stop.TheVariants.{Refused, NotUtf8, Path, Value, NoSuchPath, WrongKind, Unfit, Memory, Flags, Script, NoSuchElement, Taken, Comment}
 
@@ -25,3 +26,12 @@ abbrev pub stop_for : ChangeFault → Stop
 stop_for faults.NoSuchPath = NoSuchPath
 stop_for faults.WrongKind = WrongKind
 stop_for faults.Memory = Memory
+
+-- the reason is about no edit
+abbrev pub of_none : Stop → EditStop
+of_none stop = record { stop = stop; number = 0 }
+
+-- it is about the edit of this number; memory runs out at none
+abbrev pub of_edit : Stop → ℕ → EditStop
+of_edit Memory number = of_none Memory
+of_edit stop number = record { stop = stop; number = number }

@@ -1,18 +1,19 @@
 //! The texts of documents that are changed.
-ghost use Rattle.std.specs.Prelude.{◌≡◌, IfErr, IfOk, map, string_bytes};
+ghost use Rattle.std.specs.Prelude.{◌≡◌, IfErr, IfOk, string_bytes};
 ghost use Rattle.toml_edit.specs.DocumentView.{IsPrintedAs, tree_owned};
 ghost use Rattle.toml_edit_command.specs.Edits.{set_names};
 ghost use Rattle.toml_edit_command.specs.Words.{printing, removing, setting};
 ghost use Rattle.toml_edit_command.specs.Written.{IsPrintFor, Makes, held};
 ghost use Rattle.toml_edit_c.specs.Made.{StopsMaking, StopsPrinting};
 ghost use Rattle.toml_edit_c.specs.Statuses.{stop_for};
-ghost use Rattle.toml_edit_model.specs.Keys.{names, new_key};
+ghost use Rattle.toml_edit_model.specs.Keys.{names};
 ghost use Rattle.toml_edit_paths.specs.Changes.{Changes};
 ghost use Rattle.toml_edit_tree.specs.View.{value_view};
 
 use crate::stop::Stop;
 use std::alloc::Global;
 use toml_edit::{ChangeFault, DocumentMut, Key, Value};
+use toml_edit_paths::reset_keys;
 
 /// Puts the value at the path, and returns the text of the document. A missing key gets its default
 /// spelling, as the path may be spelled as TOML 1.0 does not allow.
@@ -42,16 +43,6 @@ fn put(document: &mut DocumentMut, path: &mut [Key], value: Value) -> Result<(),
 {
     reset_keys(path);
     document.set_at(path, value)
-}
-
-/// Resets the spelling and the decors of each key.
-fn reset_keys(keys: &mut [Key])
-    ensures { keys.new ≡ map new_key (names keys.old) }
-{
-    if let Some((first, rest)) = keys.split_first_mut() {
-        first.fmt();
-        reset_keys(rest);
-    }
 }
 
 /// Removes the item at the path, and returns the text of the document.

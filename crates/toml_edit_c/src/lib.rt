@@ -14,7 +14,7 @@
 //! it, would be proved by hand.
 #![tactic(auto)]
 
-ghost use Rattle.std.specs.Prelude.{◌≤◌, ◌<◌};
+ghost use Rattle.std.specs.Prelude.{◌≡◌, ◌≤◌, ◌<◌};
 ghost use Rattle.toml_edit_c.specs.Answers.{Gives, IsUnanswered};
 ghost use Rattle.toml_edit_c.specs.Asks.{ask, get_words, print_words, remove_words, set_words};
 ghost use Rattle.toml_edit_c.specs.Formats.{IsFormattedBy, StopsFormatWith};
@@ -41,7 +41,7 @@ mod verb;
 mod words;
 
 pub use answer::Answer;
-use answer::give;
+use answer::{give, give_edited};
 use std::alloc::Global;
 
 /// Gives the print of the text.
@@ -157,6 +157,8 @@ pub extern "C" fn toml_edit_format(
 }
 
 /// Gives the text with the edits of the script, which are made one after another or not at all.
+///
+/// Where there is none, the answer has the number of the first edit that is refused.
 #[unsafe(no_mangle)]
 pub extern "C" fn toml_edit_edit(
     alloc: Global,
@@ -168,8 +170,8 @@ pub extern "C" fn toml_edit_edit(
     ensures given { result.status ≤ 1
         → Gives (IsEditedBy flags text.now script.now) result room.old room.new }
     ensures stopped { 1 < result.status
-        → StopsEditWith flags text.now script.now result.status }
-    ensures unanswered { 1 < result.status → IsUnanswered result room.old room.new }
+        → StopsEditWith flags text.now script.now result.status result.needed }
+    ensures unanswered { 1 < result.status → room.new ≡ room.old }
 {
-    give(script::edit(alloc, flags, text, script), room)
+    give_edited(script::edit(alloc, flags, text, script), room)
 }

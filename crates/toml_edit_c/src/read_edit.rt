@@ -4,19 +4,25 @@ ghost use Rattle.toml_edit_model.specs.Text.{Text};
 ghost use Rattle.toml_edit_model.specs.Version.{Version};
 ghost use Rattle.toml_edit_parser.specs.Options.{version_of};
 ghost use Rattle.toml_edit_tree.specs.View.{value_view};
-ghost use Rattle.toml_edit_c.specs.Made.{MayStopPath};
-ghost use Rattle.toml_edit_c.specs.Scripts.{SaysEdit, SaysEdits, SpellsKeys, StopsEdit, StopsEdits, StopsOperands, TakesValue};
-ghost use Rattle.toml_edit_c.specs.Verbs.{name_of, path_name, text_name, value_name};
+ghost use Rattle.toml_edit_command.specs.Words.{IsNoValue, SpellsValue};
+ghost use Rattle.toml_edit_c.specs.Scripts.{IsNoKeys, IsNoName, IsWrong, SaysEdit, SaysEdits, SpellsKeys, SpellsName, StopsEdit, StopsEdits, Takes};
+ghost use Rattle.toml_edit_c.specs.Verbs.{name_of, operands, path_name, text_name, value_name};
+ghost use Rattle.toml_edit_c.specs.declared.stop.Stop.TheVariants as stops;
 
-use crate::stop::Stop;
+use crate::stop::{EditStop, Stop};
 use crate::verb::{PathVerb, TextVerb, ValueVerb, Verb, verb_of};
-use crate::words::{path_of, value_of};
+use crate::words::{path_in, value_in};
 use std::alloc::Global;
 use toml_edit::{Key, ParseOptions, Value};
-use toml_edit_script::Edit;
+use toml_edit_paths::reset_keys;
+use toml_edit_script::{Edit, comment_text};
 
 /// Reads the edits that the words say.
-pub fn edits_of(alloc: Global, options: ParseOptions, words: &[String]) -> Result<Vec<Edit>, Stop>
+pub fn edits_of(
+    alloc: Global,
+    options: ParseOptions,
+    words: &[String],
+) -> Result<Vec<Edit>, EditStop>
     ensures said { IfOk result (λ edits. SaysEdits (version_of options)
         (map string_bytes words.now) edits.items) }
     ensures stops { IfErr result (StopsEdits (version_of options) (map string_bytes words.now)) }
@@ -27,9 +33,9 @@ pub fn edits_of(alloc: Global, options: ParseOptions, words: &[String]) -> Resul
         let count = match edit_at(alloc, options, rest) {
             Ok((edit, count)) => match edits.push(edit) {
                 Ok(()) => count,
-                Err(_) => return Err(Stop::Memory),
+                Err(_) => return Err(EditStop::of_none(Stop::Memory)),
             },
-            Err(stop) => return Err(stop),
+            Err(stop) => return Err(EditStop::of_edit(stop, edits.len() + 1)),
         };
         rest = &rest[count..];
     }
@@ -67,12 +73,14 @@ fn edit_of(
     ensures said { IfOk result (λ r. SaysEdit (version_of options)
         (take r.1 (name_of verb ∷ path.now ∷ operand.now ∷ [])) r.0) }
     ensures count { IfOk result (λ r. (0 < r.1) × (r.1 ≤ 3)) }
-    ensures stops { IfErr result (StopsOperands (version_of options) path.now operand.now) }
+    ensures stops { IfErr result (λ stop. (stop ≡ stops.Memory) ⊎ IsWrong (version_of options) verb
+        (take (operands verb) (path.now ∷ operand.now ∷ [])) stop) }
 {
     match verb {
         Verb::Path(verb) => path_edit(alloc, verb, path),
         Verb::Value(verb) => value_edit(alloc, options, verb, path, operand),
         Verb::Text(verb) => text_edit(alloc, verb, path, operand),
+        Verb::Rename => rename_edit(alloc, path, operand),
         Verb::Move => move_edit(alloc, path, operand),
     }
 }
@@ -82,7 +90,8 @@ fn path_edit(alloc: Global, verb: PathVerb, path: &str) -> Result<(Edit, usize),
     ensures said { (version : Version) → IfOk result
         (λ r. SaysEdit version (path_name verb ∷ path.now ∷ []) r.0) }
     ensures count { IfOk result (λ r. r.1 ≡ 2) }
-    ensures stops { IfErr result (MayStopPath path.now) }
+    ensures stops { IfErr result (λ stop. (stop ≡ stops.Memory)
+        ⊎ ((stop ≡ stops.Path) × IsNoKeys path.now)) }
 {
     match keys_of(alloc, path) {
         Ok(keys) => match verb {
@@ -104,10 +113,12 @@ fn value_edit(
     ensures said { IfOk result (λ r. SaysEdit (version_of options)
         (value_name verb ∷ path.now ∷ value.now ∷ []) r.0) }
     ensures count { IfOk result (λ r. r.1 ≡ 3) }
-    ensures stops { IfErr result (StopsOperands (version_of options) path.now value.now) }
+    ensures stops { IfErr result (λ stop. (stop ≡ stops.Memory)
+        ⊎ ((stop ≡ stops.Path) × IsNoKeys path.now)
+        ⊎ ((stop ≡ stops.Value) × IsNoValue (version_of options) value.now)) }
 {
     match keys_of(alloc, path) {
-        Ok(keys) => match value_of(alloc, value.as_bytes(), options) {
+        Ok(keys) => match value_in(alloc, value, options) {
             Ok(value) => Ok((valued(verb, keys, value), 3)),
             Err(stop) => Err(stop),
         },
@@ -118,7 +129,7 @@ fn value_edit(
 /// Returns an edit that takes a value.
 fn valued(verb: ValueVerb, keys: Vec<Key>, value: Value) -> Edit
     ensures { (version : Version) (ws : List Text)
-        → TakesValue version (value_name verb) ws keys.items (value_view value)
+        → Takes (λ t. SpellsValue version t (value_view value)) (value_name verb) ws keys.items
         → SaysEdit version ws result }
 {
     match verb {
@@ -127,6 +138,7 @@ fn valued(verb: ValueVerb, keys: Vec<Key>, value: Value) -> Edit
         ValueVerb::Append => Edit::Append(keys, value),
         ValueVerb::Insert => Edit::Insert(keys, value),
         ValueVerb::Take => Edit::Take(keys, value),
+        ValueVerb::Table => Edit::Table(keys, value),
     }
 }
 
@@ -135,15 +147,39 @@ fn text_edit(alloc: Global, verb: TextVerb, path: &str, text: &str) -> Result<(E
     ensures said { (version : Version) → IfOk result (λ r. SaysEdit version
         (text_name verb ∷ path.now ∷ text.now ∷ []) r.0) }
     ensures count { IfOk result (λ r. r.1 ≡ 3) }
-    ensures stops { IfErr result (MayStopPath path.now) }
+    ensures stops { IfErr result (λ stop. (stop ≡ stops.Memory)
+        ⊎ ((stop ≡ stops.Path) × IsNoKeys path.now)) }
+{
+    let keys = match keys_of(alloc, path) {
+        Ok(keys) => keys,
+        Err(stop) => return Err(stop),
+    };
+    let edit = match verb {
+        TextVerb::String => match Value::string(alloc, text) {
+            Ok(value) => Edit::Set(keys, value),
+            Err(_) => return Err(Stop::Memory),
+        },
+        TextVerb::Comment => match comment_text(alloc, text) {
+            Ok(text) => Edit::Comment(keys, text),
+            Err(_) => return Err(Stop::Memory),
+        },
+    };
+    Ok((edit, 3))
+}
+
+/// Reads a renaming, whose key is spelled as in a path.
+fn rename_edit(alloc: Global, path: &str, key: &str) -> Result<(Edit, usize), Stop>
+    ensures said { (version : Version) → IfOk result (λ r. SaysEdit version
+        (codes "rename" ∷ path.now ∷ key.now ∷ []) r.0) }
+    ensures count { IfOk result (λ r. r.1 ≡ 3) }
+    ensures stops { IfErr result (λ stop. (stop ≡ stops.Memory)
+        ⊎ ((stop ≡ stops.Path) × IsNoKeys path.now)
+        ⊎ ((stop ≡ stops.Path) × IsNoName key.now)) }
 {
     match keys_of(alloc, path) {
-        Ok(keys) => match String::from_str(alloc, text) {
-            Ok(text) => match verb {
-                TextVerb::Rename => Ok((Edit::Rename(keys, text), 3)),
-                TextVerb::Comment => Ok((Edit::Comment(keys, text), 3)),
-            },
-            Err(_) => Err(Stop::Memory),
+        Ok(keys) => match key_name(alloc, key) {
+            Ok(name) => Ok((Edit::Rename(keys, name), 3)),
+            Err(stop) => Err(stop),
         },
         Err(stop) => Err(stop),
     }
@@ -154,7 +190,9 @@ fn move_edit(alloc: Global, path: &str, to: &str) -> Result<(Edit, usize), Stop>
     ensures said { (version : Version) → IfOk result (λ r. SaysEdit version
         (codes "move" ∷ path.now ∷ to.now ∷ []) r.0) }
     ensures count { IfOk result (λ r. r.1 ≡ 3) }
-    ensures stops { IfErr result (λ stop. MayStopPath path.now stop ⊎ MayStopPath to.now stop) }
+    ensures stops { IfErr result (λ stop. (stop ≡ stops.Memory)
+        ⊎ ((stop ≡ stops.Path) × IsNoKeys path.now)
+        ⊎ ((stop ≡ stops.Path) × IsNoKeys to.now)) }
 {
     match keys_of(alloc, path) {
         Ok(keys) => match keys_of(alloc, to) {
@@ -165,13 +203,38 @@ fn move_edit(alloc: Global, path: &str, to: &str) -> Result<(Edit, usize), Stop>
     }
 }
 
-/// Parses a path, which may be the empty one.
+/// Parses a path, which may be the empty one, and gives each key its default spelling.
 fn keys_of(alloc: Global, path: &str) -> Result<Vec<Key>, Stop>
     ensures spelled { IfOk result (λ keys. SpellsKeys path.now keys.items) }
-    ensures stops { IfErr result (MayStopPath path.now) }
+    ensures stops { IfErr result (λ stop. (stop ≡ stops.Memory)
+        ⊎ ((stop ≡ stops.Path) × IsNoKeys path.now)) }
 {
     if path.is_empty() {
         return Ok(Vec::new(alloc));
     }
-    path_of(alloc, path.as_bytes())
+    match path_in(alloc, path) {
+        Ok(mut keys) => {
+            reset_keys(keys.as_mut_slice());
+            Ok(keys)
+        }
+        Err(stop) => Err(stop),
+    }
+}
+
+/// Parses a path of one key, and returns the name of the key.
+fn key_name(alloc: Global, key: &str) -> Result<String, Stop>
+    ensures spelled { IfOk result (λ name. SpellsName key.now (string_bytes name)) }
+    ensures stops { IfErr result (λ stop. (stop ≡ stops.Memory)
+        ⊎ ((stop ≡ stops.Path) × IsNoName key.now)) }
+{
+    match path_in(alloc, key) {
+        Ok(keys) => match keys.as_slice() {
+            [only] => match String::from_str(alloc, only.get()) {
+                Ok(name) => Ok(name),
+                Err(_) => Err(Stop::Memory),
+            },
+            _ => Err(Stop::Path),
+        },
+        Err(stop) => Err(stop),
+    }
 }

@@ -10,25 +10,30 @@ use crate::flags::options_of;
 use crate::read::read;
 use crate::read_edit::edits_of;
 use crate::split::split;
-use crate::stop::Stop;
+use crate::stop::{EditStop, Stop};
 use std::alloc::Global;
 use std::str;
 use toml_edit::{DocumentMut, ParseOptions};
 use toml_edit_script::{Edit, EditFault, apply};
 
 /// Returns the text with the edits of the script.
-pub fn edit(alloc: Global, flags: u32, text: &[u8], script: &[u8]) -> Result<String, Stop>
+pub fn edit(alloc: Global, flags: u32, text: &[u8], script: &[u8]) -> Result<String, EditStop>
     ensures made { IfOk result (λ s. IsEditedBy flags text.now script.now (string_bytes s)) }
     ensures stops { IfErr result (StopsEditBy flags text.now script.now) }
 {
     match options_of(flags) {
         Some(options) => edit_by(alloc, options, text, script),
-        None => Err(Stop::Flags),
+        None => Err(EditStop::of_none(Stop::Flags)),
     }
 }
 
 /// Returns it by options.
-fn edit_by(alloc: Global, options: ParseOptions, text: &[u8], script: &[u8]) -> Result<String, Stop>
+fn edit_by(
+    alloc: Global,
+    options: ParseOptions,
+    text: &[u8],
+    script: &[u8],
+) -> Result<String, EditStop>
     ensures made { IfOk result (λ s. IsEditedOf (mode_of options, version_of options) text.now
         script.now (string_bytes s)) }
     ensures stops { IfErr result
@@ -41,14 +46,14 @@ fn edit_by(alloc: Global, options: ParseOptions, text: &[u8], script: &[u8]) -> 
                 drop(document);
                 made
             }
-            Err(stop) => Err(stop),
+            Err(stop) => Err(EditStop::of_none(stop)),
         },
-        Err(stop) => Err(stop),
+        Err(refused) => Err(refused),
     }
 }
 
 /// Reads the edits of a script.
-fn edits_in(alloc: Global, options: ParseOptions, script: &[u8]) -> Result<Vec<Edit>, Stop>
+fn edits_in(alloc: Global, options: ParseOptions, script: &[u8]) -> Result<Vec<Edit>, EditStop>
     ensures said { IfOk result
         (λ edits. SaysEdits (version_of options) (words_in script.now) edits.items) }
     ensures stops { IfErr result (StopsScript (version_of options) script.now) }
@@ -56,20 +61,23 @@ fn edits_in(alloc: Global, options: ParseOptions, script: &[u8]) -> Result<Vec<E
     match str::from_utf8(script) {
         Ok(script) => match split(alloc, script) {
             Ok(words) => edits_of(alloc, options, words.as_slice()),
-            Err(_) => Err(Stop::Memory),
+            Err(_) => Err(EditStop::of_none(Stop::Memory)),
         },
-        Err(_) => Err(Stop::Script),
+        Err(_) => Err(EditStop::of_none(Stop::Script)),
     }
 }
 
 /// Makes the edits, and returns the text of the document.
-fn make(alloc: Global, document: &mut DocumentMut, edits: &[Edit]) -> Result<String, Stop>
+fn make(alloc: Global, document: &mut DocumentMut, edits: &[Edit]) -> Result<String, EditStop>
     ensures made { IfOk result (λ s. IsEdited edits.now (held document.old) (string_bytes s)) }
     ensures stops { IfErr result (StopsEditing edits.now (held document.old)) }
 {
     match apply(alloc, document, edits) {
-        Ok(()) => print_fitting(alloc, document),
-        Err(refused) => Err(stop_of(refused.fault)),
+        Ok(()) => match print_fitting(alloc, document) {
+            Ok(text) => Ok(text),
+            Err(stop) => Err(EditStop::of_none(stop)),
+        },
+        Err(refused) => Err(EditStop::of_edit(stop_of(refused.fault), refused.at + 1)),
     }
 }
 

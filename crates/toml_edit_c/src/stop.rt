@@ -1,6 +1,6 @@
 //! Why a call has no text for its caller.
 ghost use Rattle.std.specs.Prelude.{◌≡◌};
-ghost use Rattle.toml_edit_c.specs.Statuses.{status_of};
+ghost use Rattle.toml_edit_c.specs.Statuses.{of_edit, of_none, status_of};
 
 /// Why a call has no text for its caller.
 #[derive(Clone, Copy, Debug)]
@@ -9,18 +9,18 @@ pub enum Stop {
     Refused,
     /// The text is not UTF-8.
     NotUtf8,
-    /// The path is none.
+    /// The path is not valid.
     Path,
-    /// The value is none.
+    /// The value is not valid.
     Value,
     NoSuchPath,
     WrongKind,
     /// The changed document does not fit.
     Unfit,
     Memory,
-    /// The flags are none.
+    /// The flags are not valid.
     Flags,
-    /// The script is none.
+    /// The script is not UTF-8, or its words are not edits.
     Script,
     /// No element of the array is equal.
     NoSuchElement,
@@ -49,6 +49,33 @@ impl Stop {
             Stop::NoSuchElement => 12,
             Stop::Taken => 13,
             Stop::Comment => 14,
+        }
+    }
+}
+
+/// Why a script gives no text, and the number of the edit that is refused, from 1. It is 0 where
+/// the reason is not about one edit.
+#[derive(Clone, Copy, Debug)]
+pub struct EditStop {
+    pub stop: Stop,
+    pub number: usize,
+}
+
+impl EditStop {
+    /// Returns that it is about no edit.
+    pub fn of_none(stop: Stop) -> EditStop
+        ensures { result ≡ of_none stop }
+    {
+        EditStop { stop, number: 0 }
+    }
+
+    /// Returns that it is about the edit of this number, unless memory ran out.
+    pub fn of_edit(stop: Stop, number: usize) -> EditStop
+        ensures { result ≡ of_edit stop number }
+    {
+        match stop {
+            Stop::Memory => EditStop::of_none(stop),
+            _ => EditStop { stop, number },
         }
     }
 }

@@ -8,6 +8,7 @@ pub enum Verb {
     Path(PathVerb),
     Value(ValueVerb),
     Text(TextVerb),
+    Rename,
     Move,
 }
 
@@ -26,12 +27,13 @@ pub enum ValueVerb {
     Append,
     Insert,
     Take,
+    Table,
 }
 
 /// An edit of a path that takes a text.
 #[derive(Clone, Copy)]
 pub enum TextVerb {
-    Rename,
+    String,
     Comment,
 }
 
@@ -46,7 +48,9 @@ pub fn verb_of(name: &str) -> Option<Verb>
         "append" => Some(Verb::Value(ValueVerb::Append)),
         "insert" => Some(Verb::Value(ValueVerb::Insert)),
         "take" => Some(Verb::Value(ValueVerb::Take)),
-        "rename" => Some(Verb::Text(TextVerb::Rename)),
+        "table" => Some(Verb::Value(ValueVerb::Table)),
+        "string" => Some(Verb::Text(TextVerb::String)),
+        "rename" => Some(Verb::Rename),
         "move" => Some(Verb::Move),
         "sort" => Some(Verb::Path(PathVerb::Sort)),
         "comment" => Some(Verb::Text(TextVerb::Comment)),

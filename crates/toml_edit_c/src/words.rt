@@ -1,10 +1,11 @@
 //! Reading paths and values.
-ghost use Rattle.std.specs.Prelude.{IfErr, IfOk};
-ghost use Rattle.toml_edit_command.specs.Words.{SpellsPath, SpellsValue};
+ghost use Rattle.std.specs.Prelude.{◌≡◌, ◌⊎◌, IfErr, IfOk, List};
+ghost use Rattle.toml_edit_command.specs.Words.{IsNoPath, IsNoValue, SpellsPath, SpellsValue};
 ghost use Rattle.toml_edit_c.specs.Made.{MayStopPath, MayStopValue};
+ghost use Rattle.toml_edit_c.specs.declared.stop.Stop.TheVariants as stops;
 ghost use Rattle.toml_edit_model.specs.Keys.{names};
+ghost use Rattle.toml_edit_model.specs.Text.{Text};
 ghost use Rattle.toml_edit_parser.specs.Options.{version_of};
-ghost use Rattle.toml_edit_parser.specs.ReadKeys.{AreLoneKeys};
 ghost use Rattle.toml_edit_tree.specs.View.{value_view};
 
 use crate::stop::Stop;
@@ -14,14 +15,24 @@ use toml_edit::{FromStrWith, Key, ParseFault, ParseOptions, ParsePath, Value};
 
 /// Parses a path.
 pub fn path_of(alloc: Global, path: &[u8]) -> Result<Vec<Key>, Stop>
-    ensures keys { IfOk result (λ keys. AreLoneKeys path.now keys.items) }
     ensures spelled { IfOk result (λ keys. SpellsPath path.now (names keys.items)) }
     ensures stops { IfErr result (MayStopPath path.now) }
 {
-    let Ok(text) = str::from_utf8(path) else {
-        return Err(Stop::Path);
-    };
-    match Key::parse(alloc, text) {
+    match str::from_utf8(path) {
+        Ok(text) => path_in(alloc, text),
+        Err(_) => Err(Stop::Path),
+    }
+}
+
+/// Parses a path of characters.
+pub fn path_in(alloc: Global, path: &str) -> Result<Vec<Key>, Stop>
+    ensures spelled { IfOk result (λ keys. SpellsPath path.now (names keys.items)) }
+    ensures only { (ks : List Text) → SpellsPath path.now ks
+        → IfOk result (λ keys. names keys.items ≡ ks) }
+    ensures stops { IfErr result
+        (λ stop. (stop ≡ stops.Memory) ⊎ ((stop ≡ stops.Path) × IsNoPath path.now)) }
+{
+    match Key::parse(alloc, path) {
         Ok(keys) => Ok(keys),
         Err(ParseFault::Toml(_)) => Err(Stop::Path),
         Err(ParseFault::Memory) => Err(Stop::Memory),
@@ -34,10 +45,21 @@ pub fn value_of(alloc: Global, value: &[u8], options: ParseOptions) -> Result<Va
         (λ read. SpellsValue (version_of options) value.now (value_view read)) }
     ensures stops { IfErr result (MayStopValue (version_of options) value.now) }
 {
-    let Ok(text) = str::from_utf8(value) else {
-        return Err(Stop::Value);
-    };
-    match <Value as FromStrWith>::from_str_with(alloc, text, options) {
+    match str::from_utf8(value) {
+        Ok(text) => value_in(alloc, text, options),
+        Err(_) => Err(Stop::Value),
+    }
+}
+
+/// Parses a value of characters by these options.
+pub fn value_in(alloc: Global, value: &str, options: ParseOptions) -> Result<Value, Stop>
+    ensures spelled { IfOk result
+        (λ read. SpellsValue (version_of options) value.now (value_view read)) }
+    ensures stops { IfErr result
+        (λ stop. (stop ≡ stops.Memory)
+        ⊎ ((stop ≡ stops.Value) × IsNoValue (version_of options) value.now)) }
+{
+    match <Value as FromStrWith>::from_str_with(alloc, value, options) {
         Ok(read) => Ok(read),
         Err(ParseFault::Toml(_)) => Err(Stop::Value),
         Err(ParseFault::Memory) => Err(Stop::Memory),

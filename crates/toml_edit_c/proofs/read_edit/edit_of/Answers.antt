@@ -18,6 +18,12 @@ returns-in-Text-clause-said c =
     subst (λ name. IfOk c.text_edit.result (λ e. SaysEdit v (take e.1 (name ∷ path ∷ operand ∷ [])) e.0)) (sym (ap name_of c.in-Text.is))
     (three v (text_name c.in-Text.verb) path operand c.text_edit.result (c.text_edit.ensures.said v) c.text_edit.ensures.count)
 
+pub returns-in-Rename-clause-said : goal.returns-in-Rename-clause-said
+returns-in-Rename-clause-said c =
+    let v = version_of c.args.options in let path = c.args.path.now in let operand = c.args.operand.now in
+    subst (λ name. IfOk c.rename_edit.result (λ e. SaysEdit v (take e.1 (name ∷ path ∷ operand ∷ [])) e.0)) (sym (ap name_of c.in-Rename.is))
+    (three v (codes "rename") path operand c.rename_edit.result (c.rename_edit.ensures.said v) c.rename_edit.ensures.count)
+
 pub returns-in-Move-clause-said : goal.returns-in-Move-clause-said
 returns-in-Move-clause-said c =
     let v = version_of c.args.options in let path = c.args.path.now in let operand = c.args.operand.now in

@@ -1,5 +1,5 @@
 -- The flags stand for the options.
-use Rattle.std.proofs.Common.{inl, inr, refl, string_bytes, sym}
+use Rattle.std.proofs.Common.{inl, inr, string_bytes, sym}
 use Rattle.std.proofs.lemmas.Result.{IfErr-weaker, IfOk-weaker}
 use Rattle.toml_edit_model.specs.Mode.{Mode}
 use Rattle.toml_edit_model.specs.Version.{Version}
@@ -21,4 +21,4 @@ returns-in-Some-clause-stops c =
     (λ stop why. inr (how, sym c.in-Some.ensures, why)) c.edit_by.ensures.stops
 
 pub returns-in-None-clause-stops : goal.returns-in-None-clause-stops
-returns-in-None-clause-stops c = inl (refl, sym c.in-None.ensures)
+returns-in-None-clause-stops c = inl (c.of_none.ensures, sym c.in-None.ensures)

@@ -24,7 +24,7 @@ returns-in-Ok-read-clause-stops c =
     (λ stop why. inr (inr (es, said, (h, c.in-Ok-read.ensures.read, why)))) c.make-made.ensures.stops
 
 pub returns-in-Ok-clause-stops : goal.returns-in-Ok-clause-stops
-returns-in-Ok-clause-stops c = inr (inl c.in-Err-read.ensures.stops)
+returns-in-Ok-clause-stops c = inr (inl (c.in-Err-read.stop, c.of_none.ensures, c.in-Err-read.ensures.stops))
 
 pub returns-clause-stops : goal.returns-clause-stops
 returns-clause-stops c = inl c.in-Err.ensures.stops

@@ -1,26 +1,32 @@
 -- What is printed is what the edits leave.
-use Rattle.std.proofs.Common.{string_bytes}
-use Rattle.std.proofs.lemmas.Result.{IfOk-weaker}
-use Rattle.toml_edit_command.specs.Written.{IsPrintFor, held}
-use Rattle.toml_edit_c.specs.Scripts.{IsEdited}
-use Rattle.toml_edit_c.proofs.Editing.{refused-stops}
-use Rattle.toml_edit_c.proofs.Outcomes.{printed, unedited}
+use Rattle.std.proofs.Common.{◌+◌, ◌∙◌, ap, arith, inl, inr, string_bytes, subst, sym}
+use Rattle.toml_edit_command.specs.Written.{held}
+use Rattle.toml_edit_c.specs.Scripts.{StopsEditing, stop_of_edit}
+use Rattle.toml_edit_c.specs.Statuses.{of_edit}
+use Rattle.toml_edit_c.proofs.Outcomes.{print-as, stops-edit}
 use Rattle.toml_edit_c.proofs.script.make.Goals as goal
 
-pub returns-in-Ok-clause-made : goal.returns-in-Ok-clause-made
-returns-in-Ok-clause-made c =
-    let h = held c.args.document.now in let k = held c.apply.new.document in
-    IfOk-weaker c.print_fitting.result (λ s. IsPrintFor h k.tree (string_bytes s)) (λ s. IsEdited c.args.edits.now h (string_bytes s))
-    (λ s print. (k.tree, c.in-Ok.ensures.applies, print))
-    (printed h k c.apply.ensures.printed.0 c.apply.ensures.printed.1 c.print_fitting.result c.print_fitting.ensures.text)
+pub returns-in-Ok-print_fitting-clause-made : goal.returns-in-Ok-print_fitting-clause-made
+returns-in-Ok-print_fitting-clause-made c =
+    let h = held c.args.document.now in let k = held c.apply.new.document in (
+      k.tree,
+      c.in-Ok.ensures.applies,
+      print-as h k c.apply.ensures.printed.0 c.apply.ensures.printed.1 k.tree (string_bytes c.in-Ok-print_fitting.text) c.in-Ok-print_fitting.ensures.text,
+    )
 
-pub returns-in-Ok-clause-stops : goal.returns-in-Ok-clause-stops
-returns-in-Ok-clause-stops c =
+pub returns-in-Err-print_fitting-clause-stops : goal.returns-in-Err-print_fitting-clause-stops
+returns-in-Err-print_fitting-clause-stops c =
     let h = held c.args.document.now in let k = held c.apply.new.document in
-    unedited h k c.apply.ensures.printed.0 c.apply.ensures.printed.1 c.args.edits.now c.print_fitting.result c.in-Ok.ensures.applies
-    c.print_fitting.ensures.stops
+    subst (StopsEditing c.args.edits.now h) (sym c.of_none.ensures)
+    (stops-edit h k c.apply.ensures.printed.0 c.apply.ensures.printed.1 c.args.edits.now c.in-Ok.ensures.applies c.in-Err-print_fitting.stop
+    c.in-Err-print_fitting.ensures.stops)
 
 pub returns-in-Err-clause-stops : goal.returns-in-Err-clause-stops
 returns-in-Err-clause-stops c =
-    refused-stops c.args.edits.now (held c.args.document.now) (held c.apply.new.document).tree c.in-Err.refused c.stop_of.result c.stop_of.ensures
-    c.in-Err.ensures.applies
+    let f = c.in-Err.refused in
+    inr (inl (
+      (held c.apply.new.document).tree,
+      f,
+      c.in-Err.ensures.applies,
+      c.of_edit.ensures ∙ ap (λ s. of_edit s (f.at + 1)) c.stop_of.ensures ∙ ap (of_edit (stop_of_edit f.fault)) (omega arith),
+    ))

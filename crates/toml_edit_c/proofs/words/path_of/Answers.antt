@@ -1,12 +1,14 @@
--- The keys of a path have the texts of its segments.
-use Rattle.std.proofs.Common.{ap, ◌∙◌, subst}
-use Rattle.toml_edit_command.specs.Words.{SpellsPath}
-use Rattle.toml_edit_command.proofs.Spelled.{lone-names}
+-- A text that is not a path is not one of characters.
+use Rattle.std.proofs.Common.{◌≡◌, ◌⊎◌, inl, inr, subst}
+use Rattle.std.proofs.lemmas.Result.{IfErr-weaker}
+use Rattle.toml_edit_command.specs.Words.{IsNoPath}
+use Rattle.toml_edit_c.specs.Made.{MayStopPath}
+use Rattle.toml_edit_c.specs.declared.stop.Stop.TheVariants as stops
 use Rattle.toml_edit_c.proofs.words.path_of.Goals as goal
-use Rattle.toml_edit_model.specs.Keys.{names}
 
-pub returns-in-Ok-parse-clause-spelled : goal.returns-in-Ok-parse-clause-spelled
-returns-in-Ok-parse-clause-spelled c =
-    let k = c.in-Ok-parse.ensures.keys in
-    let keys = names c.in-Ok-parse.keys.items in
-    subst (λ t. SpellsPath t keys) c.in-Ok.ensures.cases.0 (k.0, k.1, k.2, k.3, ap names k.4 ∙ lone-names k.0 k.1 k.2)
+pub returns-in-Ok-clause-stops : goal.returns-in-Ok-clause-stops
+returns-in-Ok-clause-stops c =
+    IfErr-weaker c.path_in.result (λ stop. (stop ≡ stops.Memory) ⊎ ((stop ≡ stops.Path) × IsNoPath c.in-Ok.text.now)) (MayStopPath c.args.path.now)
+    (λ stop why.
+    elim why [ inl memory ↦ inl memory | inr none ↦ inr (none.0, (λ utf8. subst IsNoPath c.in-Ok.ensures.cases.0 none.1)) ])
+    c.path_in.ensures.stops
