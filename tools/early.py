@@ -8,7 +8,7 @@ are taken. Crates below that are not proved are read as sources: their contracts
 are checked too. The flags are those of `rattle check`, such as `--allow-holes`; FUNCTION is a path, as `document::DocumentMut::set_at`.
 What is checked is kept in `out/early`.
 
-It proves nothing for the gate. Ends with the status of the check.
+It proves nothing for the gate. Ends with the status of the check, or with 1 if an answer was refused, and says how many errors there were.
 """
 import functools
 import importlib.machinery
@@ -108,7 +108,15 @@ def main():
         return 2
     had = place(rt, crates, {below.name for below in crate.below()})
     os.makedirs(crate.folder + "/out/early", exist_ok=True)
-    return subprocess.run([*command(crate, had), *sys.argv[2:]], cwd=crate.folder, check=False).returncode
+    # Its last lines say `holes=0` also where an answer is refused.
+    errors = 0
+    words = [*command(crate, had), *sys.argv[2:]]
+    with subprocess.Popen(words, cwd=crate.folder, stdout=subprocess.PIPE, stderr=subprocess.STDOUT, text=True) as check:
+        for line in check.stdout:
+            errors += ": error: " in line
+            print(line, end="", flush=True)
+    print("%d errors" % errors)
+    return check.returncode or int(errors > 0)
 
 
 if __name__ == "__main__":

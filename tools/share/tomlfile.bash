@@ -10,11 +10,11 @@ _tomlfile() {
         '') COMPREPLY=($(compgen -W 'strict normal get has edit keys json check fmt --help --version' -- "$word")); return ;;
         get) [[ $word == -* ]] && COMPREPLY=($(compgen -W '--raw --lines --default --help' -- "$word")) ;;
         keys) [[ $word == -* ]] && COMPREPLY=($(compgen -W '--all --help' -- "$word")) ;;
-        fmt) [[ $word == -* ]] && COMPREPLY=($(compgen -W '--check --keys --sort --help' -- "$word")) ;;
+        fmt) [[ $word == -* ]] && COMPREPLY=($(compgen -W '--check --keys --sort --force --help' -- "$word")) ;;
         edit)
-            [[ $word == -* ]] && COMPREPLY=($(compgen -W '--script --dry-run --output --locked --help' -- "$word"))
+            [[ $word == -* ]] && COMPREPLY=($(compgen -W '--script --dry-run --output --locked --force --help' -- "$word"))
             if ((COMP_CWORD == at + 2)) || [[ ${COMP_WORDS[COMP_CWORD - 1]} == , ]]; then
-                COMPREPLY+=($(compgen -W 'set string header remove append insert take rename move sort comment' -- "$word"))
+                COMPREPLY+=($(compgen -W 'set string header table remove append insert take rename move sort comment' -- "$word"))
                 return
             fi ;;
     esac

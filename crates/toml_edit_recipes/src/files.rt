@@ -1,24 +1,31 @@
 //! Editing a file in place.
 use crate::version::set_version;
-use anyhow::{Result, ensure};
-use std::fs::{self, File, OpenFile};
-use std::io::Write;
-use std::rt::Files;
+use anyhow::{Result, bail, ensure};
+use std::{process, str};
 use toml_edit::{DocumentMut, ParseOptions};
+use toml_edit_replace::{Folder, Host, ReplaceFault, Replacement, read_locked, replace};
 
-/// Sets the version in a file. The old text stays until the new one is on the disk.
-pub fn edit_file<R: Files + AllocGlobal>(rt: &R, path: &str, version: &str) -> Result<()> {
-    let text = fs::read_to_string(rt, path)?;
+/// Sets the version in a file, which keeps its old text until the new one is on the disk.
+pub fn edit_file(rt: &HostRuntime, path: &str, version: &str) -> Result<()> {
+    let mut folder = Host::new(rt, process::id(rt.process()));
+    let name = folder.target(rt.alloc(), path)?;
+    let before = read_locked(rt.alloc(), &mut folder, name.as_str())?;
     let exact = ParseOptions::new().exact(true);
-    let mut document = DocumentMut::from_str_with(rt.alloc(), text.as_str(), exact)?;
+    let before_text = str::from_utf8(before.as_slice())?;
+    let mut document = DocumentMut::from_str_with(rt.alloc(), before_text, exact)?;
     set_version(rt.alloc(), &mut document, version)?;
     ensure!(document.fits(rt.alloc())?, "the edit doesn't fit");
     let text = document.print(rt.alloc())?;
-    let beside = format!(in rt.alloc(); "{path}.new")?;
-    let mut file = File::create(rt, beside.as_str())?;
-    file.set_permissions(fs::metadata(rt, path)?.permissions())?;
-    file.write_all(text.as_bytes())?;
-    file.sync_all()?;
-    fs::rename(rt, beside.as_str(), path)?;
-    Ok(())
+    let replacement = Replacement {
+        name: name.as_str(),
+        before: Some(before.as_slice()),
+        text: text.as_bytes(),
+        force: false,
+    };
+    match replace(rt.alloc(), &mut folder, &replacement) {
+        Ok(()) => Ok(()),
+        Err(ReplaceFault::Changed) => bail!("{path} changed meanwhile"),
+        Err(ReplaceFault::ReadOnly) => bail!("{path} is read-only"),
+        Err(ReplaceFault::Failed(error)) => Err(error.into()),
+    }
 }

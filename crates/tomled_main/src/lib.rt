@@ -1,7 +1,7 @@
 //! The program `tomled` over the arguments and the streams of its process.
 #![tactic(auto)]
 
-use process_words::words_of;
+use process_words::{WordsFault, words_of};
 use std::process::ExitCode;
 use toml_edit_command::{end_without_memory, run};
 use toml_edit_io::Watched;
@@ -11,8 +11,13 @@ use toml_edit_io::Watched;
 /// It is that of [`toml_edit_command::run`], but for one fault: out of memory for the arguments. A
 /// program crate has one stored run, so each run has a crate, whose `main` calls this.
 pub fn run_process(rt: HostRuntime) -> ExitCode {
-    let Some(words) = words_of(&rt) else {
-        return ExitCode::from(end_without_memory(&mut Watched::new(rt.stderr())));
+    let words = match words_of(&rt) {
+        Ok(words) => words,
+        // No command has such a word.
+        Err(WordsFault::NotUtf8(_)) => Vec::new(rt.alloc()),
+        Err(WordsFault::Memory) => {
+            return ExitCode::from(end_without_memory(&mut Watched::new(rt.stderr())));
+        }
     };
     let status = run(
         rt.alloc(),
