@@ -4,22 +4,27 @@
     tools/early.py CRATE --only FUNCTION [FLAG..]
 
 Libraries that the gate has proved on this machine are put into `out/rlib` of their crates, if the kit keeps them; else those that are there
-are taken. Crates below that are not proved are read as sources: their contracts are taken, and those of their functions that FUNCTION calls
-are checked too. The flags are those of `rattle check`, such as `--allow-holes`; FUNCTION is a path, as `document::DocumentMut::set_at`.
-What is checked is kept in `out/early`.
+are taken. Of crates below that are not proved the contracts are taken: in a copy of their sources, in `out/stubs`, the proof of each function
+is a hole. The flags are those of `rattle check`; FUNCTION is a path, as `document::DocumentMut::set_at`, a module or a type. What is checked
+is kept in `out/early`. Without `--only` the functions of the copies count, too, which takes long.
 
-It proves nothing for the gate. Ends with the status of the check, or with 1 if an answer was refused, and says how many errors there were.
+It proves nothing for the gate. Its last line says how many functions of the crate were read and names those that are not proved over these
+contracts; it ends with status 1 if there is one, or if an answer was refused.
 """
 import functools
 import importlib.machinery
 import importlib.util
+import json
 import os
+import re
 import shutil
 import subprocess
 import sys
 
+import sources
 from unproved import TOP
 
+STUB = "-- A stub.\nuse {statement}.{{statement}}\n\npub {name}_spec : {{M : Type 1}} → statement M\n{name}_spec = ?\n"
 KIT = os.path.dirname(os.path.dirname(os.path.realpath(shutil.which("rt") or "/opt/rattle/bin/rt")))
 
 
@@ -76,8 +81,50 @@ def place(rt, crates, wanted):
     return had
 
 
+def names_of(crate, had):
+    """What the kit calls the functions of a crate that are in no cycle of calls."""
+    made = crate.folder + "/out/names"
+    shutil.rmtree(made, ignore_errors=True)
+    words = [*command(crate, had), "--generated", made, "--old-names"]
+    subprocess.run(words, cwd=crate.folder, stdout=subprocess.DEVNULL, stderr=subprocess.DEVNULL)
+    with open(made + "/names.json", encoding="utf-8") as file:
+        head, keys = "Rattle-%s-proofs." % crate.name, json.load(file)
+    return [key[len(head):-4] for key in keys if key.startswith(head) and key.endswith(".Lts") and "+" not in key]
+
+
+def cycles_of(crate):
+    """The cycles of calls of a crate, each by the module that has all of its functions."""
+    found = {}
+    for folder, _, files in os.walk(crate.folder + "/src"):
+        for file in (folder + "/" + file for file in files if file.endswith(".rt")):
+            parts = os.path.relpath(file, crate.folder + "/src")[:-3].split("/")
+            with open(file, encoding="utf-8") as text:
+                for name in re.findall(r"#\[cycle\((\w+)\)\]", text.read()):
+                    found.setdefault(name, []).append([part for part in parts if part != "lib"])
+    return [".".join([*os.path.commonprefix(modules), "+" + name]) for name, modules in found.items()]
+
+
+def stubs(crate, had):
+    """Copies a crate with a hole as the proof of each function, unless the copy is there, and returns its folder."""
+    made, stamp = crate.folder + "/out/stubs", crate.stamp()
+    if os.path.exists(made + "/stamp") and sources.read(made + "/stamp") == stamp:
+        return made
+    names = [(name, ".Statement") for name in names_of(crate, had)] + [(name, "") for name in cycles_of(crate)]
+    shutil.rmtree(made, ignore_errors=True)
+    shutil.copytree(crate.folder, made, ignore=shutil.ignore_patterns("out", "must-fail", "Answers.antt", "Invariants.antt"))
+    for name, module in names:
+        folder = made + "/proofs/" + name.replace(".", "/")
+        os.makedirs(folder, exist_ok=True)
+        if not os.path.exists(folder + "/Proof.antt"):
+            with open(folder + "/Proof.antt", "w", encoding="utf-8") as file:
+                file.write(STUB.format(statement="Rattle.%s.proofs.%s%s" % (crate.name, name, module), name=name.rpartition(".")[2]))
+    with open(made + "/stamp", "w", encoding="utf-8") as file:
+        file.write(stamp)
+    return made
+
+
 def command(crate, had):
-    """The words of a check of the crate, over the libraries that are there and the sources of the others."""
+    """The words of a check of the crate, over the libraries that are there and stubs of the others."""
     words = [KIT + "/bin/rattle", "check", "--crate-name", crate.name, "src/main.rt" if crate.is_program else "src/lib.rt"]
     for name in sorted({"core", *crate.of_kit, *(name for below in crate.below() for name in below.of_kit)}):
         words += ["--extern", "%s=%s/rlibs/%s.rlib" % (name, KIT, name)]
@@ -87,9 +134,16 @@ def command(crate, had):
             words += ["--extern", "%s=%s" % (below.name, below.rlib), "-L", "dependency=" + os.path.dirname(below.rlib)]
         else:
             uses = dict.fromkeys(["core", *below.of_kit, *(dep.name for dep in below.deps)])
-            words += ["--lib", "%s:%s=%s/src/lib.rt" % (below.name, ",".join(uses), below.folder)]
+            words += ["--lib", "%s:%s=%s/src/lib.rt" % (below.name, ",".join(uses), stubs(below, had))]
     words += ["--antt-project", KIT + "/rattle/logic/antt-project.json", "--logic-built", KIT + "/logic_built"]
     return [*words, "--incremental", crate.folder + "/out/early"]
+
+
+def is_met(crate, verdict, read):
+    """Whether a function of a crate is proved over the contracts below, by what the check says of it."""
+    if same := re.match(r"depends on a hole in the same .* as `(.*)`", verdict):
+        return read.get(same[1], False)
+    return verdict in ("no holes", "proved") or verdict.startswith("depends on a hole in ") and "`Rattle.%s." % crate not in verdict
 
 
 def main():
@@ -108,15 +162,19 @@ def main():
         return 2
     had = place(rt, crates, {below.name for below in crate.below()})
     os.makedirs(crate.folder + "/out/early", exist_ok=True)
-    # Its last lines say `holes=0` also where an answer is refused.
-    errors = 0
-    words = [*command(crate, had), *sys.argv[2:]]
+    read, errors = {}, 0
+    words = [*command(crate, had), "--allow-holes", *sys.argv[2:]]
     with subprocess.Popen(words, cwd=crate.folder, stdout=subprocess.PIPE, stderr=subprocess.STDOUT, text=True) as check:
         for line in check.stdout:
-            errors += ": error: " in line
             print(line, end="", flush=True)
-    print("%d errors" % errors)
-    return check.returncode or int(errors > 0)
+            # The kit's own last line says `holes=0` also where an answer is refused.
+            errors += ": error: " in line
+            if said := re.match(r"fn (\S+): (.*)", line):
+                read[said[1]] = is_met(crate.name, said[2], read)
+    faults = [name for name, met in read.items() if name.startswith(crate.name + "::") and not met]
+    print("%d functions of %s, %d errors, not proved: %s" % (
+        sum(name.startswith(crate.name + "::") for name in read), crate.name, errors, ", ".join(faults) or "none"))
+    return int(errors > 0 or bool(faults) or not read)
 
 
 if __name__ == "__main__":
