@@ -13,8 +13,8 @@ check: ## proves one crate, C, and first those below it
 test: ## runs the tests in code of one crate, C, unproved
 	cd crates/$(C) && $(RT) try --test
 
-edits: check ## tries the must-fail edits of one crate, C
-	$(RT) must-fail $(C)
+edits: ## tries the must-fail edits of one crate, C, once the gate has proved those below it
+	tools/edits.py $(C)
 
 rows: ## tries all rows, unproved
 	for program in $(ROWS); do (cd crates/$$program && $(RT) try --seconds 1500 < stdin) || exit; done

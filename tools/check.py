@@ -12,6 +12,7 @@
 - Numbers that are marked, as `2,385<!-- rows -->`, are those of the repository. One that ends in zeros is a rounded one.
 - Pages say how many must-fail edits, tests and rows there are, so that none is lost unseen.
 - Each must-fail edit still fits: its file is there, has the old text once, and is changed in one function. So does each bug of tools/bugs.
+- Tables have an index of the kit's `indexmap`, in their source and in crates.txt, and DECISIONS and MIGRATING name it.
 - The list of files that share code, in DECISIONS between two comments, is that of tools/duplicates.py.
 - Pages are not too large, no sentence is too long, and no word of tools/words.txt is used.
 """
@@ -205,8 +206,7 @@ class Check:
 
     def numbers(self):
         """The numbers that pages may give, by their words."""
-        found = {"rows": 0, "edits": len(self.matching("crates/*/must-fail/*.edit")), "crates": len(sources.crates())}
-        found["edits of a tool"] = len(self.matching("tools/edits/*.edit"))
+        found = {"rows": 0, "edits": len(self.matching("crates/*/wrong/*.edit")), "crates": len(sources.crates())}
         for program in ROWS:
             lines = read("%s/crates/%s/stdin" % (TOP, program)).split("\n")
             count = sum(1 for line in lines if line.strip() and not line.startswith("#"))
@@ -248,12 +248,23 @@ class Check:
             if word not in said:
                 self.fault("docs/ASSURANCE.md", 1, "no page says how many %s there are" % word)
 
+    def index(self):
+        """A table has an index of the kit's `indexmap`, as it was asked for by name, and the pages name it."""
+        if not re.search(r"^toml_edit_slots:.* indexmap\b", read(TOP + "/crates.txt"), re.M):
+            self.fault("crates.txt", 1, "toml_edit_slots does not stand on indexmap")
+        fields = [read(TOP + "/" + file) for file in self.matching("crates/toml_edit_slots/src/*.rt")]
+        if not any(re.search(r"^    \w+: IndexMap<String, usize>,$", text, re.M) for text in fields):
+            self.fault("crates/toml_edit_slots/src/index.rt", 1, "no field is an IndexMap<String, usize>, from names to places")
+        for page in ("docs/DECISIONS.md", "docs/MIGRATING.md"):
+            if "`indexmap`" not in self.texts.get(page, ""):
+                self.fault(page, 1, "does not name `indexmap`, in which a table finds its keys")
+
     def edits(self):
-        """Each must-fail edit still fits, those that the gate does not try too."""
-        for name in [*self.matching("crates/*/must-fail/*"), *self.matching("tools/edits/*")]:
+        """Each must-fail edit still fits. The kit's own command would try those in `must-fail` a second time."""
+        for name in [*self.matching("crates/*/wrong/*"), *self.matching("crates/*/must-fail/*")]:
             parts = name.split("/")
-            crate, texts, changed = "crates/" + parts[1 if parts[0] == "crates" else 2], {}, set()
-            if not name.endswith(".edit") or len(parts) != 4:
+            crate, texts, changed = "crates/" + parts[1], {}, set()
+            if not name.endswith(".edit") or len(parts) != 4 or parts[2] != "wrong":
                 self.fault(name, 1, "is no must-fail edit")
             for number, (path, old, new) in enumerate(pairs_of(read(TOP + "/" + name)), 1):
                 file = crate + "/" + path
@@ -462,7 +473,7 @@ def main():
         for word, number in check.numbers().items():
             print("%s<!-- %s -->" % (format(number, ","), word))
         return 0
-    for part in (check.reference, check.shown, check.examples, check.links, check.mentions, check.counts, check.edits, check.twice, check.sizes, check.sentences, check.words):
+    for part in (check.reference, check.shown, check.examples, check.links, check.mentions, check.counts, check.index, check.edits, check.twice, check.sizes, check.sentences, check.words):
         part()
     for fault in check.faults:
         print(fault)

@@ -5,9 +5,9 @@
     tools/crowded.py test_rows_tables   calls on the root and on a table with a header
     tools/crowded.py test_rows_values   calls on an inline table, and by the trait of both kinds
 
-The index of a table (`crates/toml_edit_slots/src/index.rt`) is made of chains until one of them has too many names, and of trees from then
-on. So 60 names of each table here are in one chain. The answers are those of a list of pairs: what a call of the library does to the pairs,
-in order, by its documentation.
+The index of a table (`crates/toml_edit_slots/src/index.rt`) is a map until too many names begin their search in one region of it, and trees
+from then on. They are counted once the map has room for 144 names. So each table here has that many, of which 90 are in one region. The
+answers are those of a list of pairs: what a call of the library does to the pairs, in order, by its documentation.
 
 To compare with the rows that the programs have:
 
@@ -23,11 +23,11 @@ sys.dont_write_bytecode = True
 
 import collisions  # noqa: E402
 
-# The chain is the same one of 512, and so of fewer.
-BITS = 511
-CROWD, SPARE = 60, 12
+# The regions of a map of up to 128 groups.
+BITS = 15 * collisions.REGION
+CROWD, SPARE = 90, 12
 # The numbers of keys that a table of each kind needs, with some room.
-READ, GROWN = 100, 160
+READ, GROWN = 150, 190
 
 
 def prefix(size):
@@ -36,7 +36,7 @@ def prefix(size):
 
 
 def crowd(size):
-    """Names of one chain, and some more of these that no table begins with."""
+    """Names of one region, and some more of these that no table begins with."""
     names = [name.decode() for name in collisions.chosen(CROWD + SPARE, prefix(size), BITS, {0: CROWD + SPARE})]
     return names[:CROWD], names[CROWD:]
 
@@ -196,7 +196,7 @@ def table_rows():
 def growing_rows():
     """Rows on a table that is added to until its index changes."""
     _, few, _, spare, _ = mixed(8, READ)
-    most = collisions.LONGEST
+    most = collisions.MOST
     first = [name.decode() for name in collisions.ordinary(READ - most, 12)] + few[:most - 4]
     root = Model(first, [], ["as_table_mut"], " ")
     for number, name in enumerate(few[most - 4:most + 4]):

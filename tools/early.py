@@ -12,6 +12,7 @@ It proves nothing for the gate. Its last line says how many functions of the cra
 contracts; it ends with status 1 if there is one, or if an answer was refused.
 """
 import functools
+import glob
 import importlib.machinery
 import importlib.util
 import json
@@ -93,15 +94,18 @@ def names_of(crate, had):
 
 
 def cycles_of(crate):
-    """The cycles of calls of a crate, each by the module that has all of its functions."""
-    found = {}
-    for folder, _, files in os.walk(crate.folder + "/src"):
-        for file in (folder + "/" + file for file in files if file.endswith(".rt")):
-            parts = os.path.relpath(file, crate.folder + "/src")[:-3].split("/")
-            with open(file, encoding="utf-8") as text:
-                for name in re.findall(r"#\[cycle\((\w+)\)\]", text.read()):
-                    found.setdefault(name, []).append([part for part in parts if part != "lib"])
-    return [".".join([*os.path.commonprefix(modules), "+" + name]) for name, modules in found.items()]
+    """The cycles of calls of a crate that have proofs, each by its module."""
+    folders = glob.glob(crate.folder + "/proofs/**/+*", recursive=True)
+    return [os.path.relpath(folder, crate.folder + "/proofs").replace("/", ".") for folder in folders]
+
+
+def stub(folder, crate, name, module):
+    """Writes a hole as the proof of a function, or of a cycle, in a copy of a crate."""
+    folder += "/proofs/" + name.replace(".", "/")
+    os.makedirs(folder, exist_ok=True)
+    if not os.path.exists(folder + "/Proof.antt"):
+        with open(folder + "/Proof.antt", "w", encoding="utf-8") as file:
+            file.write(STUB.format(statement="Rattle.%s.proofs.%s%s" % (crate, name, module), name=name.rpartition(".")[2]))
 
 
 def stubs(crate, had):
@@ -111,13 +115,9 @@ def stubs(crate, had):
         return made
     names = [(name, ".Statement") for name in names_of(crate, had)] + [(name, "") for name in cycles_of(crate)]
     shutil.rmtree(made, ignore_errors=True)
-    shutil.copytree(crate.folder, made, ignore=shutil.ignore_patterns("out", "must-fail", "Answers.antt", "Invariants.antt"))
+    shutil.copytree(crate.folder, made, ignore=shutil.ignore_patterns("out", "wrong", "Answers.antt", "Invariants.antt"))
     for name, module in names:
-        folder = made + "/proofs/" + name.replace(".", "/")
-        os.makedirs(folder, exist_ok=True)
-        if not os.path.exists(folder + "/Proof.antt"):
-            with open(folder + "/Proof.antt", "w", encoding="utf-8") as file:
-                file.write(STUB.format(statement="Rattle.%s.proofs.%s%s" % (crate.name, name, module), name=name.rpartition(".")[2]))
+        stub(made, crate.name, name, module)
     with open(made + "/stamp", "w", encoding="utf-8") as file:
         file.write(stamp)
     return made

@@ -16,7 +16,7 @@ import tempfile
 from sources import TOP
 
 NEEDED = ("*.md", "crates.txt", "docs", "tools", "bench", ".ci")
-KEPT = re.compile(r".*/(src|specs|must-fail)(/.*)?|.*/toml_edit_(guide|recipes|programs|example)/proofs|.*/(stdin|stdout|args|WORDS\.md)")
+KEPT = re.compile(r".*/(src|specs|wrong)(/.*)?|.*/toml_edit_(guide|recipes|programs|example)/proofs|.*/(stdin|stdout|args|WORDS\.md)")
 
 
 class Copy:
@@ -162,23 +162,23 @@ def dropped_import(copy):
 
 def dead_edit(copy):
     """A must-fail edit has a text that its file lost."""
-    copy.replace(copy.names("crates/toml_edit_key/must-fail/*.edit"), r"old: ", "old: lost ")
+    copy.replace(copy.names("crates/toml_edit_key/wrong/*.edit"), r"old: ", "old: lost ")
 
 
 def edit_of_two(copy):
     """A must-fail edit changes two bodies."""
-    copy.add("crates/toml_edit_fits/must-fail/dotted_root_fits.edit", "file: src/route.rt\nold: && route.room > 0\nnew: && true\n")
+    copy.add("crates/toml_edit_fits/wrong/dotted_root_fits.edit", "file: src/route.rt\nold: && route.room > 0\nnew: && true\n")
 
 
 def edit_of_a_constant(copy):
     """A must-fail edit changes a constant, and so each body that has it."""
-    path = "crates/toml_edit_syntax/must-fail/constant.edit"
+    path = "crates/toml_edit_syntax/wrong/constant.edit"
     copy.write(path, "file: src/value.rt\nold: pub const NESTING_LIMIT: usize = 80;\nnew: pub const NESTING_LIMIT: usize = 81;\n")
 
 
 def lost_edit(copy):
     """A must-fail edit is gone."""
-    copy.forget(copy.names("crates/toml_edit_key/must-fail/*.edit")[0])
+    copy.forget(copy.names("crates/toml_edit_key/wrong/*.edit")[0])
 
 
 def lost_test(copy):
@@ -190,6 +190,16 @@ def unsaid_tests(copy):
     """No page says how many tests there are."""
     for _ in range(9):
         copy.replace(copy.names(*PAGES), r"<!-- tests -->", "")
+
+
+def lost_index(copy):
+    """A table has an index of its own, and not that of the kit."""
+    copy.replace(copy.names("crates/toml_edit_slots/src/*.rt"), r"    (\w+): IndexMap<String, usize>,\n", r"    \1: Places,\n")
+
+
+def unnamed_index(copy):
+    """A page does not say any more where a table finds its keys."""
+    copy.replace(["docs/MIGRATING.md"], r"`indexmap`", "an index")
 
 
 # Each with words of the line that has to be printed.
@@ -211,6 +221,8 @@ FAULTS = {
     lost_edit: "is said of edits",
     lost_test: "is said of tests",
     unsaid_tests: "no page says how many tests",
+    lost_index: "no field is an IndexMap",
+    unnamed_index: "does not name `indexmap`",
 }
 
 

@@ -3,11 +3,11 @@
 
     tools/gate_cost.py [WORD..]     `rt ci WORD..`: `--anew` to prove again what an earlier run has kept, or names of crates
 
-It prints, for each crate, the seconds of processor time of its proof, of its tests' proof and of its must-fail edits, how many edits there
-are, and the median and the most of one. Then come the sums, the chain of crates, each above the one before it, whose proofs take longest,
-the minutes that the gate took, and the most memory of one check. What is kept takes no time, so only `--anew` tells what the gate costs from
-nothing; in a kit that keeps nothing the word is left out. The lines of the gate go into gate-cost.log at the top of the repository, the last
-of them is printed, and the status is the gate's.
+Where that passes, it tries the must-fail edits of all crates, too. It prints, for each crate, the seconds of processor time of its proof, of
+its tests' proof and of its edits, and how many checks of edits there were, with the median and the most of one. Then come the sums, the chain
+of crates, each above the one before it, whose proofs take longest, the minutes that all this took, and the most memory of one check. What is
+kept takes no time, so only `--anew` tells what the gate costs from nothing; in a kit that keeps nothing the word is left out. The lines of the
+gate go into gate-cost.log at the top of the repository, the last of them is printed, and the status is the gate's.
 
 The kit's commands start one program, `rattle`, for each check. Here they run from a copy that starts this file in its place, which starts
 `rattle` in turn and notes what it took.
@@ -23,6 +23,8 @@ import sys
 import tempfile
 import time
 
+import early
+import edits
 import sources
 import unproved
 from unproved import TOP
@@ -113,6 +115,10 @@ def main():
             ran = subprocess.run([sys.executable, rt, "ci", *words], cwd=TOP, stdin=subprocess.DEVNULL, stdout=log, stderr=subprocess.STDOUT)
             log.seek(0)
             last = log.read().rstrip("\n").split("\n")[-1]
+        if ran.returncode == 0:
+            library = early.kit()
+            library.rtlib.RATTLE = folder + "/rattle"
+            print("%d of %d must-fail edits were refused" % edits.run(library, []))
         with open(notes, encoding="utf-8") as file:
             total, most = table(file)
     took = (time.time() - begun) / 60

@@ -4,9 +4,10 @@
     tools/planted.py [--suite FOLDER] [--jobs N] [WORD]     those whose title or file holds WORD (all), N at a time (1)
 
 A bug is made in a copy of the repository. These are run until one of them tells: tools/conformance.py, with the suite of FOLDER if one is
-given; tools/differential.py, with one seed after another, for five minutes; and tools/fuzz.py, for the rest of ten minutes. Last comes the
-program without a bug, on which each is run once, and none may tell. It wants what the three tools want. What they run is built before
-(`tools/unproved.py`), a minute or two each. Times are those of the processor, so they do not depend on what else it does.
+given; tools/differential.py, with one seed after another, for five minutes; and tools/fuzz.py, for the rest of ten minutes. A bug may name
+a test of a crate, which is run in their place: it shows that the test comes to where the bug is. Last comes the program without a bug, on
+which each is run once, and none may tell. It wants what the three tools want. What they run is built before (`tools/unproved.py`), a minute
+or two each. Times are those of the processor, so they do not depend on what else it does.
 
 Ends with status 1 unless each bug is found within ten minutes.
 """
@@ -29,7 +30,7 @@ TEXTS, FUZZED = 500, 20
 
 
 def bugs():
-    """The bugs, each a dictionary of its four fields."""
+    """The bugs, each a dictionary of its fields."""
     with open(TOP + "/tools/bugs", encoding="utf-8") as file:
         blocks = re.split(r"\n\n+", file.read().strip())[1:]
     return [dict(line.split(": ", 1) for line in block.split("\n")) for block in blocks]
@@ -52,18 +53,29 @@ def copied(copy, bug):
 
 
 def built(crate, folder):
-    """Builds the program of a crate in a folder."""
+    """Builds the program of a crate, or its tests, in a folder."""
     made = "%s/%s" % (folder, crate)
     unproved.module(crate, made + ".bc")
     unproved.compiled(made + ".bc", made + ".o", ["-O1"])
     unproved.linked([made + ".o"], made)
 
 
+def script(name, *words):
+    """The command that runs another tool."""
+    return [sys.executable, TOP + "/tools/" + name, *words]
+
+
+def test(words, folder):
+    """A test, as one of the tools: its crate, and its name there."""
+    crate, name = words.split()
+    return name, lambda: built(crate, folder), [[folder + "/" + crate, name]], MOST
+
+
 def tools(folder, suite):
     """For each tool in turn, how what it runs is built, its commands, and the second at which no more of them is begun."""
-    differential = (["differential.py", "--in", folder, str(TEXTS), str(seed)] for seed in itertools.count(1))
-    fuzzing = itertools.repeat(["fuzz.py", "--keep", folder, str(FUZZED), "print", "exact", "set"])
-    yield "conformance", lambda: built("test_meaning", folder), [["conformance.py", "--in", folder, *suite]], MOST
+    differential = (script("differential.py", "--in", folder, str(TEXTS), str(seed)) for seed in itertools.count(1))
+    fuzzing = itertools.repeat(script("fuzz.py", "--keep", folder, str(FUZZED), "print", "exact", "set"))
+    yield "conformance", lambda: built("test_meaning", folder), [script("conformance.py", "--in", folder, *suite)], MOST
     yield "differential", lambda: built("tomled", folder), differential, HALF
     yield "fuzz", lambda: fuzz.build(folder), fuzzing, MOST
 
@@ -74,17 +86,16 @@ def spent():
     return times.children_user + times.children_system
 
 
-def finder(folder, suite, is_once):
-    """The first tool that tells, with the seconds until then, and what it said."""
+def finder(asked, is_once):
+    """The first of the tools that tells, with the seconds until then, and what it said."""
     seconds = 0
-    for tool, build, commands, until in tools(folder, suite):
+    for tool, build, commands, until in asked:
         build()
         for command in commands:
             if seconds > until:
                 break
             begun = spent()
-            words = [sys.executable, TOP + "/tools/" + command[0], *command[1:]]
-            ran = subprocess.run(words, stdout=subprocess.PIPE, stderr=subprocess.STDOUT, text=True, errors="replace")
+            ran = subprocess.run(command, stdin=subprocess.DEVNULL, stdout=subprocess.PIPE, stderr=subprocess.STDOUT, text=True, errors="replace")
             seconds += spent() - begun
             if ran.returncode:
                 return tool, seconds, ran.stdout.strip()
@@ -99,7 +110,10 @@ def tried(task):
     with tempfile.TemporaryDirectory() as copy, tempfile.TemporaryDirectory() as folder:
         copied(copy, bug)
         unproved.TOP = copy
-        return finder(folder, suite, not bug)
+        if not bug:
+            named = sorted({known["test"] for known in bugs() if "test" in known})
+            return finder([*tools(folder, suite), *(test(words, folder) for words in named)], True)
+        return finder([test(bug["test"], folder)] if "test" in bug else tools(folder, suite), False)
 
 
 def main():

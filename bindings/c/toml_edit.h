@@ -15,11 +15,9 @@
  * `toml_edit_check`, the sizes of `toml_edit_run`, and memory that it takes by `malloc` and gives
  * back before it returns.
  *
- * A call takes up to 20 KB of stack for most documents, and 400 KB for one at the limits, which are
- * 80 keys in a path and 80 brackets in one another. A document or a value of both, as 80 inline
- * tables in one another, each behind a path of 80 keys, has some 13 KB and takes up to 10 MB; where
- * it is copied, as `toml_edit_edit` copies values and `toml_edit_get` arrays of tables, up to 30 MB.
- * An overflow ends the process, so lend 32 MB to a thread that reads untrusted texts.
+ * A document, a path or a value with more than 80 keys in a path or 80 brackets in one another is
+ * refused. Within these limits 1 MB of stack is enough for every call. Edits that build a deeper
+ * document before it is refused can take more. An overflow ends the process.
  *
  * A call may not be made from a signal handler, or from the child of a fork of a process with
  * threads. `malloc`, `realloc` and `free` have to be of one allocator.

@@ -14,7 +14,7 @@
 //! A path has keys with dots between them, as TOML spells them. In an array, or in an array of tables, a key is the decimal number of an
 //! element, from 0. A value is spelled as TOML spells it.
 //!
-//! `toml_edit.h` says how much stack a call takes, and what a thread needs that reads texts of others.
+//! `toml_edit.h` says how much stack a call takes.
 use std::fmt;
 
 mod sys {

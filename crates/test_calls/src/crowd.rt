@@ -1,19 +1,19 @@
 //! Names that were chosen to collide in the index of a table.
 
 /// Names whose search begins in one region of an index, which finds them in trees once a table
-/// holds 60 of them among as many others. `tools/crowded.py` chooses such names.
+/// holds 80 of them among as many others. `bench/collisions.py` chooses such names.
 pub const CROWD: [&str; 100] = [
-    "07bq___2", "wz2tmLRj", "bWNoXmj8", "uPkv6RaZ", "XOor-y1o", "h52aD0dL", "lXWH4aHm", "FISrdRU7",
-    "FTPDMLye", "y6vD0MVs", "anqADR12", "ztwK1Wqb", "rSp5W2wQ", "BYWu4rVD", "MVucyJ5q", "ZMT50UPj",
-    "DodMeMEb", "HG94Szt1", "OwySGkFm", "GVrBoDMb", "MiaE3dKj", "op5j5zP6", "5_9swlPN", "oVuDzaHI",
-    "yW3iTPrx", "uDVONif6", "FbLCl0-x", "lLHmKrMH", "Ef8yLLA0", "843J-woF", "jIsvpevn", "l37FESEV",
-    "D5nTPV88", "Wy_ayAzZ", "yEbSjQWU", "b4h253TA", "QGHguTO8", "mA38hPVL", "ZfMQ836Z", "wBAcCE50",
-    "xeGzmaSd", "PrvYgXoo", "Qewfhh9X", "_MdHRG_G", "b8-Vms6p", "nhbzyaVd", "Y9VQs2dM", "RedOn-j-",
-    "XrMR2ZiH", "3QLdtWR5", "a3i_0jQd", "pSaZjodf", "-XHOFeCS", "Fl2QU4Aa", "xZWK7vO4", "8Wu40Nyf",
-    "Z7Tvb6Qf", "MapC2i2t", "GY3XVCWJ", "OU2w_Pp_", "77WxmRMM", "RMB_2APi", "NEcBfNhO", "d8ZzxoH5",
-    "zMEACYKP", "buBliiM2", "jL4FXd5V", "0g8OOP5o", "b7tMn2du", "apkNxZip", "qhi-D1IU", "_C915w28",
-    "qYU3rVeF", "K_SDjSN3", "_5uthRMu", "DLPhXCL4", "qPGvT2z2", "-3sMRV-A", "P7nWSqDP", "UBLyZhk1",
-    "RAycJRUD", "39cD_hfg", "Pnc2LR7c", "NDK4fXET", "8DAfFZAH", "WnMAc1OU", "jT0EwGHp", "kw6bUdgR",
-    "zWvOxbL3", "OMFv9UVJ", "hbWm9zHt", "RuVMZS-l", "jVjUGh69", "YjI_6805", "VivoqskH", "wXFJ3luZ",
-    "tWszmVen", "wt-4TZqg", "7qXnN3NI", "RlHEBzUX",
+    "CvPWazUt", "Yp-yNvb8", "aYPJoiwp", "Vomd9eLK", "4O__EsKu", "DMWt_JuV", "Q49xSbmq", "UWdeHCQF",
+    "gw7jl2MV", "6ILtNZ9_", "Uha217to", "qbKTp303", "52BuX8B6", "r4QqNOOg", "iqISuj-l", "jHPpS6YO",
+    "7wOcgp0K", "rDOC8HsD", "tydYW7Ax", "qxEDGrw_", "1ucx-IUm", "As0f5m3N", "iADCLX7s", "t9awE1eU",
+    "lMZvJhpC", "7RGkrWO1", "RM2AfSVE", "-vlQg93P", "_oZpYaau", "3JhnTjgh", "ZevJlTkA", "xHv8yCA9",
+    "YMmKv2o7", "uGWniyvK", "0TFqxMuS", "dHMOI0r_", "n9XV6uxE", "bu2nK0SY", "_UOJSBS8", "JSm3Lf1j",
+    "PfV6a5zr", "rm0ZdP5C", "b5z-4tw7", "_fLhA7vf", "Y4aqodgJ", "Et6jPVun", "9NCiKe0a", "Mp584iBd",
+    "DbxkZ4yi", "jLtI-u-3", "KQkW7io2", "oGTMYsC7", "blofyUoJ", "qAg6gZ1L", "y8eTKnIB", "952BEFso",
+    "Vj20R0Hl", "rdmRFwO0", "8ntCOowj", "GT8xRpYG", "onKUjZcl", "fZC8DvNr", "K8Y20JgE", "xAQEx9ID",
+    "58OdaLc4", "eS2U8LwJ", "vc9FFES5", "xLNcf3mm", "AnE3N8zo", "heMC7Vef", "jNcYVJzM", "yoTzDOAP",
+    "xWK0NxEK", "U9hVV_Du", "G-wRLQQU", "rUYJtQkl", "FtnSVzUP", "mkvdCN-F", "eztcH5J0", "DJVUp5dF",
+    "8pcSkCk4", "UTcFyx-0", "h-DKGD4J", "IE7XC3gI", "ORqaRRfQ", "HyxYMalD", "Puwx1n44", "inH5YTvV",
+    "FOfaggu5", "bIP3Tc1I", "_umYbp0s", "UpW1Ol77", "uBm_2Hsl", "iyERHNN5", "vesVbeFO", "NVbL4nfS",
+    "aBDQM5Xn", "l_a_FX7O", "t6ZXvkOE", "7DIznMgB",
 ];

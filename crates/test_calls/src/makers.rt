@@ -1,12 +1,10 @@
 //! Calls that move their argument in or out, and errors that are made and not met.
 use crate::holding::{holds, holds_moved, shows};
 use std::alloc::Global;
-use toml_edit::{
-    Decor, Document, Formatted, InternalString, Key, ParseFault, RawString, Value, value,
-};
+use toml_edit::{Decor, Document, Formatted, Key, ParseFault, RawString, Value, value};
 
 fn moves_text(_alloc: Global, text: String) -> bool {
-    holds(RawString::from_string(text).ok(), is_moved)
+    holds(Some(RawString::from(text)), is_moved)
 }
 
 fn is_moved(raw: &RawString) -> bool {
@@ -20,10 +18,7 @@ fn moves_texts(rt: HostRuntime) {
 }
 
 fn moves_name(_alloc: Global, name: String) -> bool {
-    match InternalString::from_string(name) {
-        Ok(name) => InternalString::from(Key::from(name)).as_str() == "a b",
-        Err(_) => false,
-    }
+    String::from(Key::from(name)).as_str() == "a b"
 }
 
 #[test]

@@ -2,7 +2,7 @@
 use crate::holding::{holds_changed, holds_moved, no_memory};
 use crate::spans::is_done;
 use std::alloc::Global;
-use toml_edit::{Decor, InternalString, Key, Mem, Slot, Slots};
+use toml_edit::{Decor, Key, Mem, Slot, Slots};
 use toml_edit_slots::Renamed;
 use toml_edit_text::SharedText;
 
@@ -219,7 +219,7 @@ fn spelled(slots: &Slots<u8>) -> Option<&str> {
 }
 
 fn cuts_key(alloc: Global) -> Mem<bool> {
-    let name = InternalString::from_text(alloc, "k")?;
+    let name = String::from_str(alloc, "k")?;
     let source = SharedText::from_text(alloc, "k = 1")?;
     let key = Key::spanned(name, 0, 1, Decor::default(), Decor::default());
     let mut slots: Slots<u8> = Slots::new(alloc);

@@ -1,6 +1,6 @@
 //! Spans that are replaced by the texts that they cut.
 use std::alloc::Global;
-use toml_edit::{Decor, Formatted, InternalString, Key, Mem, RawString};
+use toml_edit::{Decor, Formatted, Key, Mem, RawString};
 use toml_edit_text::SharedText;
 
 /// Returns `true` if it was done, and right.
@@ -43,7 +43,7 @@ fn is_cut_key(key: &Key) -> bool {
 }
 
 fn cuts_key(alloc: Global) -> Mem<bool> {
-    let name = InternalString::from_text(alloc, "k")?;
+    let name = String::from_str(alloc, "k")?;
     let source = SharedText::from_text(alloc, "  k\t\t= 1")?;
     let leaf = Decor::new(RawString::from_span(0, 2), RawString::from_span(3, 5));
     let mut key = Key::spanned(name, 2, 3, leaf, Decor::default());

@@ -3,7 +3,7 @@ use crate::answer::Answer;
 use std::fmt::Debug;
 use std::mem;
 use toml_edit_key::Key;
-use toml_edit_repr::{InternalString, Mem};
+use toml_edit_repr::Mem;
 use toml_edit_slots::{NoMemory, Refused, Renamed, Slot};
 use toml_edit_tree::{Item, Table, Value};
 
@@ -47,7 +47,7 @@ impl<T: Told> Told for (Key, T) {
     }
 }
 
-impl<T: Told> Told for (InternalString, T) {
+impl<T: Told> Told for (String, T) {
     fn tell(&self, out: &mut Answer) {
         out.text(self.0.as_str());
         out.text("=");

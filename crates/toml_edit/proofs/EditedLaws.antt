@@ -6,14 +6,12 @@ use Rattle.toml_edit_model.specs.Fits.{Fits}
 use Rattle.toml_edit_laws.proofs.common.Tests.{and_left}
 use Rattle.toml_edit_model.specs.Text.{Text}
 use Rattle.toml_edit_model.specs.Mode.{Mode, plain}
-use Rattle.toml_edit_model.specs.Paths.{Path, to_key}
-use Rattle.toml_edit_model.specs.Keys.{names}
+use Rattle.toml_edit_model.specs.Paths.{Path}
 use Rattle.toml_edit_model.specs.Tree.{Key, Node, nothing, leaf, list, inline, table, tables, Tree, node_decor}
 use Rattle.toml_edit_model.specs.Print.{print_in}
 use Rattle.toml_edit_edit_laws.specs.Commands.{Answer, done, set_at, remove_at}
-use Rattle.toml_edit_laws.specs.EditLists.{named_path}
 use Rattle.toml_edit_edit_laws.specs.KeyCalls.{move_at, rename_at}
-use Rattle.toml_edit_edit_laws.specs.PathEdits.{PathCall, sets, removes, renames, moves, called, paths_of_call, NamesSlot, NameSlots, OneCallMore}
+use Rattle.toml_edit_edit_laws.specs.PathEdits.{PathCall, sets, removes, renames, moves, called, places_of_call, OneCallMore}
 use Rattle.toml_edit_edit_laws.specs.PathEdits.{MoveEdits, RemoveEdits, RenameEdits, SetAddsAfterLines}
 use Rattle.toml_edit_edit_laws.specs.PathEdits.{SetAddsUnder, SetReplaces}
 use Rattle.toml_edit_edit_laws.specs.CallsFit.{IsHarmlessBelow, RemoveFits, SetAddsAfterLinesFits, SetAddsUnderFits, SetReplacesFits}
@@ -81,23 +79,20 @@ all-places : (pss : List (List Path)) (ps : List Path) → flat_map (λ qs. qs) 
 all-places [] ps = append-nil ps
 all-places (qs ∷ pss) ps = ap (λ z. qs ++ z) (all-places pss ps) ∙ sym (append_assoc qs (flat_map (λ qs. qs) pss) ps)
 
-names-join : (path more : List Key) → names (path ++ more) ≡ names path ++ names more
-names-join [] more = refl
-names-join (k ∷ path) more = ap (λ xs. k.name ∷ xs) (names-join path more)
-
 module _ (both : (mode : Mode) → OneAfterAnother mode) (more : OneCallMore) (d e : DocumentMut) (same : IsPrintedAs e d) where
-  one-more : (c : PathCall) (ps : List Path) (text : Text) (calls : List PathCall) → IsEditedFrom text calls d
-      → called c (tree_owned d) ≡ done (tree_owned e) → NameSlots (tree_owned d) (paths_of_call c) ps
-      → StaysButAt plain ps (tree_owned d) (tree_owned e)
+  one-more : (c : PathCall) (text : Text) (calls : List PathCall) → IsEditedFrom text calls d
+      → called c (tree_owned d) ≡ done (tree_owned e)
+      → StaysButAt plain (places_of_call c (tree_owned d)) (tree_owned d) (tree_owned e)
       → (Fits (tree_owned d) → IsHarmless c → Fits (tree_owned e)) → IsEditedFrom text (calls ++ (c ∷ [])) e
-  one-more c ps text calls from is names stays fits =
+  one-more c text calls from is stays fits =
       let x = from.edited in
+      let ps : List Path = places_of_call c (tree_owned d) in
       record {
         edited = record {
           tree = x.tree;
           reading = x.reading;
           places = x.places ++ (ps ∷ []);
-          done = more calls x.places x.tree (tree_owned d) (tree_owned e) c ps x.done is names;
+          done = more calls x.places x.tree (tree_owned d) (tree_owned e) c ps x.done is refl;
           stays = subst (λ qs. StaysButAt plain qs x.tree (tree_owned e)) (sym (all-places x.places ps))
               (both plain (flat_map (λ qs. qs) x.places) ps x.tree (tree_owned d) (tree_owned e) x.stays stays);
         };
@@ -105,26 +100,33 @@ module _ (both : (mode : Mode) → OneAfterAnother mode) (more : OneCallMore) (d
         fits = λ harmless. let h = all-before calls c harmless in fits (from.fits h.0) h.1;
       }
 
+  -- a call by the same keys
+  at-keys : (path keys : List Key) (v : Node) → path ≡ keys
+      → StaysButAt plain (places_of_call (sets keys v) (tree_owned d)) (tree_owned d) (tree_owned e)
+      → StaysButAt plain (places_of_call (sets path v) (tree_owned d)) (tree_owned d) (tree_owned e)
+  at-keys path keys v is h =
+      subst (λ q. StaysButAt plain (places_of_call (sets q v) (tree_owned d)) (tree_owned d) (tree_owned e)) (sym is) h
+
   pub renamed-so : ((mode : Mode) → RenameEdits mode) → (path : List Text) (name : Text)
       → rename_at path name (tree_owned d) ≡ done (tree_owned e) → EditsBy (renames path name) d e
   renamed-so law path name is text calls from =
       let s = from.edited.stays in
       let x = (law plain (tree_owned d) (tree_owned e) path name s.made s.steady.2 is).1 in
-      one-more (renames path name) x.places text calls from is x.names x.stays (λ old h. absurd h)
+      one-more (renames path name) text calls from is x (λ old h. absurd h)
 
   pub moved-so : ((mode : Mode) → MoveEdits mode) → (path : List Text) (i : ℕ)
       → move_at path i (tree_owned d) ≡ done (tree_owned e) → EditsBy (moves path i) d e
   moved-so law path i is text calls from =
       let s = from.edited.stays in
       let x = (law plain (tree_owned d) (tree_owned e) path i s.made s.steady.2 is).1 in
-      one-more (moves path i) x.places text calls from is x.names x.stays (λ old h. absurd h)
+      one-more (moves path i) text calls from is x (λ old h. absurd h)
 
   pub removed-so : ((mode : Mode) → RemoveEdits mode) → ((mode : Mode) → RemoveFits mode) → (path : List Text)
       → remove_at path (tree_owned d) ≡ done (tree_owned e) → EditsBy (removes path) d e
   removed-so law fits path is text calls from =
       let s = from.edited.stays in
       let x = law plain (tree_owned d) (tree_owned e) path s.made s.steady.2 is in
-      one-more (removes path) (named_path plain x.edit (tree_owned d) x.applies ∷ []) text calls from is (x.names, tt) x.stays
+      one-more (removes path) text calls from is x.stays
       (λ old _. fits plain (tree_owned d) (tree_owned e) path s.made s.steady.2 old is)
 
   module _ (replaces : (mode : Mode) → SetReplaces mode) (adds : (mode : Mode) → SetAddsUnder mode)
@@ -135,33 +137,20 @@ module _ (both : (mode : Mode) → OneAfterAnother mode) (more : OneCallMore) (d
     set-so path v is (flat, well) (at_value old there value) text calls from =
         let s = from.edited.stays in
         let x = replaces plain (tree_owned d) (tree_owned e) path v old s.made s.steady.2 well flat there (and_left _ _ value) is in
-        one-more (sets path v) (named_path plain x.edit (tree_owned d) x.applies ∷ []) text calls from is (x.names, tt) x.stays
+        one-more (sets path v) text calls from is x.stays
         (λ fits h. replaces-fit plain (tree_owned d) (tree_owned e) path v old s.made s.steady.2 fits well h.0 there value is)
     set-so path v is (flat, well) (in_block front k w same-path spelled named new has) text calls from =
         let s = from.edited.stays in
         let at-path = ap (λ q. set_at q v (tree_owned d)) (sym same-path) ∙ is in
         let x = adds plain (tree_owned d) (tree_owned e) front w k [] v s.made s.steady.2 well flat (spelled, tt) named new has at-path in
-        let p : Path = named_path plain x.edit (tree_owned d) x.applies in
-        one-more (sets path v) (p ∷ []) text calls from is
-        (subst (λ q. NamesSlot (tree_owned d) (names q) p) (sym same-path) x.names, tt) x.stays
+        one-more (sets path v) text calls from is (at-keys path (front ++ (k ∷ [])) v same-path x.stays)
         (λ fits h. adds-fit plain (tree_owned d) (tree_owned e) front w k [] v s.made s.steady.2 fits well flat (spelled, tt) named new has
         (harmless-scalar v h.0 h.1) at-path)
     set-so path v is (flat, well) (after_lines front k w same-path spelled named new some) text calls from =
         let s = from.edited.stays in
         let at-path = ap (λ q. set_at q v (tree_owned d)) (sym same-path) ∙ is in
         let x = lines plain (tree_owned d) (tree_owned e) front w k [] v s.made s.steady.2 well flat (spelled, tt) named new some at-path in
-        one-more (sets path v) (to_key w.path k.name ∷ []) text calls from is (
-          record {
-            front = names front;
-            key = k.name;
-            inner = [];
-            table = w;
-            is = ap names same-path ∙ names-join front (k ∷ []);
-            named = named;
-            at = refl;
-          },
-          tt,
-        ) x.1
+        one-more (sets path v) text calls from is (at-keys path (front ++ (k ∷ [])) v same-path x.1)
         (λ fits h. lines-fit plain (tree_owned d) (tree_owned e) front w k [] v s.made s.steady.2 fits flat named new some
         (harmless-scalar v h.0 h.1) at-path)
 

@@ -49,7 +49,12 @@ pub trait SourceText: Drop {
     /// Returns an `AllocError` if out of memory.
     #[doc(hidden)]
     fn into_shared(self, alloc: Global) -> Mem<SharedText>
-        ensures { IfOk result (λ shared. shared ≡ content self) };
+    where
+        Self: Sized,
+        ensures { IfOk result (λ shared. shared ≡ content self) }
+    {
+        SharedText::from_text(alloc, self.text())
+    }
 }
 
 impl SourceText for &str {
@@ -57,10 +62,6 @@ impl SourceText for &str {
 
     fn text(&self) -> &str {
         *self
-    }
-
-    fn into_shared(self, alloc: Global) -> Mem<SharedText> {
-        SharedText::from_text(alloc, self)
     }
 }
 

@@ -87,8 +87,7 @@ pub use toml_edit_key::{Key, KeyMut};
 pub use toml_edit_parser::{FromStr, FromStrWith, ParseOptions, ParsePath, Version};
 pub use toml_edit_paths::ChangeFault;
 pub use toml_edit_repr::{
-    CommentFault, Comments, Decor, Formatted, InternalString, Mem, RawString, Repr, ScalarValue,
-    ValueRepr,
+    CommentFault, Comments, Decor, Formatted, Mem, RawString, Repr, ScalarValue, ValueRepr,
 };
 pub use toml_edit_slots::{NoMemory, Refused, Renamed, Slot, Slots};
 pub use toml_edit_table_like::{

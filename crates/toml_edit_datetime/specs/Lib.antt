@@ -5,5 +5,6 @@ pub mod OffsetView
 pub mod DatetimeView
 pub mod ReadsDatetime
 -- Cited inside this crate alone.
+pub mod HeldText
 pub mod PartsView
 pub mod FractionText

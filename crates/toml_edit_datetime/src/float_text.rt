@@ -8,7 +8,9 @@ ghost use Rattle.std.specs.Cmp.Rules.{hashing};
 ghost use Rattle.std.proofs.Common.{rules};
 ghost use Rattle.toml_edit_model.specs.Spelling.{IsFloat};
 ghost use Rattle.toml_edit_laws.specs.reading.FloatReading as spec;
+ghost use Rattle.toml_edit_datetime.specs.HeldText.{held_text};
 
+use arrayvec::ArrayString;
 use std::alloc::{AllocError, Global};
 use std::fmt;
 use std::hash::{Hash, Hasher};
@@ -91,7 +93,7 @@ fn is_decimal_float(text: &[u8]) -> bool
 fn is_unsigned_float(text: &[u8]) -> bool
     ensures { result ≡ spec.is_unsigned_float text.now }
 {
-    text == b"inf".as_slice() || text == b"nan".as_slice() || is_decimal_float(text)
+    is_decimal_float(text) || text == b"inf".as_slice() || text == b"nan".as_slice()
 }
 
 /// Returns `true` if the text is a TOML float, whatever its magnitude.
@@ -104,6 +106,44 @@ pub fn is_float(text: &str) -> bool
     ensures float { IsTrue result ↔ IsFloat text.now }
 {
     is_unsigned_float(without_sign(text.as_bytes()))
+}
+
+/// The most bytes of a text that is stored in place.
+const MOST: usize = 24;
+
+/// A text, which takes no memory if it is short, as most floats are.
+#[derive(Drop)]
+enum HeldText {
+    Short(ArrayString<MOST>),
+    Long(String),
+}
+
+impl HeldText {
+    /// Makes it of a copy of the text. Fails if out of memory.
+    fn from_text(alloc: Global, text: &str) -> Result<HeldText, AllocError>
+        ensures { IfOk result (λ held. held_text held ≡ text.now) }
+    {
+        match ArrayString::from(text) {
+            Ok(short) => Ok(HeldText::Short(short)),
+            Err(_) => Ok(HeldText::Long(String::from_str(alloc, text)?)),
+        }
+    }
+
+    /// Returns the text.
+    fn as_str(&self) -> &str
+        ensures { result.now ≡ held_text self.now }
+    {
+        match self {
+            HeldText::Short(text) => text.as_str(),
+            HeldText::Long(text) => text.as_str(),
+        }
+    }
+}
+
+impl fmt::Debug for HeldText {
+    fn fmt<W: fmt::Write>(&self, f: &mut fmt::Formatter<W>) -> fmt::Result {
+        fmt::Debug::fmt(&self.as_str(), f)
+    }
 }
 
 /// A float, kept as the text that spells it, such as `6.626e-34`, of any magnitude and never
@@ -124,19 +164,20 @@ pub fn is_float(text: &str) -> bool
 /// From `float_of` of the crate `toml_edit_guide`.
 #[derive(Debug, Drop)]
 pub struct FloatText {
-    text: String,
+    text: HeldText,
 }
 
 impl Model for FloatText {
-    ghost use Rattle.std.specs.Prelude.{◌≡◌, true, string_bytes};
+    ghost use Rattle.std.specs.Prelude.{◌≡◌, true};
     ghost use Rattle.toml_edit_model.specs.Text.{Text};
     ghost use Rattle.toml_edit_laws.specs.reading.FloatReading.{is_float_text};
+    ghost use Rattle.toml_edit_datetime.specs.HeldText.{held_text};
 
     ghost Value = { Text };
 
-    ghost view = { λ a. string_bytes a.text };
+    ghost view = { λ a. held_text a.text };
 
-    ghost invariant = { λ a. is_float_text (string_bytes a.text) ≡ true };
+    ghost invariant = { λ a. is_float_text (held_text a.text) ≡ true };
 }
 
 impl FloatText {
@@ -151,7 +192,9 @@ impl FloatText {
         ensures err { IfErr result (λ back. back ≡ text) }
     {
         if is_float(text.as_str()) {
-            Ok(FloatText { text })
+            Ok(FloatText {
+                text: HeldText::Long(text),
+            })
         } else {
             Err(text)
         }
@@ -172,7 +215,7 @@ impl FloatText {
             return Ok(None);
         }
         Ok(Some(FloatText {
-            text: String::from_str(alloc, text)?,
+            text: HeldText::from_text(alloc, text)?,
         }))
     }
 
@@ -193,7 +236,7 @@ impl FloatText {
         ensures { IfOk result (λ copy. copy ≡ self.now) }
     {
         Ok(FloatText {
-            text: String::from_str(alloc, self.as_str())?,
+            text: HeldText::from_text(alloc, self.as_str())?,
         })
     }
 }

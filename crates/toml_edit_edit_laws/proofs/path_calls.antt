@@ -1,6 +1,7 @@
 pub mod AfterLines
 pub mod Staying
 pub mod Spots
+pub mod Places
 pub mod Inside
 pub mod Setting
 pub mod Removing

@@ -8,6 +8,7 @@ pub mod Comments
 pub mod Placing
 pub mod DottedAdds
 pub mod Staying
+pub mod Places
 pub mod PathEdits
 pub mod HeaderAdds
 pub mod Fitting

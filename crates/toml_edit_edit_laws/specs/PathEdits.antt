@@ -1,5 +1,5 @@
 -- Calls by paths as edits of a steady tree.
-use Rattle.std.specs.Prelude.{◌≡◌, ◌⊎◌, ℕ, true, false, List, [], ◌∷◌, ◌++◌, Some, None}
+use Rattle.std.specs.Prelude.{◌≡◌, ◌⊎◌, ℕ, true, false, List, [], ◌∷◌, ◌++◌, map, Some, None}
 use Rattle.toml_edit_model.specs.Mode.{Mode}
 use Rattle.toml_edit_model.specs.Text.{Text, is_empty}
 use Rattle.toml_edit_model.specs.Paths.{Path, to_key}
@@ -12,11 +12,12 @@ use Rattle.toml_edit_model.specs.Rearranging.{is_free, moved_slot, renamed_slot}
 use Rattle.toml_edit_model.specs.Slots.{Slot, keyed, lookup_slot}
 use Rattle.toml_edit_model.specs.Lists.{slot_list}
 use Rattle.toml_edit_laws.specs.Locality.{Turn, Leads, root_visit, edited, is_plain_value, has_block}
-use Rattle.toml_edit_laws.specs.EditLists.{Edit, replace, add, remove, remove_element, after, Applies, named_path}
+use Rattle.toml_edit_laws.specs.EditLists.{Edit, replace, add, remove, remove_element, after, Applies}
 use Rattle.toml_edit_edit_laws.specs.Commands.{Answer, done, number_of, item_at, set_at, remove_at}
 use Rattle.toml_edit_edit_laws.specs.KeyCalls.{move_at, rename_at}
 use Rattle.toml_edit_edit_laws.specs.CommandLaws.{AreSpelled, Goes, NamesTable, made_below}
 use Rattle.toml_edit_edit_laws.specs.DottedAdds.{OneLineMore}
+use Rattle.toml_edit_edit_laws.specs.Places.{place_of}
 use Rattle.toml_edit_edit_laws.specs.Staying.{StaysButAt}
 
 -- ---- calls
@@ -53,29 +54,16 @@ paths_of_call (removes path) = path ∷ []
 paths_of_call (renames path u) = path ∷ with_last u path ∷ []
 paths_of_call (moves path i) = path ∷ []
 
--- A path of names leads to the place of a slot of a table on the walk, which is there or not, or
--- into what the slot has.
-pub record NamesSlot (t : Tree) (path : List Text) (place : Path) : Type 0 where
-  pub front : List Text
-  pub key : Text
-  pub inner : List Text
-  pub table : Visit
-  pub is : path ≡ front ++ (key ∷ inner)
-  pub named : NamesTable t front table
-  pub at : place ≡ to_key table.path key
-
--- each path leads to its place
-abbrev pub NameSlots : Tree → List (List Text) → List Path → Type 0
-NameSlots t [] [] = Unit {0}
-NameSlots t (path ∷ paths) (p ∷ ps) = NamesSlot t path p × NameSlots t paths ps
-NameSlots t _ _ = ⊥
+-- the places of these paths in a tree
+abbrev pub places_of_call : PathCall → Tree → List Path
+places_of_call c t = map (place_of t) (paths_of_call c)
 
 -- each call is done on the tree that those before it left, at its places, and the last leaves the
 -- second tree
 abbrev pub AreDone : List PathCall → List (List Path) → Tree → Tree → Type 0
 AreDone [] [] t w = w ≡ t
 AreDone (c ∷ cs) (ps ∷ more) t w =
-    (u : Tree) × (called c t ≡ done u) × NameSlots t (paths_of_call c) ps × AreDone cs more u w
+    (u : Tree) × (called c t ≡ done u) × (ps ≡ places_of_call c t) × AreDone cs more u w
 AreDone _ _ t w = ⊥
 
 -- ---- which edit a call is
@@ -126,14 +114,13 @@ MovesSlot t path i u = (s : SlotAt t path) × (u ≡ edited s.way (moved_slot s.
 
 module _ (mode : Mode) where
   -- The call is an edit of the first tree, and leaves the second: all statements stay but those at
-  -- its place, and below it.
+  -- the place of its path, and below it.
   pub record IsEdit (c : PathCall) (t u : Tree) : Type 0 where
     pub edit : Edit
     pub at : IsEditAt c edit
     pub applies : Applies mode edit t
     pub leaves : u ≡ after edit t
-    pub names : NamesSlot t (path_of_call c) (named_path mode edit t applies)
-    pub stays : StaysButAt mode (named_path mode edit t applies ∷ []) t u
+    pub stays : StaysButAt mode (place_of t (path_of_call c) ∷ []) t u
 
   -- `set_at` at a value, or inside one.
   abbrev pub SetReplaces : Type 0
@@ -168,35 +155,31 @@ module _ (mode : Mode) where
       → lookup_slot k.name (slot_list w.slots) ≡ None → is_empty (lines_of mode w) ≡ false
       → set_at (path ++ (k ∷ more)) v t ≡ done u
       → OneLineMore mode t u w (cleared_key k) (made_below more v)
-      × StaysButAt mode (to_key w.path k.name ∷ []) t u
+      × StaysButAt mode (places_of_call (sets (path ++ (k ∷ more)) v) t) t u
 
   -- ---- keys
 
-  -- All statements stay but those at the places of the call, and below them.
-  pub record IsLocal (c : PathCall) (t u : Tree) : Type 0 where
-    pub places : List Path
-    pub names : NameSlots t (paths_of_call c) places
-    pub stays : StaysButAt mode places t u
-
   -- `rename_at` and `move_at`: of a slot, as the laws about names and places have it, or inside a
-  -- value.
+  -- value. All statements stay but those at the places of the call, and below them.
   abbrev pub RenameEdits : Type 0
   RenameEdits =
       (t u : Tree) (path : List Text) (name : Text) → SlotsAreWellMade t.slots
       → is_steady_in mode t ≡ true → rename_at path name t ≡ done u
-      → (RenamesSlot t path name u ⊎ IsEdit (renames path name) t u) × IsLocal (renames path name) t u
+      → (RenamesSlot t path name u ⊎ IsEdit (renames path name) t u)
+      × StaysButAt mode (places_of_call (renames path name) t) t u
 
   abbrev pub MoveEdits : Type 0
   MoveEdits =
       (t u : Tree) (path : List Text) (i : ℕ) → SlotsAreWellMade t.slots
       → is_steady_in mode t ≡ true → move_at path i t ≡ done u
-      → (MovesSlot t path i u ⊎ IsEdit (moves path i) t u) × IsLocal (moves path i) t u
+      → (MovesSlot t path i u ⊎ IsEdit (moves path i) t u)
+      × StaysButAt mode (places_of_call (moves path i) t) t u
 
 -- A call after others is one more of them.
 abbrev pub OneCallMore : Type 0
 OneCallMore =
     (cs : List PathCall) (more : List (List Path)) (t u w : Tree) (c : PathCall) (ps : List Path)
-    → AreDone cs more t u → called c u ≡ done w → NameSlots u (paths_of_call c) ps
+    → AreDone cs more t u → called c u ≡ done w → ps ≡ places_of_call c u
     → AreDone (cs ++ (c ∷ [])) (more ++ (ps ∷ [])) t w
 
 -- ---- tables by their paths

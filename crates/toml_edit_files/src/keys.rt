@@ -97,6 +97,7 @@ fn put_paths_at<'p, 'k>(
 
 /// Adds the paths to what is below an item at this path.
 #[cycle(paths)]
+#[inline(always)]
 fn put_paths<'p, 'k>(
     alloc: Global,
     text: &mut String,
@@ -116,6 +117,7 @@ fn put_paths<'p, 'k>(
 
 /// Adds the path of a value, or the paths to what is below it if it is an inline table.
 #[cycle(paths)]
+#[inline(always)]
 fn put_value<'p, 'k>(
     alloc: Global,
     text: &mut String,
@@ -133,6 +135,7 @@ fn put_value<'p, 'k>(
 
 /// Adds the paths to what is below the slots of a table, or its own path if it is empty.
 #[cycle(paths)]
+#[inline(always)]
 fn put_table<'p, 'k>(
     alloc: Global,
     text: &mut String,
@@ -151,6 +154,7 @@ fn put_table<'p, 'k>(
 
 /// Adds the paths to what is below the slots.
 #[cycle(paths)]
+#[inline(never)]
 fn put_slots<'p, 'k>(
     alloc: Global,
     text: &mut String,
@@ -169,6 +173,7 @@ fn put_slots<'p, 'k>(
 
 /// Adds the paths to what is below the tables, whose keys are their numbers.
 #[cycle(paths)]
+#[inline(never)]
 fn put_elements<'p, 'k>(
     alloc: Global,
     text: &mut String,
@@ -186,6 +191,7 @@ fn put_elements<'p, 'k>(
 
 /// Adds the paths to what is below an element, if it is a table.
 #[cycle(paths)]
+#[inline(always)]
 fn put_element<'p, 'k>(
     alloc: Global,
     text: &mut String,
@@ -260,6 +266,7 @@ fn put_above(alloc: Global, text: &mut String, path: &Path<'_, '_>) -> Mem<()>
 }
 
 /// Adds a key as it is spelled.
+#[inline(never)]
 fn put_key(alloc: Global, text: &mut String, key: &Key) -> Mem<()>
     ensures { OnOk result (string_bytes text.new ≡ string_bytes text.old ++ key_text key.now) }
 {
@@ -277,6 +284,7 @@ fn put_key_line(alloc: Global, text: &mut String, key: &Key) -> Mem<()>
 }
 
 /// Adds a number.
+#[inline(never)]
 fn put_number(alloc: Global, text: &mut String, number: usize) -> Mem<()>
     ensures { OnOk result (string_bytes text.new ≡ string_bytes text.old ++ decimal number) }
 {

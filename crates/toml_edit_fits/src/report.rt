@@ -121,6 +121,8 @@ impl Report for Trail {
         self.rule = rule;
     }
 
+    // Not a part of the frames of the walk, which recur.
+    #[inline(never)]
     fn report_key(&mut self, key: &Key) {
         match Key::from_text(self.alloc, key.get()) {
             Ok(step) => self.add(step),
@@ -128,12 +130,10 @@ impl Report for Trail {
         }
     }
 
+    #[inline(never)]
     fn report_element(&mut self, number: usize) {
         match number.to_string(self.alloc) {
-            Ok(digits) => match Key::new(digits) {
-                Ok(step) => self.add(step),
-                Err(_) => self.refused = true,
-            },
+            Ok(digits) => self.add(Key::new(digits)),
             Err(_) => self.refused = true,
         }
     }

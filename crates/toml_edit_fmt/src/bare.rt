@@ -28,6 +28,7 @@ fn can_be_bare(name: &str) -> bool
 }
 
 /// Makes the key at the place bare, if it can be. It keeps its decors.
+#[inline(never)]
 fn bare_key(slots: &mut Slots<Item>, at: usize)
     requires { at < length slots.old }
     ensures { slots.new ≡ on_key at bared_key slots.old }

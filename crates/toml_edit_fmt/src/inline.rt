@@ -231,6 +231,7 @@ pub(crate) fn close_inline(
 }
 
 /// Returns whether the slot at the place is the last with pairs, where the last may be.
+#[inline(never)]
 pub(crate) fn ends_pairs(is_last: bool, slots: &Slots<Item>, at: usize) -> bool
     requires { at < length slots.now }
     ensures { result ≡ is_last && not (has_inside (slots_view (drop (at + 1) slots.now))) }
@@ -252,6 +253,7 @@ fn has_pairs_from(entries: &[Slot<Item>], start: usize) -> bool
 }
 
 /// Formats the key of a pair, or that of an item with pairs.
+#[inline(never)]
 pub(crate) fn format_key(
     alloc: Global,
     inside: &Inside,

@@ -58,6 +58,7 @@ pub(crate) fn format_rest(alloc: Global, rules: &Rules, decor: &mut Decor) -> Me
 }
 
 /// Lays out what is before and after a value of an array.
+#[inline(never)]
 pub(crate) fn format_around(
     alloc: Global,
     inside: &Inside,
@@ -79,6 +80,7 @@ pub(crate) fn format_around(
 }
 
 /// Lays out what is before and after the value of a pair.
+#[inline(never)]
 pub(crate) fn format_pair_around(
     alloc: Global,
     inside: &Inside,

@@ -9,7 +9,7 @@ ghost use Rattle.toml_edit.specs.tree.InlineParts.{pair_owned};
 ghost use Rattle.toml_edit.specs.tree.SlotsOf.{inline_slots_of, pair_taken, slots_of};
 ghost use Rattle.toml_edit.specs.tree.View.{value_view};
 
-use toml_edit::{Array, ArrayOfTables, InlineTable, InternalString, Item, Table, Value};
+use toml_edit::{Array, ArrayOfTables, InlineTable, Item, Table, Value};
 
 /// Returns the first value of an array.
 pub fn first_value(array: &Array) -> Option<&Value>
@@ -40,7 +40,7 @@ pub fn into_value(array: Array) -> Option<Value>
 }
 
 /// Takes an inline table apart, and returns the name of its first key and its value.
-pub fn into_pair(table: InlineTable) -> Option<(InternalString, Value)>
+pub fn into_pair(table: InlineTable) -> Option<(String, Value)>
     ensures { option_map pair_owned result ≡ slice_get (value_pairs (inline_slots_of table)) 0 }
 {
     table.into_iter().next()
@@ -54,7 +54,7 @@ pub fn into_table(tables: ArrayOfTables) -> Option<Table>
 }
 
 /// Takes a table apart, and returns the name of its first slot and the item.
-pub fn into_slot(table: Table) -> Option<(InternalString, Item)>
+pub fn into_slot(table: Table) -> Option<(String, Item)>
     ensures { option_map pair_taken result ≡ slice_get (pairs (slots_of table)) 0 }
 {
     table.into_iter().next()

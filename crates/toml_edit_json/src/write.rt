@@ -1,4 +1,7 @@
 //! Putting the JSON text of items into sinks.
+//!
+//! A level of a tree takes one frame, and a small one, since what is put for a key or a scalar has frames
+//! of its own.
 #![tactic(auto, using(toml_edit_io::proofs::Puts::put_steps))]
 
 ghost use Rattle.std.specs.Prelude.{◌≡◌, false};
@@ -44,6 +47,7 @@ impl Printed for Json<'_> {
 
 /// Puts the JSON text of the item.
 #[cycle(json)]
+#[inline(always)]
 fn put_item<S: Sink>(out: &mut S, item: &Item)
     ensures { WritesInCalls S.puts out.old (json_text (item_view item.now)) out.new }
 {
@@ -57,6 +61,7 @@ fn put_item<S: Sink>(out: &mut S, item: &Item)
 
 /// Puts the JSON text of the value.
 #[cycle(json)]
+#[inline(always)]
 fn put_value<S: Sink>(out: &mut S, value: &Value)
     ensures { WritesInCalls S.puts out.old (json_text (value_view value.now)) out.new }
 {
@@ -73,6 +78,7 @@ fn put_value<S: Sink>(out: &mut S, value: &Value)
 
 /// Puts the items between brackets.
 #[cycle(json)]
+#[inline(always)]
 fn put_array<S: Sink>(out: &mut S, items: &Vec<Item>)
     ensures { WritesInCalls S.puts out.old
         (value_text (array (json_items (items_view items.now.items)))) out.new }
@@ -83,6 +89,7 @@ fn put_array<S: Sink>(out: &mut S, items: &Vec<Item>)
 
 /// Puts the items with commas between them, and the bracket that closes the array.
 #[cycle(json)]
+#[inline(never)]
 fn put_items<S: Sink>(out: &mut S, items: &Vec<Item>)
     ensures { WritesInCalls S.puts out.old
         (items_text false (items_view items.now.items)) out.new }
@@ -100,6 +107,7 @@ fn put_items<S: Sink>(out: &mut S, items: &Vec<Item>)
 
 /// Puts the slots between braces.
 #[cycle(json)]
+#[inline(always)]
 fn put_object<S: Sink>(out: &mut S, slots: &Slots<Item>)
     ensures { WritesInCalls S.puts out.old
         (value_text (object (json_members (slots_view slots.now)))) out.new }
@@ -110,6 +118,7 @@ fn put_object<S: Sink>(out: &mut S, slots: &Slots<Item>)
 
 /// Puts the slots with commas between them, and the brace that closes the object.
 #[cycle(json)]
+#[inline(never)]
 fn put_slots<S: Sink>(out: &mut S, slots: &Slots<Item>)
     ensures { WritesInCalls S.puts out.old
         (slots_text false (slots_view slots.now)) out.new }
@@ -128,6 +137,7 @@ fn put_slots<S: Sink>(out: &mut S, slots: &Slots<Item>)
 
 /// Puts a key, a colon and the item.
 #[cycle(json)]
+#[inline(always)]
 fn put_pair<S: Sink>(out: &mut S, key: &Key, item: &Item)
     ensures { WritesInCalls S.puts out.old
         (pair_text key.now (item_view item.now)) out.new }
@@ -168,6 +178,7 @@ fn put_string<S: Sink>(out: &mut S, text: &str)
 }
 
 /// Puts the text between quotes.
+#[inline(never)]
 fn put_quoted<S: Sink>(out: &mut S, text: &str)
     ensures { WritesInCalls S.puts out.old (quoted text.now) out.new }
 {
@@ -177,6 +188,7 @@ fn put_quoted<S: Sink>(out: &mut S, text: &str)
 }
 
 /// Puts an integer in decimal.
+#[inline(never)]
 fn put_integer<S: Sink>(out: &mut S, value: &i64)
     ensures { WritesInCalls S.puts out.old
         (value_text (number (default_spelling (integer value.now)))) out.new }
@@ -192,6 +204,7 @@ fn put_boolean<S: Sink>(out: &mut S, value: bool)
 }
 
 /// Puts a float of this text: a number, or `inf` or `nan` between quotes.
+#[inline(never)]
 fn put_float<S: Sink>(out: &mut S, text: &str)
     ensures { WritesInCalls S.puts out.old (value_text (float_value text.now)) out.new }
 {
@@ -219,6 +232,7 @@ fn put_special<S: Sink>(out: &mut S, text: &str)
 }
 
 /// Puts a date or a time between quotes.
+#[inline(never)]
 fn put_datetime<S: Sink>(out: &mut S, value: &Datetime)
     ensures { WritesInCalls S.puts out.old
         (value_text (string (default_spelling (datetime (datetime_view value.now))))) out.new }

@@ -1,6 +1,5 @@
 -- Cited by public contracts.
 pub mod Kept
-pub mod Spelled
 pub mod Keys
 pub mod LendingParts
 pub mod KeyMutView

@@ -1,5 +1,5 @@
 //! Keys, and mutable references to all of a key but its name.
-ghost use Rattle.std.specs.Prelude.{◌≡◌, ◌<◌, ◌^◌, Some, IsOk, IsSome, IsOkAnd, IfOk, OnOk, OnErr, IfSome, option_map, option_and_then, refl, bytes_eq, string_bytes, string_len};
+ghost use Rattle.std.specs.Prelude.{◌≡◌, ◌<◌, ◌^◌, Some, IsSome, IsOkAnd, IfOk, OnOk, IfSome, option_map, option_and_then, refl, bytes_eq, string_bytes};
 ghost use Rattle.std.specs.Option.{option_copied};
 ghost use Rattle.std.specs.Cow.{cow_str_bytes, IsBorrowedStr};
 ghost use Rattle.std.specs.Fmt.{WritesInCalls};
@@ -15,7 +15,6 @@ ghost use Rattle.toml_edit_model.specs.Keys.{new_key, reset_key};
 ghost use Rattle.toml_edit_model.specs.Spelling.{SpellsKey};
 ghost use Rattle.toml_edit_repr.specs.Views.{text_of};
 ghost use Rattle.toml_edit_key.specs.Keys.{name_of, spanned_key};
-ghost use Rattle.toml_edit_key.specs.Spelled.{begins_bare};
 
 use std::alloc::Global;
 use std::borrow::CowStr;
@@ -26,7 +25,8 @@ use std::hash::{Hash, Hasher};
 use std::marker::Model;
 use std::ops::Range;
 use toml_edit_io::{Printed, Sink, print, show};
-use toml_edit_repr::{Decor, InternalString, Mem, RawString, Repr, spelling_text};
+use toml_edit_repr::repr::{clone_spelling, despan_spelling, detach_spelling};
+use toml_edit_repr::{Decor, Mem, RawString, Repr, spelling_text};
 use toml_edit_text::SharedText;
 use toml_edit_token::put_key;
 use toml_edit_token::run::{byte_at, is_bare};
@@ -52,19 +52,10 @@ use toml_edit_token::run::{byte_at, is_bare};
 /// From `renamed` of the crate `toml_edit_guide`.
 #[derive(Debug)]
 pub struct Key {
-    text: InternalString,
+    text: String,
     // Not read if the parts say that the key has the default spelling.
-    spelled: Spelled,
+    repr: Option<Repr>,
     parts: KeyParts,
-}
-
-/// How a key is spelled.
-#[derive(Debug)]
-pub(crate) enum Spelled {
-    ByDefault,
-    // By the name itself, as a bare key is. So it is stored once.
-    ByName,
-    ByRepr(Repr),
 }
 
 /// The parts of a key that a `KeyMut` can change.
@@ -79,25 +70,10 @@ impl Drop for Key {
     // Inlined, so that a row of slots that is dropped copies no key first.
     #[inline(always)]
     fn drop(self) {
-        let Key {
-            text,
-            spelled,
-            parts,
-        } = self;
+        let Key { text, repr, parts } = self;
         drop(parts);
-        drop(spelled);
+        drop(repr);
         drop(text);
-    }
-}
-
-/// By hand, as for all that trees are made of.
-impl Drop for Spelled {
-    #[inline(always)]
-    fn drop(self) {
-        match self {
-            Spelled::ByDefault | Spelled::ByName => {}
-            Spelled::ByRepr(repr) => drop(repr),
-        }
     }
 }
 
@@ -105,18 +81,18 @@ impl Model for Key {
     ghost use Rattle.toml_edit_model.specs.Tree.{Key as KeyView, HasTrueSpelling};
     ghost use Rattle.toml_edit_model.specs.Spelling.{SpellsKey};
     ghost use Rattle.toml_edit_key.specs.Kept.{kept};
-    ghost use Rattle.toml_edit_key.specs.Spelled.{own_spelling};
+    ghost use Rattle.std.specs.Prelude.{string_bytes};
 
     ghost Value = { KeyView };
 
     ghost view = { λ a. record {
-      name = a.text;
-      spelling = kept a.parts.is_default (own_spelling a.text a.spelled);
+      name = string_bytes a.text;
+      spelling = kept a.parts.is_default a.repr;
       leaf = a.parts.leaf;
       dotted = a.parts.dotted;
     } };
 
-    ghost invariant = { λ a. ∥ HasTrueSpelling (SpellsKey a.text) (own_spelling a.text a.spelled) ∥₁ };
+    ghost invariant = { λ a. ∥ HasTrueSpelling (SpellsKey (string_bytes a.text)) a.repr ∥₁ };
 }
 
 impl Key {
@@ -129,15 +105,11 @@ impl Key {
     ghost use Rattle.toml_edit_key.specs.LendingParts.{LendsLeaf, LendsDotted};
 
     /// Returns the name, and drops the rest.
-    fn into_text(self) -> InternalString
-        ensures { result ≡ self.name }
+    fn into_text(self) -> String
+        ensures { string_bytes result ≡ self.name }
     {
-        let Key {
-            text,
-            spelled,
-            parts,
-        } = self;
-        drop(spelled);
+        let Key { text, repr, parts } = self;
+        drop(repr);
         drop(parts);
         text
     }
@@ -146,24 +118,12 @@ impl Key {
     ///
     /// Any text is a name; its spelling gets quotes and escapes where it needs them. To make a key
     /// of a spelling, use `from_str` of the trait `FromStr`.
-    ///
-    /// # Errors
-    ///
-    /// Returns an `AllocError` if the name takes 4 GiB or more.
-    pub fn new(text: String) -> Mem<Key>
-        ensures ok { IfOk result (λ key. key ≡ new_key (string_bytes text)) }
-        ensures fits { string_len text < 2 ^ 32 → IsOk result }
-    {
-        Ok(Key::of_name(InternalString::from_string(text)?))
-    }
-
-    /// Makes a key of this name, with the default spelling and no decor.
-    pub fn of_name(text: InternalString) -> Key
-        ensures { result ≡ new_key text }
+    pub fn new(text: String) -> Key
+        ensures { result ≡ new_key (string_bytes text) }
     {
         Key {
             text,
-            spelled: Spelled::ByDefault,
+            repr: None,
             parts: KeyParts {
                 leaf: Decor::default(),
                 dotted: Decor::default(),
@@ -176,28 +136,21 @@ impl Key {
     ///
     /// # Errors
     ///
-    /// Returns an `AllocError` if out of memory, or if the name takes 4 GiB or more.
+    /// Returns an `AllocError` if out of memory.
     pub fn from_text(alloc: Global, text: &str) -> Mem<Key>
         ensures { IfOk result (λ key. key ≡ new_key text.now) }
     {
-        Ok(Key::of_name(InternalString::from_text(alloc, text)?))
+        Ok(Key::new(String::from_str(alloc, text)?))
     }
 
     /// Makes a key that was parsed, spelled by the bytes of the source from `start` up to `end`.
-    pub fn spanned(
-        text: InternalString,
-        start: usize,
-        end: usize,
-        leaf: Decor,
-        dotted: Decor,
-    ) -> Key
-        requires start { start < 2 ^ 32 }
-        requires end { end < 2 ^ 32 }
-        ensures { result ≡ spanned_key text start end leaf dotted }
+    pub fn spanned(text: String, start: usize, end: usize, leaf: Decor, dotted: Decor) -> Key
+        requires { start < 2 ^ 56 }
+        ensures { result ≡ spanned_key (string_bytes text) start end leaf dotted }
     {
         Key {
             text,
-            spelled: Spelled::ByRepr(Repr::new(RawString::from_span(start, end))),
+            repr: Some(Repr::new(RawString::from_span(start, end))),
             parts: KeyParts {
                 leaf,
                 dotted,
@@ -224,7 +177,7 @@ impl Key {
         if self.parts.is_default {
             None
         } else {
-            self.spelled.repr(&self.text)
+            self.repr.as_ref()
         }
     }
 
@@ -301,12 +254,11 @@ impl Key {
         ensures same { key_of result ≡ self.old }
     {
         if self.parts.is_default {
-            self.spelled = Spelled::ByDefault;
+            self.repr = None;
         }
-        let text = &self.text;
         KeyMut {
-            name: text.as_str(),
-            repr: self.spelled.repr(text),
+            name: self.text.as_str(),
+            repr: self.repr.as_ref(),
             parts: &mut self.parts,
         }
     }
@@ -315,7 +267,7 @@ impl Key {
     pub fn fmt(&mut self)
         ensures { self.new ≡ reset_key self.old }
     {
-        self.spelled = Spelled::ByDefault;
+        self.repr = None;
         self.parts.leaf.clear();
         self.parts.dotted.clear();
     }
@@ -338,8 +290,8 @@ impl Key {
         ensures { IfOk result (λ copy. copy ≡ self.now) }
     {
         Ok(Key {
-            text: self.text.clone(alloc)?,
-            spelled: self.spelled.clone(alloc)?,
+            text: String::from_str(alloc, self.text.as_str())?,
+            repr: clone_spelling(alloc, &self.repr)?,
             parts: KeyParts {
                 leaf: self.parts.leaf.clone(alloc)?,
                 dotted: self.parts.dotted.clone(alloc)?,
@@ -381,71 +333,25 @@ impl Key {
         ensures ok { OnOk result (self.new ≡ owned_key source.now self.old) }
     {
         if self.parts.is_default {
-            self.spelled = Spelled::ByDefault;
+            self.repr = None;
         }
-        self.spelled.despan(alloc, source, &self.text)?;
+        despan_spelling(alloc, &mut self.repr, source)?;
         self.parts.leaf.despan(alloc, source)?;
         self.parts.dotted.despan(alloc, source)
     }
-}
 
-impl Spelled {
-    ghost use Rattle.toml_edit_model.specs.Tree.{HasTrueSpelling};
-    ghost use Rattle.toml_edit_model.specs.OwnedForm.{OptionFits, owned_raw};
-    ghost use Rattle.toml_edit_key.specs.Spelled.{own_spelling};
-
-    /// Returns the spelling of a key of this name, or `None` if it is the default one.
-    #[inline(always)]
-    fn repr<'a>(&'a self, name: &'a InternalString) -> Option<&'a Repr>
-        ensures { option_copied result ≡ own_spelling name.now self.now }
+    /// Copies the texts that are parts of a document's source, so that it does not keep the source.
+    ///
+    /// # Errors
+    ///
+    /// Returns an `AllocError` if out of memory, and then keeps the source.
+    #[doc(hidden)]
+    pub fn detach(&mut self, alloc: Global) -> Mem<()>
+        ensures { self.new ≡ self.old }
     {
-        match self {
-            Spelled::ByDefault => None,
-            Spelled::ByName => Some(name.as_repr()),
-            Spelled::ByRepr(repr) => Some(repr),
-        }
-    }
-
-    /// Returns an equal copy.
-    fn clone(&self, alloc: Global) -> Mem<Spelled>
-        ensures { IfOk result (λ copy. copy ≡ self.now) }
-    {
-        match self {
-            Spelled::ByDefault => Ok(Spelled::ByDefault),
-            Spelled::ByName => Ok(Spelled::ByName),
-            Spelled::ByRepr(repr) => Ok(Spelled::ByRepr(repr.clone(alloc)?)),
-        }
-    }
-
-    /// Replaces the spelling of a key of this name, if it is a span of `source`, by the text that it
-    /// cuts. A bare key is then spelled by its name.
-    fn despan(&mut self, alloc: Global, source: &SharedText, name: &InternalString) -> Mem<()>
-        requires fits { OptionFits source.now (own_spelling name.now self.old) }
-        requires spelled { ∥ HasTrueSpelling (SpellsKey name.now)
-            (option_map (owned_raw source.now) (own_spelling name.now self.old)) ∥₁ }
-        ensures ok { OnOk result (own_spelling name.now self.new
-            ≡ option_map (owned_raw source.now) (own_spelling name.now self.old)) }
-        ensures err { OnErr result (self.new ≡ self.old) }
-    {
-        let Spelled::ByRepr(repr) = self else {
-            return Ok(());
-        };
-        if starts_bare(repr, source.as_str()) {
-            *self = Spelled::ByName;
-            return Ok(());
-        }
-        repr.despan(alloc, source)
-    }
-}
-
-/// Returns `true` if it is a span of the source that begins with a byte of a bare key.
-#[inline(always)]
-fn starts_bare(repr: &Repr, source: &str) -> bool
-    ensures { result ≡ begins_bare source.now repr.now }
-{
-    match repr.span() {
-        Some(span) => is_bare(byte_at(source, span.start)),
-        None => false,
+        detach_spelling(alloc, &mut self.repr)?;
+        self.parts.leaf.detach(alloc)?;
+        self.parts.dotted.detach(alloc)
     }
 }
 
@@ -457,13 +363,13 @@ fn starts_bare(repr: &Repr, source: &str) -> bool
 /// Returns an `AllocError` if out of memory.
 #[doc(hidden)]
 #[inline(always)]
-pub fn bare_name(alloc: Global, text: &str, start: usize, end: usize) -> Mem<Option<InternalString>>
+pub fn bare_name(alloc: Global, text: &str, start: usize, end: usize) -> Mem<Option<String>>
     requires { RawFits text.now (span start end) }
     ensures { IfOk result (λ o. IfSome o
-        (λ name. (k : Text) → SpellsKey k (cut_out text.now start end) → name ≡ k)) }
+        (λ name. (k : Text) → SpellsKey k (cut_out text.now start end) → string_bytes name ≡ k)) }
 {
     if is_bare(byte_at(text, start)) {
-        Ok(Some(InternalString::from_part(alloc, text, start, end)?))
+        Ok(Some(String::from_str(alloc, &text[start..end])?))
     } else {
         Ok(None)
     }
@@ -487,19 +393,19 @@ impl Printed for Key {
 }
 
 /// Makes a key of this name, with the default spelling and no decor.
-impl From<InternalString> for Key {
-    ghost from_gives = { λ text key. key ≡ new_key text };
+impl From<String> for Key {
+    ghost from_gives = { λ text key. key ≡ new_key (string_bytes text) };
 
-    fn from(text: InternalString) -> Key {
-        Key::of_name(text)
+    fn from(text: String) -> Key {
+        Key::new(text)
     }
 }
 
 /// Returns the name.
-impl From<Key> for InternalString {
-    ghost from_gives = { λ key text. text ≡ key.name };
+impl From<Key> for String {
+    ghost from_gives = { λ key text. string_bytes text ≡ key.name };
 
-    fn from(key: Key) -> InternalString {
+    fn from(key: Key) -> String {
         key.into_text()
     }
 }

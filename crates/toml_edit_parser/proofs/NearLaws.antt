@@ -1,4 +1,4 @@
--- The spans of a text below 4 GiB.
+-- The spans of a text that is not too long.
 use Rattle.std.proofs.Common.{ℕ, ◌≡◌, ◌<◌, ◌^◌, ◌==◌, length, get_or, eqb-true, inl, inr, arith}
 use Rattle.std.proofs.lemmas.Bool.{cases_Bool}
 use Rattle.toml_edit_laws.proofs.reading.RunLaws.{within_from_byte}
@@ -9,7 +9,7 @@ use Rattle.toml_edit_syntax.specs.Events.{IsSpanOf}
 use Rattle.toml_edit_parser.specs.Near.{IsNear}
 use Rattle.toml_edit_parser.specs.StatementParts.{suffix_span}
 
-pub near : (t : Text) (s : Span) → length t < 2 ^ 32 → IsSpanOf t s → IsNear s
+pub near : (t : Text) (s : Span) → length t < 2 ^ 56 → IsSpanOf t s → IsNear s
 near t s short is =
     let start = is.start.0 in
     let end = is.end.0 in
@@ -19,7 +19,7 @@ near t s short is =
 before_end : (t : Text) (n : ℕ) → get_or t n 0 ≡ carriage_return → n < length t
 before_end t n is = within_from_byte t n (let e : get_or t n 0 ≡ 13 = is in omega (arith, e))
 
-pub suffix-near : (mode : Mode) (t : Text) (s : Span) → length t < 2 ^ 32 → IsSpanOf t s → IsNear (suffix_span mode t s)
+pub suffix-near : (mode : Mode) (t : Text) (s : Span) → length t < 2 ^ 56 → IsSpanOf t s → IsNear (suffix_span mode t s)
 suffix-near plain t s short is = near t s short is
 suffix-near exact t s short is =
     elim (cases_Bool (get_or t s.end 0 == carriage_return)) [

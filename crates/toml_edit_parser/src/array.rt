@@ -24,7 +24,7 @@ use crate::value::read_value;
 use toml_edit_error::ParseFault;
 use toml_edit_repr::{Decor, Formatted, Mem};
 use toml_edit_syntax::{Event, EventKind, Span, text_at};
-use toml_edit_token::{decode_integer, decode_scalar, range_message};
+use toml_edit_token::{decode_integer, decode_other, range_message};
 use toml_edit_tree::{Array, Item, Value};
 
 /// Returns `true` if these are the events of an element that is a scalar.
@@ -126,7 +126,7 @@ fn read_scalar_element<'a>(
         )?;
         return Ok(rest);
     }
-    match decode_scalar(reader.alloc, text)? {
+    match decode_other(reader.alloc, text)? {
         Some(scalar) => {
             put_value(values, Value::spanned(scalar, span.start, span.end, decor))?;
             Ok(rest)

@@ -52,8 +52,7 @@ fn ends_open(events: &[Event]) -> bool
 ///
 /// Returns the slots of the root, whose keys and values are spans of the text, the text after the
 /// last statement, and whether that statement has no newline. Fails if the text is refused, or if
-/// out of memory, also
-/// for a text of 4 GiB or more.
+/// out of memory.
 #[doc(hidden)]
 pub fn parse_with(
     alloc: Global,

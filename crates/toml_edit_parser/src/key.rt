@@ -22,7 +22,7 @@ use crate::reader::Reader;
 use std::borrow::CowStr;
 use toml_edit_error::ParseFault;
 use toml_edit_key::{Key, bare_name};
-use toml_edit_repr::{Decor, InternalString, RawString};
+use toml_edit_repr::{Decor, RawString};
 use toml_edit_syntax::{Event, EventKind, NESTING_LIMIT, Span, text_at};
 use toml_edit_token::decode_name;
 
@@ -228,10 +228,10 @@ pub(crate) fn split_dot<'a>(path: KeyPath<'a>, events: &'a [Event]) -> Option<(S
 
 /// Reads the name of the key that is spelled at the span.
 #[inline(always)]
-pub(crate) fn read_name(reader: &Reader<'_>, span: Span) -> Result<InternalString, ParseFault>
+pub(crate) fn read_name(reader: &Reader<'_>, span: Span) -> Result<String, ParseFault>
     requires { IsSpanOf reader.now.source.now span }
     ensures name { (k : Text) → SpellsKey k (cut_out reader.now.source.now span.start span.end)
-        → ReadsName (λ name. name) k result }
+        → ReadsName string_bytes k result }
     ensures refused { Refuses reader.now.source.now result }
 {
     match bare_name(reader.alloc, reader.source, span.start, span.end)? {
@@ -241,15 +241,15 @@ pub(crate) fn read_name(reader: &Reader<'_>, span: Span) -> Result<InternalStrin
 }
 
 /// Reads the name of the key that is spelled at the span, with or without quotes.
-fn decoded_name(reader: &Reader<'_>, span: Span) -> Result<InternalString, ParseFault>
+fn decoded_name(reader: &Reader<'_>, span: Span) -> Result<String, ParseFault>
     requires { IsSpanOf reader.now.source.now span }
     ensures name { (k : Text) → SpellsKey k (cut_out reader.now.source.now span.start span.end)
-        → ReadsName (λ name. name) k result }
+        → ReadsName string_bytes k result }
     ensures refused { Refuses reader.now.source.now result }
 {
     match decode_name(reader.alloc, text_at(reader.source, span))? {
-        Some(CowStr::Borrowed(name)) => Ok(InternalString::from_text(reader.alloc, name)?),
-        Some(CowStr::Owned(name)) => Ok(InternalString::from_string(name)?),
+        Some(CowStr::Borrowed(name)) => Ok(String::from_str(reader.alloc, name)?),
+        Some(CowStr::Owned(name)) => Ok(name),
         None => Err(malformed(reader)),
     }
 }
@@ -271,13 +271,13 @@ pub(crate) fn read_name_in_place<'s>(
 }
 
 /// Makes the last key of a path, with this name, spelled at the span.
-pub(crate) fn last_key(name: InternalString, span: Span, path: KeyPath<'_>) -> Key
+pub(crate) fn last_key(name: String, span: Span, path: KeyPath<'_>) -> Key
     requires span { IsNear span }
     requires prefix { IsNear path.prefix }
     requires suffix { IsNear path.suffix }
     requires before { IsNear path.before }
     ensures key { result
-        ≡ key_with name span (spec.leaf_of path.entry)
+        ≡ key_with (string_bytes name) span (spec.leaf_of path.entry)
         (spanned_raw path.entry.before) (owned []) }
     ensures fits { (t : Text) → IsSpanOf t span → IsSpanOf t path.entry.prefix
         → IsSpanOf t path.entry.suffix → IsSpanOf t path.entry.before → KeyFits t result }
@@ -289,12 +289,12 @@ pub(crate) fn last_key(name: InternalString, span: Span, path: KeyPath<'_>) -> K
 
 /// Makes a key that a path passes through, with this name, spelled at the span, between these
 /// texts.
-pub(crate) fn passed_key(name: InternalString, span: Span, before: Span, after: Span) -> Key
+pub(crate) fn passed_key(name: String, span: Span, before: Span, after: Span) -> Key
     requires span { IsNear span }
     requires before { IsNear before }
     requires after { IsNear after }
     ensures key { result
-        ≡ key_with name span unset (spanned_raw before) (spanned_raw after) }
+        ≡ key_with (string_bytes name) span unset (spanned_raw before) (spanned_raw after) }
     ensures fits { (t : Text) → IsSpanOf t span → IsSpanOf t before → IsSpanOf t after
         → KeyFits t result }
 {

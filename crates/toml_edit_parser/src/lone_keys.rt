@@ -19,7 +19,7 @@ use crate::reader::{Reader, is_short};
 use std::alloc::Global;
 use toml_edit_error::ParseFault;
 use toml_edit_key::Key;
-use toml_edit_repr::{Decor, InternalString, Mem, Mode, RawString};
+use toml_edit_repr::{Decor, Mem, Mode, RawString};
 use toml_edit_syntax::{LonePath, Span, SyntaxFault, Version, key_mistake, lone_path};
 use toml_edit_text::SharedText;
 use toml_edit_token::decode_key;
@@ -83,7 +83,6 @@ impl FromStr for Key {
         }
         match decode_key(alloc, text)? {
             Some(name) => {
-                let name = InternalString::from_string(name)?;
                 let key = Key::spanned(name, 0, text.len(), Decor::default(), Decor::default());
                 Ok(with_texts(alloc, text, key)?)
             }
@@ -144,7 +143,7 @@ impl ParsePath for Key {
 
 /// Returns a reader of a lone text. What keys mean is the same in each version and mode.
 fn lone_reader(alloc: Global, text: &str) -> Reader<'_>
-    requires { length text.now < 2 ^ 32 }
+    requires { length text.now < 2 ^ 56 }
     ensures { result.source.now ≡ text.now }
 {
     Reader {

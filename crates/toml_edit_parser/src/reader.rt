@@ -16,17 +16,17 @@ pub(crate) struct Reader<'a> {
     pub(crate) version: Version,
     /// What happens to line endings.
     pub(crate) mode: Mode,
-    // So the places of its spans take 32 bits.
-    ghost short: { length source.now < 2 ^ 32 },
+    // So the places of its spans take 56 bits.
+    ghost short: { length source.now < 2 ^ 56 },
 }
 
-/// The greatest length of a text that is parsed.
-const MOST_BYTES: usize = 0xFFFF_FFFF;
+/// The greatest length of a text that is parsed. No machine has addresses for a longer one.
+const MOST_BYTES: usize = 0xFF_FFFF_FFFF_FFFF;
 
 /// Returns `true` if the text is no longer than one that is parsed.
 #[inline(always)]
 pub(crate) fn is_short(text: &str) -> bool
-    ensures { IsTrue result ↔ (length text.now < 2 ^ 32) }
+    ensures { IsTrue result ↔ (length text.now < 2 ^ 56) }
 {
     text.len() <= MOST_BYTES
 }

@@ -1,12 +1,10 @@
 //! Values, from their events.
-ghost use Rattle.std.specs.Prelude.{◌≡◌, ◌+◌, List, ℕ, length, IfOk, IfSome, OnOk};
+ghost use Rattle.std.specs.Prelude.{◌≡◌, ◌+◌, List, ℕ, length, IfOk, OnOk};
 ghost use Rattle.toml_edit_model.specs.Text.{Text};
-ghost use Rattle.toml_edit_model.specs.Scalars as scalars;
 ghost use Rattle.toml_edit_model.specs.Scalars.{Scalar};
 ghost use Rattle.toml_edit_model.specs.Spelling.{Spells};
 ghost use Rattle.toml_edit_model.specs.Syntax as syntax;
 ghost use Rattle.toml_edit_syntax.specs.Events.{IsSpanOf};
-ghost use Rattle.toml_edit_token.specs.Decoded.{IsSpelling};
 ghost use Rattle.toml_edit_parser.specs.ScalarRead.{PutsScalar, ReadsScalar};
 ghost use Rattle.toml_edit_parser.specs.ValueRead.{AreIn, PutsValue, ReadsValue, IfValueNext, Leaves, LeavesBeside};
 ghost use Rattle.toml_edit_tree.specs.View.{item_view, value_view};
@@ -22,8 +20,7 @@ use std::mem;
 use toml_edit_error::ParseFault;
 use toml_edit_repr::{Decor, Formatted};
 use toml_edit_syntax::{Event, EventKind, Span, text_at};
-use toml_edit_token::run::{first_byte, is_word};
-use toml_edit_token::{decode_integer, decode_scalar, range_message};
+use toml_edit_token::{decode_integer, decode_other, decode_scalar, range_message};
 use toml_edit_tree::{Item, Value};
 
 /// Reads the value at the front, with its decor unset. Returns it with the rest of the events.
@@ -114,12 +111,12 @@ fn put_scalar(reader: &Reader<'_>, span: Span, item: &mut Item) -> Result<(), Pa
 {
     let text = text_at(reader.source, span);
     let decor = Decor::default();
-    if let Some(number) = integer_of(text) {
+    if let Some(number) = decode_integer(text) {
         let value = Value::Integer(Formatted::spanned(number, span.start, span.end, decor));
         put(item, Item::Value(value));
         return Ok(());
     }
-    match decode_scalar(reader.alloc, text)? {
+    match decode_other(reader.alloc, text)? {
         Some(scalar) => {
             let value = Value::spanned(scalar, span.start, span.end, decor);
             put(item, Item::Value(value));
@@ -142,19 +139,6 @@ pub(crate) fn read_scalar(reader: &Reader<'_>, span: Span) -> Result<Value, Pars
     match decode_scalar(reader.alloc, text)? {
         Some(scalar) => Ok(Value::spanned(scalar, span.start, span.end, Decor::default())),
         None => Err(refusal_with(reader, range_message(text), span)),
-    }
-}
-
-/// Returns the integer that the text spells, if it is one. Looks no further where a quote is first.
-#[inline(always)]
-pub(crate) fn integer_of(text: &str) -> Option<i64>
-    ensures found { IfSome result (λ z. IsSpelling text.now (scalars.integer z)) }
-    ensures only { IfSome result (λ z. (s : Scalar) → Spells s text.now → s ≡ scalars.integer z) }
-{
-    if is_word(first_byte(text)) {
-        decode_integer(text)
-    } else {
-        None
     }
 }
 

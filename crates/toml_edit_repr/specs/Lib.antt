@@ -4,7 +4,6 @@ pub mod Modes
 pub mod Sameness
 pub mod SamenessLaws
 pub mod Shown
-pub mod NameView
 pub mod LendingParts
 pub mod Comments
 pub mod CommentsLeft

@@ -1,5 +1,5 @@
 -- When texts, decors and scalars are equal, and what a hash takes in of them.
-use Rattle.std.specs.Prelude.{ℕ, Bool, false, ◌&&◌, ◌==◌, List, ◌++◌, Option}
+use Rattle.std.specs.Prelude.{ℕ, Bool, ◌&&◌, List, ◌++◌, Option}
 use Rattle.std.specs.Option.{option_eq}
 use Rattle.std.specs.Hash as fed
 use Rattle.toml_edit_model.specs.Tree.{Raw, Decor}

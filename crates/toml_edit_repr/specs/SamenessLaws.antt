@@ -3,14 +3,13 @@ use Rattle.std.specs.Prelude.{◌≡◌, Bool, true, ℕ, IsTrue, List, Option, 
 use Rattle.std.specs.Bool.{Decides}
 use Rattle.std.specs.Cmp.{IsEquivalence, IsPartialEquivalence, partial_equiv_from_equiv, on_equiv, on_per, and_equiv, and_per}
 use Rattle.std.specs.Hash.{Alike, same_Alike, on_Alike, and-Alike}
-use Rattle.std.proofs.Common.{refl, ap, sym, ◌∙◌}
+use Rattle.std.proofs.Common.{refl, ap, ◌∙◌}
 use Rattle.std.proofs.lemmas.Bool.{and_parts}
 use Rattle.toml_edit_model.specs.Tree.{Raw, Decor}
 pub use Rattle.toml_edit_text.specs.RawTextLaws.{same_raw_equiv, same_raw_partial_equiv, raw_hash_respects}
 use Rattle.toml_edit_text.specs.RawTextLaws.{decides, equivalence, same_raw_exact, same_raw_itself}
 use Rattle.toml_edit_repr.specs.Views.{FormattedView}
-use Rattle.toml_edit_repr.specs.Sameness.{same_raw, same_side, same_decor, same_formatted, raw_hash_input, side_hash_input}
-use Rattle.toml_edit_repr.specs.Sameness.{decor_hash_input, formatted_hash_input}
+use Rattle.toml_edit_repr.specs.Sameness.{same_side, same_decor, same_formatted, side_hash_input, decor_hash_input, formatted_hash_input}
 
 -- ---- sides
 

@@ -6,14 +6,12 @@
 
 pub mod comments;
 pub mod float_datetime;
-pub mod internal_string;
 pub mod mode;
 pub mod repr;
 pub mod string_integer_boolean;
 pub mod write;
 
 pub use comments::{CommentFault, Comments};
-pub use internal_string::InternalString;
 pub use mode::Mode;
 pub use repr::{Decor, Formatted, Repr, ScalarValue, ValueRepr};
 pub use toml_edit_text::{Mem, RawString};

@@ -271,6 +271,19 @@ impl Decor {
         self.prefix.despan(alloc, source)?;
         self.suffix.despan(alloc, source)
     }
+
+    /// Copies the texts that are parts of a document's source, so that it does not keep the source.
+    ///
+    /// # Errors
+    ///
+    /// Returns an `AllocError` if out of memory, and then keeps the source.
+    #[doc(hidden)]
+    pub fn detach(&mut self, alloc: Global) -> Mem<()>
+        ensures { self.new ≡ self.old }
+    {
+        self.prefix.detach(alloc)?;
+        self.suffix.detach(alloc)
+    }
 }
 
 /// Writes the sides as options, as they are read, and not as they are kept.
@@ -337,7 +350,8 @@ impl Hash for Decor {
 /// # Errors
 ///
 /// Fails if memory runs out, and then leaves the spelling as it was.
-fn despan_spelling(alloc: Global, repr: &mut Option<Repr>, source: &SharedText) -> Mem<()>
+#[doc(hidden)]
+pub fn despan_spelling(alloc: Global, repr: &mut Option<Repr>, source: &SharedText) -> Mem<()>
     requires { OptionFits source.now repr.old }
     ensures ok { OnOk result (repr.new ≡ option_map (owned_raw source.now) repr.old) }
     ensures err { OnErr result (repr.new ≡ repr.old) }
@@ -348,12 +362,28 @@ fn despan_spelling(alloc: Global, repr: &mut Option<Repr>, source: &SharedText) 
     }
 }
 
+/// Copies the spelling, if it is a part of a document's source, so that it does not keep the source.
+///
+/// # Errors
+///
+/// Returns an `AllocError` if out of memory, and then keeps the source.
+#[doc(hidden)]
+pub fn detach_spelling(alloc: Global, repr: &mut Option<Repr>) -> Mem<()>
+    ensures { repr.new ≡ repr.old }
+{
+    match repr {
+        None => Ok(()),
+        Some(repr) => repr.detach(alloc),
+    }
+}
+
 /// Returns an equal copy of the spelling, if there is one.
 ///
 /// # Errors
 ///
 /// Returns an `AllocError` if out of memory.
-fn clone_spelling(alloc: Global, repr: &Option<Repr>) -> Mem<Option<Repr>>
+#[doc(hidden)]
+pub fn clone_spelling(alloc: Global, repr: &Option<Repr>) -> Mem<Option<Repr>>
     ensures { IfOk result (λ copy. copy ≡ repr.now) }
 {
     match repr {
@@ -585,8 +615,7 @@ impl<T: ValueRepr> Formatted<T> {
 
     /// Makes a scalar that was parsed, spelled by the bytes of the source from `start` up to `end`.
     pub fn spanned(value: T, start: usize, end: usize, decor: Decor) -> Formatted<T>
-        requires start { start < 2 ^ 32 }
-        requires end { end < 2 ^ 32 }
+        requires { start < 2 ^ 56 }
         ensures { result ≡ record { value = value; repr = Some (span start end); decor = decor } }
     {
         Formatted {
@@ -733,5 +762,18 @@ impl<T: ValueRepr> Formatted<T> {
     {
         despan_spelling(alloc, &mut self.repr, source)?;
         self.decor.despan(alloc, source)
+    }
+
+    /// Copies the texts that are parts of a document's source, so that it does not keep the source.
+    ///
+    /// # Errors
+    ///
+    /// Returns an `AllocError` if out of memory, and then keeps the source.
+    #[doc(hidden)]
+    pub fn detach(&mut self, alloc: Global) -> Mem<()>
+        ensures { self.new ≡ self.old }
+    {
+        detach_spelling(alloc, &mut self.repr)?;
+        self.decor.detach(alloc)
     }
 }

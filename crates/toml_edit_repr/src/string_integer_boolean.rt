@@ -6,7 +6,6 @@ ghost use Rattle.toml_edit_model.specs.Scalars.{integer};
 ghost use Rattle.toml_edit_model.specs.Spelling.{SpellsInRange};
 ghost use Rattle.toml_edit_model.specs.Tree.{owned};
 
-use crate::internal_string::InternalString;
 use crate::repr::{Repr, ScalarValue, ValueRepr, default_repr_of};
 use itoa::Buffer;
 use std::alloc::Global;
@@ -34,33 +33,6 @@ impl ValueRepr for String {
     ghost use Rattle.toml_edit_model.specs.Spelling.{SpellsInRange};
 
     ghost spells = { λ t value. SpellsInRange (string (string_bytes value)) t };
-
-    ghost spells_scalar = { λ t x. (λ spelled. spelled, λ spelled. spelled) };
-
-    fn to_repr(&self, alloc: Global) -> Mem<Repr> {
-        default_repr_of(alloc, self)
-    }
-}
-
-impl ScalarValue for InternalString {
-    ghost use Rattle.toml_edit_model.specs.Scalars.{string};
-
-    ghost scalar = { λ value. string value };
-
-    fn put_default<S: Sink>(&self, out: &mut S) {
-        put_string(out, self.as_str())
-    }
-
-    fn copy(&self, alloc: Global) -> Mem<InternalString> {
-        self.clone(alloc)
-    }
-}
-
-impl ValueRepr for InternalString {
-    ghost use Rattle.toml_edit_model.specs.Scalars.{string};
-    ghost use Rattle.toml_edit_model.specs.Spelling.{SpellsInRange};
-
-    ghost spells = { λ t value. SpellsInRange (string value) t };
 
     ghost spells_scalar = { λ t x. (λ spelled. spelled, λ spelled. spelled) };
 

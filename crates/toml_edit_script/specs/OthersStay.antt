@@ -25,7 +25,7 @@ use Rattle.toml_edit_script.specs.Effects.{changed_below, headed}
 use Rattle.toml_edit_script.specs.Elements.{inserted, is_tables_at}
 use Rattle.toml_edit_script.specs.FirstTable.{tabled}
 use Rattle.toml_edit_script.specs.Lists.{applied, effect}
-use Rattle.toml_edit_script.specs.Places.{place_of}
+use Rattle.toml_edit_edit_laws.specs.Places.{place_of}
 use Rattle.toml_edit_script.specs.declared.edit.Edit.{Edit}
 use Rattle.toml_edit_script.specs.declared.edit.Edit.TheVariants as edits
 use Rattle.toml_edit_script.specs.declared.fault.EditFault.{EditFault}

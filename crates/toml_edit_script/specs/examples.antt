@@ -1,4 +1,3 @@
 -- Worked examples.
 pub mod Elements
 pub mod OthersStay
-pub mod Places

@@ -1,6 +1,6 @@
 -- Slots that are kept, and slots in another order.
 use Rattle.std.proofs.Common.{◌≡◌, ℕ, suc, ◌≤◌, Bool, true, false, cond, List, [], ◌∷◌, Option, Some, None, option_map, is_some, length}
-use Rattle.std.proofs.Common.{refl, sym, ◌∙◌, inl, inr, arith, IsPermutation}
+use Rattle.std.proofs.Common.{refl, sym, ap, ◌∙◌, inl, inr, arith, IsPermutation}
 use Rattle.std.proofs.lemmas.Bool.{cases_Bool, false≢true}
 use Rattle.std.proofs.lemmas.Cmp.{nat_list_eq_equiv}
 use Rattle.std.proofs.lemmas.List.Sorted.{IsPermutation-map, length_permutation, list_any-IsPermutation}
@@ -13,8 +13,7 @@ use Rattle.toml_edit_slots.specs.declared.slots.Slot.{Slot}
 use Rattle.toml_edit_slots.specs.Slots.{AreApart, is_at, names, place, place_in}
 use Rattle.toml_edit_slots.specs.SlotIndex.{HasRoom, IsIndex, IsIndexed, MayIndex}
 use Rattle.toml_edit_slots.specs.declared.index.Index.{Index}
-use Rattle.toml_edit_slots.specs.declared.index.Index.TheVariants.{Chained, Sorted}
-use Rattle.toml_edit_slots.proofs.ChainLaws.{places-texts}
+use Rattle.toml_edit_slots.specs.declared.index.Index.TheVariants.{Hashed, Sorted}
 use Rattle.toml_edit_slots.proofs.IndexLaws.{place_in-is, some_after, some_place}
 use Rattle.toml_edit_slots.proofs.PlacesLaws.{texts-among}
 
@@ -29,7 +28,7 @@ is_some_then (Some k) h = (k, refl)
 -- an index of some texts has room for others among them
 pub has_room : (x : Index) (us vs : List Text) → IsIndex x us → length vs ≤ length us
     → ((t : Text) → is_some (place_in t vs) ≡ true → is_some (place_in t us) ≡ true) → HasRoom x vs
-has_room (Chained m) us vs is long among = (is.0.0, is.0.1, omega (arith, long, places-texts m us is))
+has_room (Hashed m) us vs is long among = λ t there. ap is_some (is t) ∙ among t there
 has_room (Sorted m) us vs is long among =
     texts-among us vs m is (λ k t there.
     let place = is_some_then (place_in t us) (among t (some_place vs k t t there (nat_list_eq_equiv.refl t))) in

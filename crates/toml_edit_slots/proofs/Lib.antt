@@ -1,5 +1,5 @@
 -- Lemmas of this crate.
-pub mod ChainLaws
+pub mod HashedLaws
 pub mod IndexLaws
 pub mod PlacesLaws
 pub mod NewLaws

@@ -9,7 +9,7 @@ use Rattle.toml_edit_model.specs.Tree.{Key}
 use Rattle.toml_edit_model.specs.Slots as model
 use Rattle.toml_edit_laws.proofs.slots.Places.{none_at, put-at, put-new, without-at, without-none}
 use Rattle.toml_edit_slots.specs.declared.slots.Slot.{Slot}
-use Rattle.toml_edit_slots.specs.Slots.{AreApart, is_at, names, place, lookup, lookup_slot, put, without}
+use Rattle.toml_edit_slots.specs.Slots.{AreApart, is_at, names, place, lookup, lookup_slot, put, without, with_item}
 use Rattle.toml_edit_slots.specs.Seen.{pair_seen, seen, slot_seen}
 use Rattle.toml_edit_model.specs.Keys.{new_key}
 use Rattle.toml_edit_slots.proofs.SlotLaws.{none_named, place-position, put-absent, put-present}

@@ -1,5 +1,5 @@
 -- What a place says of the slots: its slot, and the slots once that one is another or gone.
-use Rattle.std.proofs.Common.{◌≡◌, Result, Ok, Err, OnOk, ℕ, zero, suc, ◌<◌, true, false, List, [], ◌∷◌, ◌++◌, Option}
+use Rattle.std.proofs.Common.{◌≡◌, Result, Ok, Err, OnOk, ℕ, zero, suc, ◌+◌, ◌<◌, true, false, List, [], ◌∷◌, ◌++◌, Option}
 use Rattle.std.proofs.Common.{Some, None, IfSome, option_map, length, get_or, set, remove, refl, sym, ap, subst, ◌∙◌, inl, inr, arith}
 use Rattle.std.proofs.Common.{rules, position, slice_get, take, option_and_then}
 use Rattle.std.proofs.lemmas.Bool.{cases_Bool}

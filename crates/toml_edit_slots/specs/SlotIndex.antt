@@ -7,10 +7,10 @@ use Rattle.std.specs.Hash.DefaultHasher.{initial, write, finish}
 use Rattle.std.specs.Option.{option_map_or, option_or}
 use Rattle.std.specs.Ordering.{nat_cmp}
 use Rattle.toml_edit_model.specs.Text.{Text, same_text}
-use Rattle.toml_edit_slots.specs.Chains.{HasPlaces, IsChained}
+use Rattle.toml_edit_slots.specs.Hashed.{HasNames, IsHashed}
 use Rattle.toml_edit_slots.specs.Slots.{place_in}
 use Rattle.toml_edit_slots.specs.declared.index.Index.{Index}
-use Rattle.toml_edit_slots.specs.declared.index.Index.TheVariants.{Chained, Sorted}
+use Rattle.toml_edit_slots.specs.declared.index.Index.TheVariants.{Hashed, Sorted}
 use Rattle.toml_edit_slots.specs.declared.places.Places.{Places}
 
 -- the second hash of the text; nothing is proved of it but that equal texts have one
@@ -70,9 +70,9 @@ pub record HasTexts (m : Places) (us : List Text) : Type 0 where
   pub apart : (j k : ℕ) (t u : Text) → slice_get us j ≡ Some t → slice_get us k ≡ Some u
       → same_text u t ≡ false → AreNotedApart m t u
 
--- the index is that of these texts: in chains or in trees
+-- the index is that of these texts: in a map or in trees
 abbrev pub IsIndex : Index → List Text → Type 0
-IsIndex (Chained m) us = IsChained m us
+IsIndex (Hashed m) us = IsHashed m us
 IsIndex (Sorted m) us = IsIndexOf m us
 
 -- the index of these texts, or none where they are at most eight
@@ -82,12 +82,8 @@ IsIndexed (Some m) us = IsIndex m.value us
 
 -- the index can be made that of these texts in place
 abbrev pub HasRoom : Index → List Text → Type 0
-HasRoom (Chained m) us = HasPlaces m (length us)
+HasRoom (Hashed m) us = HasNames m us
 HasRoom (Sorted m) us = HasTexts m us
-
--- the same, once the text is in the place of any of these
-abbrev pub HasRoomRenamed : Index → Text → List Text → Type 0
-HasRoomRenamed x t us = (k : ℕ) → HasRoom x (slice_set us k t)
 
 -- such an index, or none
 abbrev pub MayIndex : Option (Box Index) → List Text → Type 0

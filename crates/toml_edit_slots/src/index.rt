@@ -1,10 +1,19 @@
 //! The index of a table's slots: from the name of each key to the place of its slot.
+//!
+//! It is an `IndexMap`. A name is in it with a place exactly where the slot at that place has the
+//! name; the map's own order has no meaning. A table of few slots has no index.
+//!
+//! The map's hash is known to all, so a document can have keys that were chosen against it: the search
+//! for each begins at the same point of the map, and passes those before it. A count tells them: more
+//! names begin their search in one region of the map than chance brings there. Trees then take over
+//! from the map; in them a search takes logarithmic time, whatever the names are.
 ghost use Rattle.std.specs.Prelude.{◌≡◌, ◌<◌, ◌≤◌, ◌++◌, ◌∷◌, [], None, Some, is_some, length, position, remove, IfOk, OnOk, OnErr};
 ghost use Rattle.toml_edit_model.specs.Text.{Text};
 ghost use Rattle.toml_edit_slots.specs.Slots.{AreApart, is_at, names, place, place_in};
-ghost use Rattle.toml_edit_slots.specs.SlotIndex.{HasRoom, HasRoomRenamed, IsIndex, IsIndexed, IsIndexOf, IsRightBefore, HasTexts, MayIndex, MayIndexRenamed, with_text};
+ghost use Rattle.toml_edit_slots.specs.Hashed.{HasNames, IsHashed, IsHashedBefore, place_of};
+ghost use Rattle.toml_edit_slots.specs.SlotIndex.{HasRoom, IsIndex, IsIndexed, IsIndexOf, IsRightBefore, HasTexts, MayIndex, MayIndexRenamed, with_text};
 
-use crate::chains::{Chains, Full};
+use crate::hashed::{Full, Hashed};
 use crate::places::Places;
 use crate::slots::Slot;
 use std::alloc::{AllocError, Global};
@@ -16,10 +25,10 @@ const FEW: usize = 8;
 /// The index of a table's slots.
 #[derive(Debug, Drop)]
 pub(crate) enum Index {
-    /// Finds a place by a hash of the name, in a chain.
-    Chained(Chains),
-    /// Finds a place by a second hash of the name, in a tree. Replaces the chains once too many
-    /// names are in one of them.
+    /// Finds a place by the name, in a map.
+    Hashed(Hashed),
+    /// Finds a place by a second hash of the name, in a tree. Replaces the map once too many names
+    /// begin their search in one region of it.
     Sorted(Places),
 }
 
@@ -47,7 +56,7 @@ fn find_in<T>(index: &Index, entries: &[Slot<T>], name: &str) -> Option<usize>
     ensures { result ≡ place name.now entries.now }
 {
     match index {
-        Index::Chained(chains) => chains.find(entries, name),
+        Index::Hashed(hashed) => hashed.get(name),
         Index::Sorted(places) => places.find(entries, name),
     }
 }
@@ -99,7 +108,7 @@ fn index_with<T>(alloc: Global, entries: &[Slot<T>], room: usize, name: &str) ->
     requires new { place name.now entries.now ≡ None }
     ensures { IfOk result (λ index. IsIndex index.value (names entries.now ++ name.now ∷ [])) }
 {
-    let mut index = Index::Chained(Chains::new(alloc, room)?);
+    let mut index = Index::Hashed(Hashed::new(alloc));
     for at in 0..entries.len() {
         let before = &entries[..at];
         put_new_place(&mut index, alloc, before, room, entries[at].key.get())?;
@@ -125,15 +134,21 @@ fn put_new_place<T>(
     ensures err { OnErr result (IsIndex index.new (names entries.now)) }
 {
     match index {
-        Index::Chained(chains) => match chains.add(entries, room, name) {
-            Ok(there) => Ok(there),
-            Err(full) => put_elsewhere(index, alloc, entries, name, full),
-        },
+        Index::Hashed(hashed) => {
+            match hashed.insert(alloc, name, entries.len(), room) {
+                Ok(None) => Ok(None),
+                Ok(Some(there)) => {
+                    hashed.set(name, there);
+                    Ok(Some(there))
+                }
+                Err(full) => put_elsewhere(index, alloc, entries, name, full),
+            }
+        }
         Index::Sorted(places) => places.add(alloc, entries, name),
     }
 }
 
-/// Does what `put_new_place` does, in chains that could not take the name.
+/// Does what `put_new_place` does, in a map that could not take the name.
 #[cold]
 #[inline(never)]
 fn put_elsewhere<T>(
@@ -205,7 +220,10 @@ fn close_in<T>(index: &mut Index, entries: &[Slot<T>], name: &str, gap: usize)
     ensures { IsIndex index.new (remove (names entries.now) gap) }
 {
     match index {
-        Index::Chained(chains) => chains.close(gap),
+        Index::Hashed(hashed) => {
+            hashed.remove(name);
+            move_all_down(hashed, entries, gap);
+        }
         Index::Sorted(places) => {
             places.remove(name);
             move_down(places, entries, gap);
@@ -226,6 +244,20 @@ fn move_down<T>(places: &mut Places, entries: &[Slot<T>], gap: usize)
     }
 }
 
+/// Moves the places in a map after the gap down by one. They are of all names but the one at the gap.
+fn move_all_down<T>(hashed: &mut Hashed, entries: &[Slot<T>], gap: usize)
+    requires apart { AreApart entries.now }
+    requires gap { gap < length entries.now }
+    requires names { (t : Text) → is_some (place_of hashed.old t)
+        ≡ is_some (place_in t (remove (names entries.now) gap)) }
+    requires before { IsHashedBefore gap hashed.old (remove (names entries.now) gap) }
+    ensures { IsHashed hashed.new (remove (names entries.now) gap) }
+{
+    for at in gap + 1..entries.len() {
+        hashed.set(entries[at].key.get(), at - 1);
+    }
+}
+
 /// Adds a new name, which one of these slots is about to get. Fails only if memory runs out; the
 /// index then stays as it was.
 pub(crate) fn add_name<T>(
@@ -241,41 +273,9 @@ pub(crate) fn add_name<T>(
     ensures err { OnErr result (IsIndexed index.new (names entries.now)) }
 {
     if let Some(index) = index {
-        add_name_in(index, alloc, entries, name)?;
+        put_new_place(index, alloc, entries, entries.len(), name)?;
     }
     Ok(())
-}
-
-/// Does what `add_name` does, in an index. Chains take the name once a slot has it.
-fn add_name_in<T>(index: &mut Index, alloc: Global, entries: &[Slot<T>], name: &str) -> Mem<()>
-    requires apart { AreApart entries.now }
-    requires indexed { IsIndex index.old (names entries.now) }
-    requires new { place name.now entries.now ≡ None }
-    ensures ok { OnOk result (HasRoomRenamed index.new name.now (names entries.now)) }
-    ensures err { OnErr result (IsIndex index.new (names entries.now)) }
-{
-    if is_crowded(index, entries, name) {
-        *index = Index::Sorted(places_with(alloc, entries, name)?);
-        return Ok(());
-    }
-    match index {
-        Index::Chained(_) => {}
-        Index::Sorted(places) => {
-            places.add(alloc, entries, name)?;
-        }
-    }
-    Ok(())
-}
-
-/// Returns `true` if the name would be one too many in a chain.
-fn is_crowded<T>(index: &Index, entries: &[Slot<T>], name: &str) -> bool
-    requires apart { AreApart entries.now }
-    requires indexed { IsIndex index.now (names entries.now) }
-{
-    match index {
-        Index::Chained(chains) => chains.is_crowded(entries, name),
-        Index::Sorted(_) => false,
-    }
 }
 
 /// Updates the index after its slots were moved or renamed, or some of them removed. Allocates
@@ -297,7 +297,10 @@ fn index_anew<T>(index: &mut Index, entries: &[Slot<T>])
     ensures { IsIndex index.new (names entries.now) }
 {
     match index {
-        Index::Chained(chains) => chains.take(entries),
+        Index::Hashed(hashed) => {
+            number_all(hashed, entries);
+            hashed.drop_others(entries);
+        }
         Index::Sorted(places) => {
             renumber(places, entries);
             places.drop_others(entries);
@@ -313,5 +316,16 @@ fn renumber<T>(places: &mut Places, entries: &[Slot<T>])
 {
     for at in 0..entries.len() {
         places.set(entries[at].key.get(), at);
+    }
+}
+
+/// Gives each name of these slots its present place in a map.
+fn number_all<T>(hashed: &mut Hashed, entries: &[Slot<T>])
+    requires apart { AreApart entries.now }
+    requires named { HasNames hashed.old (names entries.now) }
+    ensures { IsHashedBefore (length entries.now) hashed.new (names entries.now) }
+{
+    for at in 0..entries.len() {
+        hashed.set(entries[at].key.get(), at);
     }
 }

@@ -506,6 +506,7 @@ impl<T> Slots<T> {
     ///
     /// Fails only if memory runs out. Some of the spans may then be left, and the whole document
     /// must be dropped.
+    #[doc(hidden)]
     pub fn despan_key(&mut self, at: usize, alloc: Global, source: &SharedText) -> Mem<()>
         requires at { at < length self.old }
         requires fits { ForSome (slice_get self.old at) (λ slot. KeyFits source.now slot.key) }
@@ -517,6 +518,21 @@ impl<T> Slots<T> {
     {
         let spanned = &mut self.entries[at];
         spanned.key.despan(alloc, source)
+    }
+
+    /// Copies the texts of the key at the place that are parts of a document's source, so that it does
+    /// not keep the source.
+    ///
+    /// # Errors
+    ///
+    /// Returns an `AllocError` if out of memory, and then may keep the source.
+    #[doc(hidden)]
+    pub fn detach_key(&mut self, at: usize, alloc: Global) -> Mem<()>
+        requires { at < length self.old }
+        ensures { self.new ≡ self.old }
+    {
+        let slot = &mut self.entries[at];
+        slot.key.detach(alloc)
     }
 
     /// Returns a mutable reference to the decor that the key at the place has as the last key of a

@@ -1,7 +1,7 @@
 //! Texts of two words: a short one is stored in place, a long one is a part of a text that is held
-//! in common, or in a block of its own size.
+//! in common, in a block of its own size, or in the `String` that it was made of.
 //!
-//! This is the only crate with `unsafe` code. A `String` takes three words, as it has room to grow.
+//! This is the only crate with raw pointers. A `String` takes three words, as it has room to grow.
 #![tactic(auto)]
 
 mod block;

@@ -1,6 +1,8 @@
 //! Texts and spans of two words.
-ghost use Rattle.std.specs.Prelude.{◌≡◌, ◌↔◌, ◌<◌, ◌^◌, [], IsTrue, IsOk, IfOk, OnOk, OnErr, string_bytes, string_len};
+ghost use Rattle.std.specs.Prelude.{◌≡◌, ◌↔◌, ◌<◌, ◌^◌, [], IsTrue, IsOk, IfOk, IfErr, OnOk, OnErr, string_bytes, string_len};
+ghost use Rattle.toml_edit_text.specs.Form.{joined};
 ghost use Rattle.std.specs.Option.{option_copied};
+ghost use Rattle.toml_edit_text.specs.RawView.{IsSet};
 ghost use Rattle.toml_edit_text.specs.Packed.{held, span, unset, text_of, span_of, part, IsPart, LiesIn, despanned, is_short, is_free};
 
 use crate::block::Block;
@@ -14,7 +16,7 @@ use std::marker::Model;
 use std::mem::size_of;
 use std::sync::Arc;
 
-/// The forms. Lengths and places in a source are of 32 bits, so that each takes two words.
+/// The forms. Each takes two words, with 7 bytes beside the mark of the form and a word.
 enum Form {
     // Neither a text nor a span.
     Unset,
@@ -23,9 +25,12 @@ enum Form {
     // A part of a text that is held in common: its length, and where it begins.
     Part(u16, u32, Arc<String>),
     Long(u32, Block),
-    // The text of a `String`, if there was no memory for a block of its size.
-    Kept(u32, Leaked),
-    Span(u32, u32),
+    // A text of a `String`, or of 4 GiB and more.
+    Whole(Box<String>),
+    // The text of a `String`, if there was no memory for its box: the parts of its length.
+    Kept(u8, u16, u32, Leaked),
+    // The parts of where it begins, and where it ends.
+    Span(u8, u16, u32, usize),
 }
 
 const _: () = prove!(size_of::<PackedText>() == 16);
@@ -43,9 +48,10 @@ impl Drop for PackedText {
     fn drop(self) {
         let PackedText { form } = self;
         match form {
-            Form::Unset | Form::Short(_) | Form::Kept(_, _) | Form::Span(_, _) => {}
+            Form::Unset | Form::Short(_) | Form::Kept(_, _, _, _) | Form::Span(_, _, _, _) => {}
             Form::Part(_, _, source) => drop(source),
             Form::Long(len, block) => block.free(len as usize),
+            Form::Whole(text) => drop(text),
         }
     }
 }
@@ -60,6 +66,26 @@ impl Model for PackedText {
     ghost view = { λ a. packed_view a.form };
 
     ghost invariant = { λ a. IsWhole a.form };
+}
+
+/// Returns the parts of a length or a place.
+#[inline(always)]
+fn split(number: usize) -> (u8, u16, u32)
+    requires { number < 2 ^ 56 }
+    ensures { joined result.0 result.1 result.2 ≡ number }
+{
+    let low = (number & 0xffff_ffff) as u32;
+    let middle = (number >> 32 & 0xffff) as u16;
+    let high = (number >> 48) as u8;
+    (high, middle, low)
+}
+
+/// Returns the length or the place that has these parts.
+#[inline(always)]
+fn join(high: u8, middle: u16, low: u32) -> usize
+    ensures { result ≡ joined high middle low }
+{
+    (high as usize) << 48 | (middle as usize) << 32 | low as usize
 }
 
 impl PackedText {
@@ -81,15 +107,15 @@ impl PackedText {
         PackedText { form: Form::Unset }
     }
 
-    /// Makes a span from `start` up to `end`, which are below 4 GiB.
+    /// Makes a span from `start` up to `end`.
     #[inline(always)]
     pub fn from_span(start: usize, end: usize) -> PackedText
-        requires start { start < 2 ^ 32 }
-        requires end { end < 2 ^ 32 }
+        requires { start < 2 ^ 56 }
         ensures { result ≡ span start end }
     {
+        let (high, middle, low) = split(start);
         PackedText {
-            form: Form::Span(start as u32, end as u32),
+            form: Form::Span(high, middle, low, end),
         }
     }
 
@@ -97,8 +123,7 @@ impl PackedText {
     ///
     /// # Errors
     ///
-    /// Returns an `AllocError` if out of memory, or if the text takes 4 GiB or more. A text of at
-    /// most 14 bytes takes none.
+    /// Returns an `AllocError` if out of memory. A text of at most 14 bytes takes none.
     #[inline(always)]
     pub fn from_text(alloc: Global, text: &str) -> Result<PackedText, AllocError>
         ensures ok { IfOk result (λ packed. packed ≡ held text.now) }
@@ -119,7 +144,7 @@ impl PackedText {
     {
         let len = text.len();
         if len > u32::MAX as usize {
-            return Err(AllocError);
+            return PackedText::from_string(String::from_str(alloc, text)?);
         }
         let block = Block::from_text(alloc, text)?;
         Ok(PackedText {
@@ -127,64 +152,76 @@ impl PackedText {
         })
     }
 
-    /// Makes it of the text of the string.
-    ///
-    /// A long text is copied into a block of its own size. If there is no memory for that, it stays
-    /// where it is, and is never freed.
+    /// Makes it of the text of the string, which is not copied if it is long.
     ///
     /// # Errors
     ///
-    /// Returns an `AllocError` if the text takes 4 GiB or more.
+    /// Returns an `AllocError` if out of memory, and drops the string. A text of at most 14 bytes
+    /// takes none.
     pub fn from_string(text: String) -> Result<PackedText, AllocError>
         ensures ok { IfOk result (λ packed. packed ≡ held (string_bytes text)) }
-        ensures fits { string_len text < 2 ^ 32 → IsOk result }
+        ensures free { IsTrue (is_short (string_bytes text)) → IsOk result }
     {
-        let alloc = *text.allocator();
-        let len = text.len();
-        match PackedText::from_text(alloc, text.as_str()) {
-            Ok(packed) => {
-                drop(text);
-                Ok(packed)
+        match PackedText::try_string(text) {
+            Ok(packed) => Ok(packed),
+            Err(refused) => {
+                drop(refused);
+                Err(AllocError)
             }
-            Err(error) if len > u32::MAX as usize => Err(error),
-            Err(_) => Ok(PackedText {
-                form: Form::Kept(len as u32, Leaked::new(text)),
-            }),
         }
     }
 
-    /// Makes it of a copy of the text from `start` up to `end`.
-    ///
-    /// # Errors
-    ///
-    /// Returns an `AllocError` if out of memory, or if the text takes 4 GiB or more. A text of at
-    /// most 14 bytes takes none.
-    #[inline(always)]
-    pub fn from_part(
-        alloc: Global,
-        text: &str,
-        start: usize,
-        end: usize,
-    ) -> Result<PackedText, AllocError>
-        requires { IsPart text.now start end }
-        ensures ok { IfOk result (λ packed. packed ≡ held (part text.now start end)) }
-        ensures free { IsTrue (is_short (part text.now start end)) → IsOk result }
+    /// Makes it of the text of the string, or returns the string if memory runs out.
+    fn try_string(text: String) -> Result<PackedText, String>
+        ensures ok { IfOk result (λ packed. packed ≡ held (string_bytes text)) }
+        ensures back { IfErr result (λ refused. refused ≡ text) }
+        ensures free { IsTrue (is_short (string_bytes text)) → IsOk result }
     {
-        match ShortText::from_inner_part(text, start, end) {
-            Some(short) => Ok(PackedText {
+        if let Some(short) = ShortText::from_text(text.as_str()) {
+            drop(text);
+            return Ok(PackedText {
                 form: Form::Short(short),
+            });
+        }
+        let alloc = *text.allocator();
+        match Box::new(alloc, text) {
+            Ok(text) => Ok(PackedText {
+                form: Form::Whole(text),
             }),
-            None => PackedText::from_outer_text(alloc, &text[start..end]),
+            Err(refused) => Err(refused.value),
         }
     }
 
-    /// Makes it of a copy of a text that is long, or near the end of another one.
-    #[inline(never)]
-    fn from_outer_text(alloc: Global, text: &str) -> Result<PackedText, AllocError>
-        ensures ok { IfOk result (λ packed. packed ≡ held text.now) }
-        ensures free { IsTrue (is_short text.now) → IsOk result }
+    /// Makes it of the text of the string, also if memory runs out: a long text is then never freed.
+    ///
+    /// A text of 2^56 bytes, for which there is no memory, would be lost: no machine has as many
+    /// addresses.
+    pub fn of_string(text: String) -> PackedText
+        ensures text { string_len text < 2 ^ 56 → result ≡ held (string_bytes text) }
+        ensures set { IsSet result }
     {
-        PackedText::from_text(alloc, text)
+        match PackedText::try_string(text) {
+            Ok(packed) => packed,
+            Err(refused) => PackedText::keep(refused),
+        }
+    }
+
+    /// Makes it of the text of the string, which is never freed.
+    #[cold]
+    #[inline(never)]
+    fn keep(text: String) -> PackedText
+        ensures text { string_len text < 2 ^ 56 → result ≡ held (string_bytes text) }
+        ensures set { IsSet result }
+    {
+        let len = text.len();
+        if len >> 56 != 0 {
+            drop(text);
+            return PackedText::empty();
+        }
+        let (high, middle, low) = split(len);
+        PackedText {
+            form: Form::Kept(high, middle, low, Leaked::new(text)),
+        }
     }
 
     /// Makes it of a part that is long, or near the end of the source.
@@ -245,8 +282,9 @@ impl PackedText {
             Form::Short(text) => Some(text.as_str()),
             Form::Part(len, start, source) => Some(part_of(source, *start as usize, *len as usize)),
             Form::Long(len, block) => Some(block.read(*len as usize)),
-            Form::Kept(len, text) => Some(text.read(*len as usize)),
-            Form::Unset | Form::Span(_, _) => None,
+            Form::Whole(text) => Some(text.as_str()),
+            Form::Kept(high, middle, low, text) => Some(text.read(join(*high, *middle, *low))),
+            Form::Unset | Form::Span(_, _, _, _) => None,
         }
     }
 
@@ -256,7 +294,7 @@ impl PackedText {
         ensures { result ≡ span_of self.now }
     {
         match &self.form {
-            Form::Span(start, end) => Some((*start as usize, *end as usize)),
+            Form::Span(high, middle, low, end) => Some((join(*high, *middle, *low), *end)),
             _ => None,
         }
     }
@@ -273,13 +311,18 @@ impl PackedText {
     {
         match &self.form {
             Form::Unset => Ok(PackedText::unset()),
-            Form::Span(start, end) => Ok(PackedText::from_span(*start as usize, *end as usize)),
+            Form::Span(high, middle, low, end) => Ok(PackedText {
+                form: Form::Span(*high, *middle, *low, *end),
+            }),
             Form::Short(text) => PackedText::from_text(alloc, text.as_str()),
             Form::Part(len, start, source) => {
                 PackedText::from_text(alloc, part_of(source, *start as usize, *len as usize))
             }
             Form::Long(len, block) => PackedText::from_text(alloc, block.read(*len as usize)),
-            Form::Kept(len, text) => PackedText::from_text(alloc, text.read(*len as usize)),
+            Form::Whole(text) => PackedText::from_text(alloc, text.as_str()),
+            Form::Kept(high, middle, low, text) => {
+                PackedText::from_text(alloc, text.read(join(*high, *middle, *low)))
+            }
         }
     }
 

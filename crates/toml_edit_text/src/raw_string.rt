@@ -78,8 +78,7 @@ impl RawString {
     ///
     /// # Errors
     ///
-    /// Returns an `AllocError` if out of memory, or if the text takes 4 GiB or more. A text of at
-    /// most 14 bytes takes none.
+    /// Returns an `AllocError` if out of memory. A text of at most 14 bytes takes none.
     pub fn from_text(alloc: Global, text: &str) -> Mem<RawString>
         ensures ok { IfOk result (λ raw. raw ≡ owned text.now) }
         ensures free { IsTrue (is_short text.now) → IsOk result }
@@ -89,43 +88,27 @@ impl RawString {
         })
     }
 
-    /// Makes a raw text of the string.
+    /// Makes a raw text of the string, which is not copied if it takes more than 14 bytes.
     ///
-    /// A text of more than 14 bytes is copied into a block of its own size. If there is no memory
-    /// for that, it stays in the block of the string, which is never freed then.
+    /// `RawString::from` does the same without an error: where there is no memory for the few bytes
+    /// that this takes, the text is never freed.
     ///
     /// # Errors
     ///
-    /// Returns an `AllocError` if the text takes 4 GiB or more.
+    /// Returns an `AllocError` if out of memory, and drops the string. A text of at most 14 bytes
+    /// takes none.
     pub fn from_string(text: String) -> Mem<RawString>
         ensures ok { IfOk result (λ raw. raw ≡ owned (string_bytes text)) }
-        ensures fits { string_len text < 2 ^ 32 → IsOk result }
+        ensures free { IsTrue (is_short (string_bytes text)) → IsOk result }
     {
         Ok(RawString {
             text: PackedText::from_string(text)?,
         })
     }
 
-    /// Makes a raw text of a copy of the text from `start` up to `end`.
-    ///
-    /// # Errors
-    ///
-    /// Returns an `AllocError` if out of memory, or if the text takes 4 GiB or more.
-    #[doc(hidden)]
-    #[inline(always)]
-    pub fn from_part(alloc: Global, text: &str, start: usize, end: usize) -> Mem<RawString>
-        requires { RawFits text.now (span start end) }
-        ensures { IfOk result (λ raw. raw ≡ owned (cut_out text.now start end)) }
-    {
-        Ok(RawString {
-            text: PackedText::from_part(alloc, text, start, end)?,
-        })
-    }
-
-    /// Makes a span of the bytes of the source from `start` up to `end`, which are below 4 GiB.
+    /// Makes a span of the bytes of the source from `start` up to `end`.
     pub fn from_span(start: usize, end: usize) -> RawString
-        requires start { start < 2 ^ 32 }
-        requires end { end < 2 ^ 32 }
+        requires { start < 2 ^ 56 }
         ensures { result ≡ span start end }
     {
         RawString {
@@ -301,6 +284,17 @@ impl Side {
     {
         self.text.despan(alloc, source)
     }
+
+    /// Copies the text, if it is a part of a document's source, so that it does not keep the source.
+    ///
+    /// # Errors
+    ///
+    /// Returns an `AllocError` if out of memory, and then keeps the source.
+    pub fn detach(&mut self, alloc: Global) -> Mem<()>
+        ensures { self.new ≡ self.old }
+    {
+        self.text.detach(alloc)
+    }
 }
 
 /// Returns the raw text of a side that is set. Both are one packed text.
@@ -322,6 +316,17 @@ fn covered_text(source: &str, start: usize, end: usize) -> Option<&str>
         Some(&source[start..end])
     } else {
         None
+    }
+}
+
+/// Makes a raw text of the string, which is not copied if it takes more than 14 bytes.
+impl From<String> for RawString {
+    ghost from_gives = { λ text raw. string_len text < 2 ^ 56 → raw ≡ owned (string_bytes text) };
+
+    fn from(text: String) -> RawString {
+        RawString {
+            text: PackedText::of_string(text),
+        }
     }
 }
 

@@ -51,6 +51,15 @@ module _ {S : Type 0} (f : S → Text) (t : Text) where
       let (s, is, same) = map_some o f k (e ∙ rw found refl) in
       rw is (sym same)
 
+-- a text that spells a scalar is read whole as that
+scalar_whole : (t : Text) (s : scalars.Scalar) → Spells s t → scalar_at t ≡ Some (s, [])
+scalar_whole t s spells = ap scalar_at (sym (append-nil t)) ∙ scalar_again s t [] spells refl
+
+-- a text that spells a scalar in range is read as that
+pub scalar_known : (t : Text) (s : scalars.Scalar) → IsSpelling t s → ranged t (whole (scalar_at t)) ≡ Some s
+scalar_known t s h =
+    ap (λ (r : Read scalars.Scalar). ranged t (whole r)) (scalar_whole t s h.spells) ∙ ap (λ (b : Bool). cond b (Some s) None) h.in_range
+
 module _ {S : Type 0} (f : S → scalars.Scalar) (t : Text) where
   -- what is left of the range test
   in_range : (o : Option scalars.Scalar) (s : scalars.Scalar) → ranged t o ≡ Some s → (o ≡ Some s) × (is_in_range s t ≡ true)
@@ -72,8 +81,7 @@ module _ {S : Type 0} (f : S → scalars.Scalar) (t : Text) where
   pub scalar_only : (o : Option S) → option_map f o ≡ ranged t (whole (scalar_at t)) → (s : scalars.Scalar) → Spells s t
       → MatchOption o (is_in_range s t ≡ false) (λ x. s ≡ f x)
   scalar_only o e s spells =
-      let found : scalar_at t ≡ Some (s, []) = ap scalar_at (sym (append-nil t)) ∙ scalar_again s t [] spells refl in
-      let known : option_map f o ≡ cond (is_in_range s t) (Some s) None = e ∙ rw found refl in
+      let known : option_map f o ≡ cond (is_in_range s t) (Some s) None = e ∙ rw (scalar_whole t s spells) refl in
       elim (cases_Bool (is_in_range s t)) [
         | inl fits ↦ let (x, is, same) = map_some o f s (known ∙ rw fits refl) in rw is (sym same)
         | inr past ↦ none_known o (known ∙ rw past refl) past

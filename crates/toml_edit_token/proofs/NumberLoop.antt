@@ -2,14 +2,15 @@
 use Rattle.std.proofs.Common.{◌≡◌, ℕ, ◌+◌, ◌-◌, ◌*◌, ◌^◌, ◌<◌, ◌≤◌, Bool, true, false, cond, ◌==◌, ◌&&◌, List, length, get_or, drop, Option, Some}
 use Rattle.std.proofs.Common.{None, is_some, refl, sym, ap, inl, inr, arith, mul-le-mul_left, le_trans, nat_lt, ◌∙◌, eqb-true}
 use Rattle.std.specs.Char.{is_ascii_digit, is_digit, digit_value}
-use Rattle.std.proofs.lemmas.Bool.{eq-eqb, le-ltb, lt-ltb}
+use Rattle.std.proofs.lemmas.Bool.{eq-eqb, le-ltb, lt-ltb, ne_eqb}
 use Rattle.std.proofs.lemmas.Bool.Decides.{nat_tests}
 use Rattle.std.proofs.Math.Nat.{pow-suc, pow-le-pow_right}
 use Rattle.std.proofs.lemmas.List.{drop_more, drop_all}
-use Rattle.toml_edit_laws.specs.reading.Tokens.{digits_at, natural_of, if_below}
+use Rattle.toml_edit_model.specs.Spelling.{signed, unsigned}
+use Rattle.toml_edit_laws.specs.reading.Tokens.{decimal_of, digits_at, if_below, integer_of, natural_of}
 use Rattle.toml_edit_laws.proofs.reading.Steps.{chosen}
 use Rattle.toml_edit_laws.proofs.common.OptionSteps.{guard_read}
-use Rattle.std.specs.Prelude.{[], ◌∷◌}
+use Rattle.std.specs.Prelude.{[], ◌∷◌, option_map}
 
 -- a test of two that do not both hold
 none_of : {A : Type 0} (o : Option A) (a b : Bool) → (a ≡ true → b ≡ true → ⊥) → cond (a && b) o None ≡ None
@@ -121,3 +122,31 @@ decimals-more v i d small few =
 
 pub decimals-fit : (v i n : ℕ) → v < 10 ^ i → i ≤ n → v < 10 ^ n
 decimals-fit v i n small within = omega (arith, small, pow-le-pow_right {n = 10} (omega arith) within)
+
+-- a byte that is no decimal digit
+decimal-bad : (c : ℕ) → is_ascii_digit c ≡ false → is_digit c 10 ≡ false
+decimal-bad c h = grind (arith, nat_tests)
+
+-- a turn at a byte that is neither a decimal digit nor an underscore
+pub other_byte : (n : ℕ) (ds : List ℕ) (i : ℕ) → i < length ds → is_ascii_digit (get_or ds i 0) ≡ false → (get_or ds i 0 ≡ 0x5F → ⊥)
+    → digits_at 10 (nat_lt 0 i) n (drop i ds) ≡ None
+other_byte n ds i within bad other = turn_bad 10 (nat_lt 0 i) n ds i within (decimal-bad (get_or ds i 0) bad) (λ _. other)
+
+-- no decimal digit stands first
+pub no_first : (ds : List ℕ) → is_ascii_digit (get_or ds 0 0) ≡ false → natural_of 10 ds ≡ None
+unfolding digits_at
+no_first [] h = refl
+no_first (c ∷ cs) h = rw (decimal-bad c h) refl
+
+-- there is a first byte, if it is a digit
+pub some_first : (ds : List ℕ) → is_ascii_digit (get_or ds 0 0) ≡ true → 0 < length ds
+some_first [] h = absurd cc
+some_first (c ∷ cs) h = grind arith
+
+-- no integer begins with a byte that is before the signs and the digits
+pub no_integer : (t : List ℕ) → get_or t 0 0 < 0x2B → integer_of t ≡ None
+unfolding integer_of decimal_of
+no_integer t low =
+    let apart : (b : ℕ) → 0x2B ≤ b → (get_or t 0 0 == b) ≡ false = λ b h. ne_eqb (get_or t 0 0) b (λ e. omega (arith, e, low, h)) in
+    let bad : is_ascii_digit (get_or t 0 0) ≡ false = grind (arith, nat_tests) in
+    rw (apart 0x30 (omega arith), apart 0x2B (omega arith), apart 0x2D (omega arith)) (ap (option_map (signed unsigned)) (no_first t bad))

@@ -1,5 +1,5 @@
 //! Decoding the spellings of keys and scalars.
-ghost use Rattle.std.specs.Prelude.{◌≡◌, ℤ, false, None, Some, IfOk, IfSome, IsSomeAnd, MatchOption, option_map, string_bytes, slice_index, codes, bytes_eq};
+ghost use Rattle.std.specs.Prelude.{◌≡◌, ℤ, false, None, Some, IfOk, IfSome, IsSomeAnd, MatchOption, option_map, string_bytes, slice_index};
 ghost use Rattle.toml_edit_laws.specs.reading.Runs.{is_word_byte};
 ghost use Rattle.std.specs.Cow.{cow_str_bytes};
 ghost use Rattle.toml_edit_model.specs.Text.{Text};
@@ -64,6 +64,16 @@ pub fn decode_scalar(alloc: Global, text: &str) -> Result<Option<Scalar>, AllocE
     read_scalar(alloc, text)
 }
 
+/// Does what [`decode_scalar`] does, for a text in which [`decode_integer`] found none.
+pub fn decode_other(alloc: Global, text: &str) -> Result<Option<Scalar>, AllocError>
+    requires no_integer { spec.fitting (spec.integer_of text.now) ≡ None }
+    ensures found { IfOk result (λ o. IfSome o (λ x. IsSpelling text.now (scalar_view x))) }
+    ensures only { IfOk result (λ o. (s : scalars.Scalar) → Spells s text.now
+        → MatchOption o (is_in_range s text.now ≡ false) (λ x. s ≡ scalar_view x)) }
+{
+    read_other(alloc, text)
+}
+
 /// Returns the integer that the text spells, or `None` if it spells none, or one that 64 bits do
 /// not hold.
 pub fn decode_integer(text: &str) -> Option<i64>
@@ -72,6 +82,7 @@ pub fn decode_integer(text: &str) -> Option<i64>
     ensures only { (s : scalars.Scalar) → Spells s text.now
         → MatchOption result ((z : ℤ) → s ≡ scalars.integer z → is_in_range s text.now ≡ false)
         (λ z. s ≡ scalars.integer z) }
+    ensures value { result ≡ spec.fitting (spec.integer_of text.now) }
 {
     number::decode_integer(text.as_bytes())
 }
@@ -113,8 +124,21 @@ fn read_name<'a>(alloc: Global, text: &'a str) -> Result<Option<CowStr<'a>>, All
 }
 
 /// Decodes a text that is a scalar.
-#[tactic(auto, unfolding(toml_edit_laws::specs::reading::ScalarReading::scalar_at))]
 fn read_scalar(alloc: Global, text: &str) -> Result<Option<Scalar>, AllocError>
+    ensures { IfOk result
+        (λ o. option_map scalar_view o
+        ≡ spec.ranged text.now (spec.whole (scalar.scalar_at text.now))) }
+{
+    match decode_integer(text) {
+        Some(integer) => integer_read(integer),
+        None => read_other(alloc, text),
+    }
+}
+
+/// Decodes a text that is a scalar, and no integer in range.
+#[tactic(auto, unfolding(toml_edit_laws::specs::reading::ScalarReading::scalar_at))]
+fn read_other(alloc: Global, text: &str) -> Result<Option<Scalar>, AllocError>
+    requires no_integer { spec.fitting (spec.integer_of text.now) ≡ None }
     ensures { IfOk result
         (λ o. option_map scalar_view o
         ≡ spec.ranged text.now (spec.whole (scalar.scalar_at text.now))) }
@@ -162,42 +186,27 @@ fn boolean_read(boolean: bool) -> Result<Option<Scalar>, AllocError>
     Ok(Some(Scalar::Boolean(boolean)))
 }
 
-/// Decodes a word that is a boolean, a number, a date or a time, if it is in range.
+/// Decodes a word that is a boolean, a float, a date or a time, if it is in range. It is apart from
+/// strings because its locals are large.
+#[inline(never)]
 #[tactic(auto, unfolding(toml_edit_laws::specs::reading::ScalarReading::word_scalar))]
 fn read_word(alloc: Global, word: &str) -> Result<Option<Scalar>, AllocError>
+    requires no_integer { spec.fitting (spec.integer_of word.now) ≡ None }
     ensures { IfOk result
         (λ o. option_map scalar_view o ≡ spec.ranged word.now (scalar.word_scalar word.now)) }
 {
+    if let Some(float) = FloatText::from_text(alloc, word)? {
+        return Ok(Some(Scalar::Float(float)));
+    }
     if word == "true" {
         return boolean_read(true);
     }
     if word == "false" {
         return boolean_read(false);
     }
-    match number::decode_integer(word.as_bytes()) {
-        Some(integer) => integer_read(integer),
-        None => read_other(alloc, word),
-    }
-}
-
-/// Decodes a word that is no boolean and no integer in range. It is apart from those because its
-/// locals are large.
-#[inline(never)]
-#[tactic(auto, unfolding(toml_edit_laws::specs::reading::ScalarReading::word_scalar))]
-fn read_other(alloc: Global, word: &str) -> Result<Option<Scalar>, AllocError>
-    requires not_true { bytes_eq word.now (codes "true") ≡ false }
-    requires not_false { bytes_eq word.now (codes "false") ≡ false }
-    requires no_integer { spec.fitting (spec.integer_of word.now) ≡ None }
-    ensures { IfOk result
-        (λ o. option_map scalar_view o ≡ spec.ranged word.now (scalar.word_scalar word.now)) }
-{
-    if let Some(float) = FloatText::from_text(alloc, word)? {
-        Ok(Some(Scalar::Float(float)))
-    } else {
-        match read_datetime(word) {
-            Some(datetime) => Ok(Some(Scalar::Datetime(datetime))),
-            None => Ok(None),
-        }
+    match read_datetime(word) {
+        Some(datetime) => Ok(Some(Scalar::Datetime(datetime))),
+        None => Ok(None),
     }
 }
 

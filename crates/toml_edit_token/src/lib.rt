@@ -11,7 +11,7 @@ pub mod spelling;
 mod string;
 pub mod token;
 
-pub use decode::{Scalar, decode_integer, decode_key, decode_name, decode_scalar};
+pub use decode::{Scalar, decode_integer, decode_key, decode_name, decode_other, decode_scalar};
 pub use lone::range_message;
 pub use spelling::{put_key, put_string};
 pub use token::{after_key, after_scalar, string_stop};

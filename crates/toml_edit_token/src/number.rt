@@ -1,5 +1,5 @@
 //! Integers, as whole words. (TOML, "Integer".)
-ghost use Rattle.std.specs.Prelude.{◌≡◌, ◌+◌, ◌<◌, ◌≤◌, ◌^◌, Some, true, is_some, option_map, pos, IfSome, IsTrue};
+ghost use Rattle.std.specs.Prelude.{◌≡◌, ◌+◌, ◌<◌, ◌≤◌, ◌^◌, is_some, option_map, pos, IfSome};
 ghost use Rattle.toml_edit_laws.specs.reading.Tokens as spec;
 ghost use Rattle.toml_edit_model.specs.Spelling.{plus, minus, unsigned};
 
@@ -31,15 +31,15 @@ fn leads_with_zero(digits: &[u8]) -> bool
     byte_of(digits, 0) == b'0' && digits.len() > 1
 }
 
-/// Returns `true` if these are decimal digits, without underscores. Most numbers are, and a loop of
-/// no other tests is shorter.
+/// Returns `true` if these are decimal digits, with single underscores between them. Most numbers
+/// have none, and a loop of no other tests is shorter.
 #[inline(always)]
 fn are_digits(digits: &[u8]) -> bool
-    ensures { IsTrue result → is_some (spec.natural_of 10 digits.now) ≡ true }
+    ensures { result ≡ is_some (spec.natural_of 10 digits.now) }
 {
     'digits: for byte in digits {
         if !byte.is_ascii_digit() {
-            return false;
+            return *byte == b'_' && is_natural(digits, 10);
         }
     }
     !digits.is_empty()
@@ -52,7 +52,7 @@ fn is_decimal(digits: &[u8]) -> bool
     ensures minus { result ≡ is_some (spec.decimal_of minus digits.now) }
     ensures unsigned { result ≡ is_some (spec.decimal_of unsigned digits.now) }
 {
-    !leads_with_zero(digits) && (are_digits(digits) || is_natural(digits, 10))
+    !leads_with_zero(digits) && are_digits(digits)
 }
 
 /// Returns `true` if a word spells an integer, however large.
@@ -109,20 +109,29 @@ fn natural_number(digits: &[u8], base: u32, limit: u64) -> Option<u64>
 /// The most decimal digits of a number that is surely in range.
 const MOST_DIGITS: usize = 18;
 
-/// Returns the number that at most 18 decimal digits write, without underscores. Returns `None` for
-/// any other text.
+/// Returns the number that decimal digits write, with single underscores between them, if it is
+/// below the limit. Most numbers are short and have none, and a loop of no other tests is shorter.
 #[inline(always)]
-fn short_number(digits: &[u8]) -> Option<u64>
-    ensures value { IfSome result (λ n. spec.natural_of 10 digits.now ≡ Some n) }
-    ensures below { IfSome result (λ n. n < 10 ^ 18) }
+fn decimal_number(digits: &[u8], limit: u64) -> Option<u64>
+    requires room { 10 ^ 18 ≤ limit }
+    requires limit { limit ≤ 2 ^ 63 + 1 }
+    ensures value { result ≡ spec.if_below limit (spec.natural_of 10 digits.now) }
+    ensures below { IfSome result (λ n. n < limit) }
 {
-    if digits.is_empty() || digits.len() > MOST_DIGITS {
+    if !byte_of(digits, 0).is_ascii_digit() {
         return None;
+    }
+    if digits.len() > MOST_DIGITS {
+        return natural_number(digits, 10, limit);
     }
     let mut value = 0u64;
     'digits: for byte in digits {
         if !byte.is_ascii_digit() {
-            return None;
+            return if *byte == b'_' {
+                natural_number(digits, 10, limit)
+            } else {
+                None
+            };
         }
         value = value * 10 + u64::from(*byte - b'0');
     }
@@ -138,10 +147,7 @@ fn positive_integer(digits: &[u8]) -> Option<i64>
     if leads_with_zero(digits) {
         return None;
     }
-    if let Some(n) = short_number(digits) {
-        return Some(n as i64);
-    }
-    let n = natural_number(digits, 10, 1 << 63)?;
+    let n = decimal_number(digits, 1 << 63)?;
     Some(n as i64)
 }
 
@@ -153,7 +159,7 @@ fn negative_integer(digits: &[u8]) -> Option<i64>
     if leads_with_zero(digits) {
         return None;
     }
-    let n = natural_number(digits, 10, (1 << 63) + 1)?;
+    let n = decimal_number(digits, (1 << 63) + 1)?;
     if n == 1 << 63 {
         Some(i64::MIN)
     } else {
@@ -174,10 +180,16 @@ fn based_integer(digits: &[u8], base: u32) -> Option<i64>
 /// Returns the integer that a word spells, or `None` if it spells none, or one that 64 bits do not
 /// hold.
 #[tactic(auto, unfolding(toml_edit_laws::specs::reading::Tokens::integer_of, toml_edit_laws::specs::reading::Tokens::prefixed_of))]
+#[inline(always)]
 pub(crate) fn decode_integer(word: &[u8]) -> Option<i64>
     ensures { result ≡ spec.fitting (spec.integer_of word.now) }
 {
-    match (byte_of(word, 0), byte_of(word, 1)) {
+    let first = byte_of(word, 0);
+    // quotes come before signs and digits
+    if first < b'+' {
+        return None;
+    }
+    match (first, byte_of(word, 1)) {
         (b'0', b'x') => based_integer(&word[2..], 16),
         (b'0', b'o') => based_integer(&word[2..], 8),
         (b'0', b'b') => based_integer(&word[2..], 2),

@@ -80,10 +80,11 @@ fn split_word(s: &str) -> (&str, &str)
 fn is_scalar_word(word: &str) -> bool
     ensures { result ≡ is_some (scalar.word_scalar word.now) }
 {
-    word == "true"
-        || word == "false"
-        || is_integer(word.as_bytes())
+    // numbers first: comparing texts costs more than their first byte
+    is_integer(word.as_bytes())
         || is_float(word)
+        || word == "true"
+        || word == "false"
         || is_datetime(word)
 }
 

@@ -118,6 +118,13 @@ item_depth x = size-Item x
 pub deepest_item : (xs : List Item) (i : ℕ) (d : Item) → i < length xs → size-Item (get_or xs i d) ≤ most item_depth xs
 deepest_item xs i d h = omega (arith, at_most item_depth xs i d h)
 
+-- a list in which one is no deeper than a bound on all
+pub most-set : {X : Type 0} (μ : X → ℕ) (xs : List X) (i : ℕ) (y : X) (m : ℕ) → most μ xs ≤ m → μ y ≤ m → most μ (set xs i y) ≤ m
+most-set μ [] i y m h l = h
+most-set μ (x ∷ xs) zero y m h l = omega (arith, h, l)
+most-set μ (x ∷ xs) (suc i) y m h l =
+    let more : most μ (set xs i y) ≤ m = most-set μ xs i y m (omega (arith, h)) l in omega (arith, h, more)
+
 -- ---- tables
 
 -- tables that are one have one set of fields and slots

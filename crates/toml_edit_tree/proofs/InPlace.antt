@@ -1,5 +1,6 @@
 -- A list that a loop changes in place, one place after another.
 use Rattle.std.proofs.Common.{◌≡◌, ℕ, ◌+◌, ◌<◌, ◌≤◌, List, [], ◌∷◌, ◌++◌, length, map, get_or, set, refl, sym, ap, ◌∙◌, arith}
+use Rattle.std.proofs.lemmas.List.{map-append, map-id}
 
 -- the items before the place have been changed, and the others are as they were at first
 pub record Done {X Y : Type 0} (f : X → Y) (g : Y → Y) (items first : List X) (at : ℕ) : Type 0 where
@@ -99,3 +100,8 @@ module _ {X Y : Type 0} (f : X → Y) (g : Y → Y) where
   pub finish : (items first : List X) (at : ℕ) → Done f g items first at → length items ≤ at → map f items ≡ map g (map f first)
   finish items first at h l =
       rw (h.items_are, h.first_were) (finish_at h.done h.was h.rest at h.done_long h.changed (rw h.items_are at l))
+
+-- where no change is seen
+pub unchanged : {X Y : Type 0} (f : X → Y) (items first : List X) (at : ℕ) → Done f (λ y. y) items first at → map f items ≡ map f first
+unchanged f items first at h =
+    rw (h.items_are, h.first_were, map-append f h.done h.rest, map-append f h.was h.rest, h.changed, map-id (map f h.was)) refl

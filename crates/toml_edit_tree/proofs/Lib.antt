@@ -1,5 +1,6 @@
 pub mod HeldLaws
 pub mod DespanLaws
+pub mod CopyLaws
 pub mod OrderLaws
 pub mod PlaceLaws
 pub mod ConvertLaws

@@ -1,9 +1,10 @@
 -- What the iterator that owns its inline table has left, what `extend` leaves, and what is known of
 -- closures that are called at pairs.
-use Rattle.std.specs.Prelude.{◌≡◌, Bool, List, map}
+use Rattle.std.specs.Prelude.{◌≡◌, Bool, List, map, String, string_bytes}
 use Rattle.std.specs.Borrow.{Bor}
 use Rattle.std.specs.Fn.{Shared}
 use Rattle.std.specs.Vec.Iter.{into_iter_items}
+use Rattle.std.specs.declared.alloc.Global.{Global}
 use Rattle.toml_edit_model.specs.Iterating.{value_pairs}
 use Rattle.toml_edit_model.specs.Lists.{slot_list}
 use Rattle.toml_edit_model.specs.Slots.{Slot, extended}
@@ -21,8 +22,8 @@ use Rattle.toml_edit_tree.specs.declared.value.Value.{Value}
 abbrev pub owned_pairs : InlineTableIntoIter → List (Text × Node)
 owned_pairs it = value_pairs (slot_list (slots_view (into_iter_items it.slots)))
 
-abbrev pub pair_owned : Text × Value → Text × Node
-pair_owned p = (p.0, value_view p.1)
+abbrev pub pair_owned : String Global × Value → Text × Node
+pair_owned p = (string_bytes p.0, value_view p.1)
 
 -- pairs came into the inline table, and nothing else of it changed
 abbrev pub AddsValues : InlineTable → List (Key × Value) → InlineTable → Type 0

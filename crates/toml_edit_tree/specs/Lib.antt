@@ -32,5 +32,6 @@ pub mod Indexed
 pub mod Faults
 -- Cited inside this crate alone.
 pub mod Converting
+pub mod Emptied
 -- Worked examples: nothing cites them.
 pub mod examples

@@ -1,8 +1,9 @@
 -- The slots of a table and of an inline table as a list, and a slot that is read or taken out.
-use Rattle.std.specs.Prelude.{◌≡◌, Bool, List, map}
+use Rattle.std.specs.Prelude.{◌≡◌, Bool, List, map, String, string_bytes}
 use Rattle.std.specs.Borrow.{Bor}
 use Rattle.std.specs.Fn.{Shared}
 use Rattle.std.specs.Vec.Iter.{into_iter_items}
+use Rattle.std.specs.declared.alloc.Global.{Global}
 use Rattle.toml_edit_model.specs.Lists.{slot_list}
 use Rattle.toml_edit_model.specs.Slots.{Slot, extended, pairs}
 use Rattle.toml_edit_model.specs.Text.{Text}
@@ -44,5 +45,5 @@ SaysOfItem g f s b = (x : Item) × (item_view x ≡ s.item) × FnReturnsAtTwo g 
 abbrev pub all_left : IntoIter → List (Text × Node)
 all_left it = pairs (slot_list (slots_view (into_iter_items it.slots)))
 
-abbrev pub pair_taken : Text × Item → Text × Node
-pair_taken p = (p.0, item_view p.1)
+abbrev pub pair_taken : String Global × Item → Text × Node
+pair_taken p = (string_bytes p.0, item_view p.1)

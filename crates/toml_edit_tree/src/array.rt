@@ -19,6 +19,7 @@ ghost use Rattle.toml_edit_tree.specs.declared.value.Value.{Value};
 
 use crate::copy::copy_array;
 use crate::elements::{insert_value, push_value, replace_value, take_value};
+use crate::empty::empty_items;
 use crate::encode::put_array;
 use crate::item::Item;
 use crate::value::Value;
@@ -79,6 +80,8 @@ impl Drop for Array {
             trailing_comma: _,
             span: _,
         } = self;
+        let mut values = values;
+        empty_items(&mut values);
         drop(values);
         drop(decor);
         drop(trailing);

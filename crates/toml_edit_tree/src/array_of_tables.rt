@@ -21,6 +21,7 @@ ghost use Rattle.toml_edit_tree.specs.declared.table.Table.{Table};
 
 use crate::copy::copy_tables;
 use crate::elements::{insert_table, push_table, replace_table, take_table};
+use crate::empty::empty_items;
 use crate::item::Item;
 use crate::table::Table;
 use std::alloc::Global;
@@ -60,6 +61,8 @@ impl Drop for ArrayOfTables {
     #[inline(never)]
     fn drop(self) {
         let ArrayOfTables { values, span: _ } = self;
+        let mut values = values;
+        empty_items(&mut values);
         drop(values);
     }
 }

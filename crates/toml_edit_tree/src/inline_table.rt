@@ -28,6 +28,7 @@ ghost use Rattle.toml_edit_tree.specs.declared.value.Value.{Value};
 
 use crate::convert::format_slots;
 use crate::copy::copy_inline;
+use crate::empty::empty_slots;
 use crate::encode::put_inline;
 use crate::item::Item;
 use crate::value::Value;
@@ -93,6 +94,8 @@ impl Drop for InlineTable {
             is_read: _,
             span: _,
         } = self;
+        let mut items = items;
+        empty_slots(&mut items);
         drop(items);
         drop(decor);
         drop(trailing);

@@ -25,6 +25,7 @@ ghost use Rattle.toml_edit_tree.specs.declared.index.IndexFault.TheVariants.{Wro
 use crate::array::Array;
 use crate::array_of_tables::ArrayOfTables;
 use crate::copy::copy_item;
+use crate::detach::detach_item;
 use crate::index::{Index, IndexFault, filled_item, filled_place, find_or_add_slot, item_at};
 use crate::inline_table::InlineTable;
 use crate::table::Table;
@@ -699,12 +700,11 @@ impl Item {
     ///
     /// # Errors
     ///
-    /// Returns an `AllocError` if out of memory, and then keeps the source.
+    /// Returns an `AllocError` if out of memory, and then may keep the source.
     pub fn detach(&mut self, alloc: Global) -> Mem<()>
         ensures { item_view self.new ≡ item_view self.old }
     {
-        *self = self.clone(alloc)?;
-        Ok(())
+        detach_item(self, alloc)
     }
 
     /// Copies the item, with all spellings, decors, spans and positions.

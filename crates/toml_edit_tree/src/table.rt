@@ -25,6 +25,7 @@ ghost use Rattle.toml_edit_tree.specs.declared.table.Table.{out-Table};
 
 use crate::convert::format_slots;
 use crate::copy::copy_table;
+use crate::empty::empty_slots;
 use crate::encode::put_table_lines;
 use crate::index::{IndexFault, filled_item, find_or_add_slot};
 use crate::item::Item;
@@ -85,6 +86,8 @@ impl Drop for Table {
             position: _,
             span: _,
         } = self;
+        let mut slots = slots;
+        empty_slots(&mut slots);
         drop(slots);
         drop(decor);
     }

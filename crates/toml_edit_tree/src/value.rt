@@ -133,12 +133,10 @@ impl Value {
         }
     }
 
-    /// Makes a scalar whose spelling spans the bytes from `start` to `end` of the source, which are
-    /// below 4 GiB.
+    /// Makes a scalar whose spelling spans the bytes from `start` to `end` of the source.
     #[doc(hidden)]
     pub fn spanned(scalar: Scalar, start: usize, end: usize, decor: Decor) -> Value
-        requires start { start < 2 ^ 32 }
-        requires end { end < 2 ^ 32 }
+        requires { start < 2 ^ 56 }
         ensures { value_view result ≡ leaf (scalar_view scalar) (Some (span start end)) decor }
     {
         match scalar {

@@ -87,6 +87,7 @@ fn put_dotted<S: Sink>(out: &mut S, path: &Path<'_, '_>)
 }
 
 /// Puts the place in decimal.
+#[inline(never)]
 fn put_place<S: Sink>(out: &mut S, place: usize)
     ensures { WritesInCalls S.puts out.old (decimal place) out.new }
 {

@@ -77,6 +77,7 @@ pub fn visit_item<V: Visit>(visitor: &mut V, item: &Item) -> bool
 
 /// Visits the items below the one that the path leads to.
 #[cycle(visit)]
+#[inline(always)]
 fn visit_below<'p, 'a, V: Visit>(visitor: &mut V, item: &'a Item, path: &'p Path<'p, 'a>) -> bool
     ensures { VisitsInOrder V.visits (items_below (steps_on path.now) (item_view item.now))
         visitor.old result visitor.new }
@@ -91,6 +92,7 @@ fn visit_below<'p, 'a, V: Visit>(visitor: &mut V, item: &'a Item, path: &'p Path
 
 /// Visits the items below a value.
 #[cycle(visit)]
+#[inline(always)]
 fn visit_in_value<'p, 'a, V: Visit>(
     visitor: &mut V,
     value: &'a Value,
@@ -108,6 +110,7 @@ fn visit_in_value<'p, 'a, V: Visit>(
 
 /// Visits the items of the slots, and those below them.
 #[cycle(visit)]
+#[inline(never)]
 fn visit_slots<'p, 'a, V: Visit>(
     visitor: &mut V,
     slots: &'a Slots<Item>,
@@ -128,6 +131,7 @@ fn visit_slots<'p, 'a, V: Visit>(
 
 /// Visits the elements that are values, or tables if not `values`, and the items below them.
 #[cycle(visit)]
+#[inline(never)]
 fn visit_elements<'p, 'a, V: Visit>(
     visitor: &mut V,
     values: bool,
@@ -161,6 +165,7 @@ fn is_of_kind(item: &Item, values: bool) -> bool
 
 /// Visits an item and those below it, if it is `shown`.
 #[cycle(visit)]
+#[inline(always)]
 fn visit_if<'p, 'a, V: Visit>(
     visitor: &mut V,
     shown: bool,

@@ -14,14 +14,14 @@ use Rattle.toml_edit_model.specs.Lists.{slot_list, slots_from, item_list, items_
 use Rattle.toml_edit_model.specs.ArrayCalls.{written_at}
 use Rattle.toml_edit_model.specs.Rearranging.{is_free, moved_slot, renamed_slot}
 use Rattle.toml_edit_laws.specs.Locality.{Turn, root_visit, edited}
-use Rattle.toml_edit_laws.specs.EditLists.{replace, named_path}
+use Rattle.toml_edit_laws.specs.EditLists.{replace}
 use Rattle.toml_edit_edit_laws.specs.Commands.{Answer, done, refused, taken, mapped, child, child_changed, change_slot, change_element, element_of}
 use Rattle.toml_edit_edit_laws.specs.Commands.{and_then, item_below, present, root_item, with_slots}
-use Rattle.toml_edit_edit_laws.specs.CommandLaws.{NamesTable}
 use Rattle.toml_edit_edit_laws.specs.KeyCalls.{key_changed, moved_where, renamed_where, slots_changed, where_present}
+use Rattle.toml_edit_edit_laws.specs.Places.{place_of}
 use Rattle.toml_edit_edit_laws.specs.Staying.{away_from, StaysButAt}
-use Rattle.toml_edit_edit_laws.specs.PathEdits.{PathCall, renames, moves, NamesSlot, with_last, GoesTo, SlotAt, RenamesSlot, MovesSlot}
-use Rattle.toml_edit_edit_laws.specs.PathEdits.{path_of_call, IsEdit, IsEditAt, IsLocal, RenameEdits, MoveEdits}
+use Rattle.toml_edit_edit_laws.specs.PathEdits.{PathCall, renames, moves, with_last, GoesTo, SlotAt, RenamesSlot, MovesSlot}
+use Rattle.toml_edit_edit_laws.specs.PathEdits.{path_of_call, places_of_call, IsEdit, IsEditAt, RenameEdits, MoveEdits}
 use Rattle.toml_edit_edit_laws.proofs.commands.Finding.{below-was, some-and, some-second}
 use Rattle.toml_edit_edit_laws.proofs.commands.Going.{goes-along, item-along, made-goes}
 use Rattle.toml_edit_edit_laws.proofs.commands.Keeping.{child-only, present-is}
@@ -32,7 +32,8 @@ use Rattle.toml_edit_laws.proofs.locality.Made.{split-made}
 use Rattle.toml_edit_laws.proofs.locality.Sound.{leads-made, leads-sound, sound-slot, Steady, steady-parts}
 use Rattle.toml_edit_edit_laws.proofs.path_calls.Inside.{spelled}
 use Rattle.toml_edit_edit_laws.proofs.path_calls.Setting.{edit-of}
-use Rattle.toml_edit_edit_laws.proofs.path_calls.Spots.{GoesOn, at_slot, at_element, in_value, Spot, spot, spot-names}
+use Rattle.toml_edit_edit_laws.proofs.path_calls.Spots.{GoesOn, at_slot, at_element, in_value, Spot, spot}
+use Rattle.toml_edit_edit_laws.proofs.path_calls.Places.{key-place, spot-inside, spot-place}
 use Rattle.toml_edit_edit_laws.proofs.path_calls.Staying.{move_stays, renaming_stays}
 use Rattle.toml_edit_edit_laws.proofs.placing.Lists.{Taken, taken as taken-out, made-moved}
 use Rattle.toml_edit_edit_laws.proofs.renaming.Names.{made-renamed, others-of_name, renamed-is}
@@ -97,10 +98,8 @@ record InValue (mode : Mode) (c : PathCall) (t u : Tree) (path : List Text) : Ty
   key : Text
   next : Text
   inner : List Text
-  table : Visit
   is : path ≡ front ++ (key ∷ next ∷ inner)
-  named : NamesTable t front table
-  at : named_path mode edit.edit t edit.applies ≡ to_key table.path key
+  same : (more : List Text) → place_of t (front ++ (key ∷ more)) ≡ place_of t path
 
 pub key-goes-down : (g : Text → List (Slot Node) → Answer (List (Slot Node))) (j : Text) (more : List Text) (k : Text) (path : List Text)
     (n : Node)
@@ -256,9 +255,8 @@ module _ (g : Text → List (Slot Node) → Answer (List (Slot Node))) (f : Text
           ap (λ o. mapped (λ xs. table w.fields (slots_from xs)) (change_slot false (new_key p.segment) (key_changed g (y ∷ more)) (slot_list w.slots) o))
           p.there
           ∙ ap (λ a. mapped (λ xs. table w.fields (slots_from xs)) (mapped (λ m. changed p.segment (with_item m) (slot_list w.slots)) a)) n.1 in
-          let place : Path = to_key w.path p.key.name in
-          let named = ap (to_key w.path) (sym there-is.named) in
-          let such = edit-of mode c t u (λ e a. named_path mode e t a ≡ to_key w.path p.segment) (replace p.way p.segment (λ l. l) n.0) made steady
+          let place : place_of t path ≡ to_key w.path p.key.name = spot-place t made path found p in
+          let such = edit-of mode c t u (λ e a. Unit {0}) (replace p.way p.segment (λ l. l) n.0) made steady
           (at_value p.way p.segment y more n.0 (at (y ∷ more) is)) (
             w,
             p.key,
@@ -271,17 +269,15 @@ module _ (g : Text → List (Slot Node) → Answer (List (Slot Node))) (f : Text
             (spelled p.segment w.slots (keyed p.key p.top) well p.there, made-so (y ∷ more) p.top n.0 there-is.made n.1),
           )
           (left (y ∷ more) h is here)
-          (subst (λ q. NamesSlot t q place) (sym is_path) (spot-names t path found p place named)) named in
+          (ap (place_of t) is_path ∙ place) tt in
           inr (record {
             edit = such.0;
             front = p.front;
             key = p.segment;
             next = y;
             inner = more;
-            table = w;
             is = split (y ∷ more) is;
-            named = record { way = p.way; goes = p.goes; leads = p.leads };
-            at = such.1;
+            same = λ rest. spot-inside t made path found p value rest ∙ sym place;
           })
 
     key-edit : (q : List Text) → path ≡ q → InTable g f t u path ⊎ InValue mode c t u path
@@ -310,21 +306,15 @@ last-further u k x inner (j ∷ []) = refl
 last-further u k x inner (j ∷ i ∷ front) = ap (λ (q : List Text). j ∷ q) (last-further u k x inner (i ∷ front))
 
 -- the place of a slot, under its name or another one
-slot-place : (t : Tree) (path q : List Text) (s : SlotAt t path) (k : Text) → q ≡ s.goes.0 ++ (k ∷ []) → NamesSlot t q (to_key s.table.path k)
-slot-place t path q s k is =
-    record {
-      front = s.goes.0;
-      key = k;
-      inner = [];
-      table = s.table;
-      is = is;
-      named = record { way = s.way; goes = s.goes.1; leads = s.leads };
-      at = refl;
-    }
+slot-place : (t : Tree) (path q : List Text) (s : SlotAt t path) (k : Text) → SlotsAreWellMade t.slots → q ≡ s.goes.0 ++ (k ∷ [])
+    → place_of t q ≡ to_key s.table.path k
+slot-place t path q s k made is =
+    ap (place_of t) is ∙ key-place t s.goes.0 k s.table made (record { way = s.way; goes = s.goes.1; leads = s.leads })
 
-slot-named : (t : Tree) (path : List Text) (s : SlotAt t path) → SlotsAreWellMade t.slots → s.key ≡ s.slot.key.name
-slot-named t path s made =
-    (found-in s.key s.table.slots s.slot (leads-made s.way (root_visit t) s.table made s.leads) s.there).named
+own-place : (t : Tree) (path : List Text) (s : SlotAt t path) → SlotsAreWellMade t.slots → place_of t path ≡ to_key s.table.path s.slot.key.name
+own-place t path s made =
+    slot-place t path path s s.key made s.goes.2
+    ∙ ap (to_key s.table.path) (found-in s.key s.table.slots s.slot (leads-made s.way (root_visit t) s.table made s.leads) s.there).named
 
 -- ---- moving
 
@@ -388,22 +378,16 @@ renamed-keeps u k ss ys w h =
 module _ (mode : Mode) where
   moved-so : (t u : Tree) (path : List Text) (i : ℕ) → SlotsAreWellMade t.slots → is_steady_in mode t ≡ true
       → InTable (moved_where i) (λ k. moved_slot k i) t u path ⊎ InValue mode (moves path i) t u path
-      → (MovesSlot t path i u ⊎ IsEdit mode (moves path i) t u) × IsLocal mode (moves path i) t u
+      → (MovesSlot t path i u ⊎ IsEdit mode (moves path i) t u) × StaysButAt mode (places_of_call (moves path i) t) t u
   moved-so t u path i made steady (inl x) =
       let s = x.slot in
-      let p : Path = to_key s.table.path s.slot.key.name in
-      let named = slot-named t path s made in (
+      let p : Path = to_key s.table.path s.slot.key.name in (
         inl (s, x.leaves),
-        record {
-          places = p ∷ [];
-          names = (subst (λ k. NamesSlot t path (to_key s.table.path k)) named (slot-place t path path s s.key s.goes.2), tt);
-          stays = subst (StaysButAt mode (p ∷ []) t) (sym x.leaves)
-              (move_stays mode t s.way s.table s.key i s.slot made steady s.leads s.there);
-        },
+        subst (λ (q : Path). StaysButAt mode (q ∷ []) t u) (sym (own-place t path s made))
+            (subst (StaysButAt mode (p ∷ []) t) (sym x.leaves)
+            (move_stays mode t s.way s.table s.key i s.slot made steady s.leads s.there)),
       )
-  moved-so t u path i made steady (inr x) =
-      let e = x.edit in
-      (inr e, record { places = named_path mode e.edit t e.applies ∷ []; names = (e.names, tt); stays = e.stays })
+  moved-so t u path i made steady (inr x) = (inr x.edit, x.edit.stays)
 
   pub move_edits : MoveEdits mode
   move_edits t u path i made steady is_done =
@@ -414,52 +398,28 @@ module _ (mode : Mode) where
 
   renamed-so : (t u : Tree) (path : List Text) (name : Text) → SlotsAreWellMade t.slots → is_steady_in mode t ≡ true
       → InTable (renamed_where name) (λ k. renamed_slot k name) t u path ⊎ InValue mode (renames path name) t u path
-      → (RenamesSlot t path name u ⊎ IsEdit mode (renames path name) t u) × IsLocal mode (renames path name) t u
+      → (RenamesSlot t path name u ⊎ IsEdit mode (renames path name) t u) × StaysButAt mode (places_of_call (renames path name) t) t u
   renamed-so t u path name made steady (inl x) =
       let s = x.slot in
       let p : Path = to_key s.table.path s.slot.key.name in
       let q : Path = to_key s.table.path name in
-      let named = slot-named t path s made in
+      let other : place_of t (with_last name path) ≡ q =
+      slot-place t path (with_last name path) s name made (ap (with_last name) s.goes.2 ∙ last-is name s.key s.goes.0) in
       let free = (renamed-gives name s.key (slot_list s.table.slots) (renamed_slot s.key name (slot_list s.table.slots)) x.changed).0 in (
         inl (s, free, x.leaves),
-        record {
-          places = p ∷ q ∷ [];
-          names = (
-            subst (λ k. NamesSlot t path (to_key s.table.path k)) named (slot-place t path path s s.key s.goes.2),
-            (slot-place t path (with_last name path) s name (ap (with_last name) s.goes.2 ∙ last-is name s.key s.goes.0), tt),
-          );
-          stays = subst (StaysButAt mode (p ∷ q ∷ []) t) (sym x.leaves)
-              (renaming_stays mode t s.way s.table s.key name s.slot made steady s.leads s.there free);
-        },
+        subst (λ (ps : List Path). StaysButAt mode ps t u) (ap (λ z. z ∷ q ∷ []) (sym (own-place t path s made))
+            ∙ ap (λ z. place_of t path ∷ z ∷ []) (sym other))
+            (subst (StaysButAt mode (p ∷ q ∷ []) t) (sym x.leaves)
+            (renaming_stays mode t s.way s.table s.key name s.slot made steady s.leads s.there free)),
       )
   renamed-so t u path name made steady (inr x) =
-      let e = x.edit in
-      let p : Path = named_path mode e.edit t e.applies in (
-        inr e,
-        record {
-          places = p ∷ p ∷ [];
-          names = (
-            e.names,
-            (
-              record {
-                front = x.front;
-                key = x.key;
-                inner = with_last name (x.next ∷ x.inner);
-                table = x.table;
-                is = ap (with_last name) x.is ∙ last-further name x.key x.next x.inner x.front;
-                named = x.named;
-                at = x.at;
-              },
-              tt,
-            ),
-          );
-          stays = record {
-            others = ap (away_from (p ∷ [])) e.stays.others;
-            text = e.stays.text;
-            steady = e.stays.steady;
-            made = e.stays.made;
-          };
-        },
+      let s = x.edit.stays in
+      let p : Path = place_of t path in
+      let other : place_of t (with_last name path) ≡ p =
+      ap (place_of t) (ap (with_last name) x.is ∙ last-further name x.key x.next x.inner x.front) ∙ x.same (with_last name (x.next ∷ x.inner)) in (
+        inr x.edit,
+        subst (λ (q : Path). StaysButAt mode (p ∷ q ∷ []) t u) (sym other)
+            (record { others = ap (away_from (p ∷ [])) s.others; text = s.text; steady = s.steady; made = s.made }),
       )
 
   pub rename_edits : RenameEdits mode

@@ -9,7 +9,7 @@ use Rattle.toml_edit_model.specs.Lists.{slot_list}
 use Rattle.toml_edit_laws.specs.Locality.{Turn, into_table, into_element, Leads, root_visit, element_count}
 use Rattle.toml_edit_edit_laws.specs.CommandLaws.{Goes}
 use Rattle.toml_edit_edit_laws.specs.Commands.{done}
-use Rattle.toml_edit_edit_laws.specs.PathEdits.{called, paths_of_call, NameSlots, OneCallMore, RootIsNamed, TablesAreNamed}
+use Rattle.toml_edit_edit_laws.specs.PathEdits.{called, places_of_call, OneCallMore, RootIsNamed, TablesAreNamed}
 
 pub root_is_named : RootIsNamed
 root_is_named t = record { way = []; goes = tt; leads = refl }
@@ -60,9 +60,8 @@ tables_are_named t path v k l f ss n there =
 -- ---- calls after calls
 
 pub one_call_more : OneCallMore
-one_call_more [] [] t u w c p is is_done names =
-    (w, subst (λ x. called c x ≡ done w) is is_done, subst (λ x. NameSlots x (paths_of_call c) p) is names, refl)
-one_call_more [] (q ∷ ps) t u w c p is is_done names = absurd is
-one_call_more (d ∷ cs) [] t u w c p is is_done names = absurd is
-one_call_more (d ∷ cs) (q ∷ ps) t u w c p (m, first, at, rest) is_done names =
-    (m, first, at, one_call_more cs ps m u w c p rest is_done names)
+one_call_more [] [] t u w c p is is_done at = (w, subst (λ x. called c x ≡ done w) is is_done, at ∙ ap (places_of_call c) is, refl)
+one_call_more [] (q ∷ ps) t u w c p is is_done at = absurd is
+one_call_more (d ∷ cs) [] t u w c p is is_done at = absurd is
+one_call_more (d ∷ cs) (q ∷ ps) t u w c p (m, first, here, rest) is_done at =
+    (m, first, here, one_call_more cs ps m u w c p rest is_done at)

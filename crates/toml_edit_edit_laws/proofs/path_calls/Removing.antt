@@ -23,7 +23,8 @@ use Rattle.toml_edit_edit_laws.proofs.commands.Apart.{skip}
 use Rattle.toml_edit_laws.proofs.locality.Slots.{Found, found as found-in}
 use Rattle.toml_edit_laws.proofs.locality.Sound.{leads-made, leads-sound, sound-slot, Steady, steady-parts}
 use Rattle.toml_edit_edit_laws.specs.PathEdits.{removes, GoesTo, RemoveEdits}
-use Rattle.toml_edit_edit_laws.proofs.path_calls.Spots.{GoesOn, at_slot, at_element, in_value, Spot, spot, spot-names}
+use Rattle.toml_edit_edit_laws.proofs.path_calls.Spots.{GoesOn, at_slot, at_element, in_value, Spot, spot}
+use Rattle.toml_edit_edit_laws.proofs.path_calls.Places.{spot-place}
 use Rattle.toml_edit_edit_laws.proofs.path_calls.Inside.{remove-stands, remove-made, spelled}
 use Rattle.toml_edit_edit_laws.proofs.path_calls.Setting.{Replaces, EditSuch, edit-of}
 
@@ -77,7 +78,7 @@ module _ (mode : Mode) (t u : Tree) (path : List Text) (found : Node) (p : Spot 
       edit-of mode (removes path) t u (Replaces mode t RemovesInside) (remove p.way p.segment) made steady (at [] is)
       (w, keyed p.key p.top, p.leads, p.there)
       (left [] (without p.segment) is (remove-goes-down p.segment []) here)
-      (spot-names t path found p (to_key w.path p.key.name) (ap (to_key w.path) (sym there-is.named))) tt
+      (spot-place t made path found p) tt
   by_end (x ∷ []) is below (at_element y e) =
       let i = length e.before in
       let g : List (Slot Node) → List (Slot Node) = changed p.segment (on_item (on_items (removed_at i))) in
@@ -95,7 +96,8 @@ module _ (mode : Mode) (t u : Tree) (path : List Text) (found : Node) (p : Spot 
       w.slots (keyed p.key (tables e.extent e.items)) well there refl) in
       edit-of mode (removes path) t u (Replaces mode t RemovesInside) (remove_element p.way p.segment i) made steady (y, at (y ∷ []) is, e.number)
       (w, _, p.leads, (p.key, e.extent, e.items, e.before, e.fields, e.slots, e.after, there, e.parts, refl, refl))
-      (left (y ∷ []) g is (remove-goes-down p.segment (y ∷ [])) here) (spot-names t path found p (to_key w.path p.segment) refl) tt
+      (left (y ∷ []) g is (remove-goes-down p.segment (y ∷ [])) here)
+      (spot-place t made path found p ∙ ap (to_key w.path) (sym there-is.named)) tt
   by_end (x ∷ inner) is below (in_value y more value) =
       let n = there-removes t y more p.top found below in
       let g : List (Slot Node) → List (Slot Node) = changed p.segment (with_item n.0) in
@@ -118,7 +120,7 @@ module _ (mode : Mode) (t u : Tree) (path : List Text) (found : Node) (p : Spot 
         (spelled p.segment w.slots (keyed p.key p.top) well p.there, remove-made t y more p.top n.0 there-is.made n.1),
       )
       (left (y ∷ more) g is (remove-goes-down p.segment (y ∷ more)) here)
-      (spot-names t path found p (to_key w.path p.key.name) (ap (to_key w.path) (sym there-is.named)))
+      (spot-place t made path found p)
       (λ l. refl, stands.1, there-is.made, (y, more, n.1))
 
 module _ (mode : Mode) where

@@ -2,7 +2,7 @@
 use Rattle.std.proofs.Common.{◌≡◌, refl, sym, ◌∙◌, ap, subst, true, List, [], ◌∷◌, ◌++◌, Some, None}
 use Rattle.toml_edit_model.specs.Mode.{Mode}
 use Rattle.toml_edit_model.specs.Text.{Text, one}
-use Rattle.toml_edit_model.specs.Paths.{to_key}
+use Rattle.toml_edit_model.specs.Paths.{Path, to_key}
 use Rattle.toml_edit_model.specs.Tree.{Key, Node, table, SlotsAreWellMade, IsWellMade, Tree, is_value_node, node_decor}
 use Rattle.toml_edit_model.specs.HeaderOrder.{Visit}
 use Rattle.toml_edit_model.specs.Fits.{is_steady_in}
@@ -19,11 +19,13 @@ use Rattle.toml_edit_laws.proofs.common.OptionSteps.{some-is}
 use Rattle.toml_edit_laws.proofs.locality.Slots.{Found, found}
 use Rattle.toml_edit_laws.proofs.locality.Sound.{leads-made, leads-sound, sound-slot, Steady, steady-parts}
 use Rattle.toml_edit_edit_laws.specs.DottedAdds.{OneLineMore}
-use Rattle.toml_edit_edit_laws.specs.PathEdits.{PathCall, NamesSlot, path_of_call, sets, IsEditAt, IsEdit, SetReplaces, SetAddsUnder, SetAddsAfterLines}
+use Rattle.toml_edit_edit_laws.specs.PathEdits.{PathCall, path_of_call, sets, IsEditAt, IsEdit, SetReplaces, SetAddsUnder, SetAddsAfterLines}
+use Rattle.toml_edit_edit_laws.specs.Places.{place_of}
 use Rattle.toml_edit_edit_laws.specs.Staying.{StaysButAt}
 use Rattle.toml_edit_edit_laws.proofs.path_calls.AfterLines.{added_after_lines}
 use Rattle.toml_edit_edit_laws.proofs.path_calls.Staying.{edit_stays, after_lines_stays}
-use Rattle.toml_edit_edit_laws.proofs.path_calls.Spots.{GoesOn, at_slot, at_element, in_value, Spot, spot, spot-names}
+use Rattle.toml_edit_edit_laws.proofs.path_calls.Spots.{GoesOn, at_slot, at_element, in_value, Spot, spot}
+use Rattle.toml_edit_edit_laws.proofs.path_calls.Places.{names-join, new-place, spot-place}
 use Rattle.toml_edit_edit_laws.proofs.path_calls.Inside.{set-stands, set-made, there-sets, spelled}
 
 -- the item of the slot is a value where the path leads to one
@@ -40,10 +42,6 @@ made-plain v (k ∷ more) h = refl
 pub made-made : (v : Node) (more : List Key) → AreSpelled more → IsWellMade v → IsWellMade (made_below more v)
 made-made v [] sp w = w
 made-made v (k ∷ more) sp w = (refl, sp.0, made-made v more sp.1 w, tt)
-
-names-join : (path more : List Key) → names (path ++ more) ≡ names path ++ names more
-names-join [] more = refl
-names-join (k ∷ path) more = ap (λ xs. k.name ∷ xs) (names-join path more)
 
 -- the keys whose names a path of texts has
 record KeysAt (path : List Key) (front : List Text) (x : Text) (inner : List Text) : Type 0 where
@@ -94,11 +92,6 @@ adds-slot t u path w k more v made named is_new set =
     named.leads here in
     done-is u (edited named.way g t) (sym set ∙ ap (mapped (with_slots t)) along)
 
-slot-named : (t : Tree) (path : List Key) (w : Visit) (k : Key) (more : List Key) → NamesTable t (names path) w
-    → NamesSlot t (names (path ++ (k ∷ more))) (to_key w.path k.name)
-slot-named t path w k more named =
-    record { front = names path; key = k.name; inner = names more; table = w; is = names-join path (k ∷ more); named = named; at = refl }
-
 -- a value is set where the other is inside the first, and that leaves the second
 abbrev pub SetsInside : Node → Node → Node → Node → Type 0
 SetsInside v there old n = (inner : List Key) × (item_below (names inner) old ≡ Some there) × (set_below v inner old ≡ done n)
@@ -118,15 +111,15 @@ module _ (mode : Mode) where
   -- an edit that applies, with the tree that it leaves
   pub edit-of : (c : PathCall) (t u : Tree) (P : (e : Edit) → Applies mode e t → Type 0) (e : Edit) → SlotsAreWellMade t.slots
       → is_steady_in mode t ≡ true → IsEditAt c e
-      → (a : Applies mode e t) → u ≡ after e t → NamesSlot t (path_of_call c) (named_path mode e t a) → P e a → EditSuch c t u P
-  edit-of c t u P e made steady at applies leaves names more = (
+      → (a : Applies mode e t) → u ≡ after e t → place_of t (path_of_call c) ≡ named_path mode e t a → P e a → EditSuch c t u P
+  edit-of c t u P e made steady at applies leaves place more = (
     record {
       edit = e;
       at = at;
       applies = applies;
       leaves = leaves;
-      names = names;
-      stays = subst (StaysButAt mode (named_path mode e t applies ∷ []) t) (sym leaves) (edit_stays mode e t made steady applies);
+      stays = subst (λ (q : Path). StaysButAt mode (q ∷ []) t u) (sym place)
+          (subst (StaysButAt mode (named_path mode e t applies ∷ []) t) (sym leaves) (edit_stays mode e t made steady applies));
     },
     more,
   )
@@ -175,7 +168,7 @@ module _ (mode : Mode) where
         refl,
         (spelled k w.slots (keyed p.key p.top) well at, set-made t v ks.after p.top n.0 old wv fd.made below n.1),
       ) leaves
-      (spot-names t (names path) old p (to_key w.path p.key.name) (ap (to_key w.path) (sym fd.named ∙ ks.key_is)))
+      (spot-place t made (names path) old p)
       (λ l. refl, stands.1, fd.made, (ks.after, below, n.1))
 
   pub set_replaces : SetReplaces mode
@@ -186,7 +179,7 @@ module _ (mode : Mode) where
       (edit-of (sets (path ++ (k ∷ more)) v) t u (λ e a. Unit {0}) (add named.way (cleared_key k) (made_below more v)) made steady
       (path, k, more, named.goes, refl, refl, refl)
       (w, named.leads, is_new, made-plain v more plain, has, (sp.0, made-made v more sp.1 wv))
-      (adds-slot t u path w k more v made named is_new set) (slot-named t path w k more named) tt).0
+      (adds-slot t u path w k more v made named is_new set) (new-place t path w k more made named is_new) tt).0
 
   pub set_adds_after_lines : SetAddsAfterLines mode
   set_adds_after_lines t u path w k more v made steady wv plain sp named is_new some set =
@@ -196,6 +189,6 @@ module _ (mode : Mode) where
       let flat = made-plain v more plain in (
         subst (λ (x : Tree). OneLineMore mode t x w new n) is
             (added_after_lines mode t named.way w new n made steady named.leads is_new flat some).0,
-        subst (StaysButAt mode (to_key w.path k.name ∷ []) t) is
-            (after_lines_stays mode t named.way w new n made steady named.leads is_new flat (sp.0, made-made v more sp.1 wv) some),
+        subst (λ (q : Path). StaysButAt mode (q ∷ []) t u) (sym (new-place t path w k more made named is_new))
+            (subst (StaysButAt mode (to_key w.path k.name ∷ []) t) is (after_lines_stays mode t named.way w new n made steady named.leads is_new flat (sp.0, made-made v more sp.1 wv) some)),
       )

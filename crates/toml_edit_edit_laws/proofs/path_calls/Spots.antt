@@ -1,20 +1,19 @@
 -- Where a path leaves the walk: at a slot, at an element, or into a value.
 use Rattle.std.proofs.Common.{◌≡◌, refl, sym, ◌∙◌, ap, ℕ, true, false, List, [], ◌∷◌, ◌++◌, length, Some}
 use Rattle.toml_edit_model.specs.Text.{Text}
-use Rattle.toml_edit_model.specs.Paths.{Path, to_key, to_element}
-use Rattle.toml_edit_model.specs.Tree.{Key, Extent, TableFields, Node, nothing, leaf, list, inline, table, tables, Items, Slots, Tree, is_value_node}
+use Rattle.toml_edit_model.specs.Paths.{to_key, to_element}
+use Rattle.toml_edit_model.specs.Tree.{Key, Extent, TableFields, Node, nothing, leaf, list, inline, table, tables, Items, Slots, is_value_node}
 use Rattle.toml_edit_model.specs.HeaderOrder.{Visit, visit_of}
 use Rattle.toml_edit_model.specs.Slots.{keyed, lookup_slot}
 use Rattle.toml_edit_model.specs.Lists.{slot_list, item_list}
 use Rattle.toml_edit_model.specs.Shown.{is_table_node}
-use Rattle.toml_edit_laws.specs.Locality.{Turn, into_table, into_element, Leads, root_visit, element_count}
+use Rattle.toml_edit_laws.specs.Locality.{Turn, into_table, into_element, Leads, element_count}
 use Rattle.toml_edit_edit_laws.specs.Commands.{number_of, element_of, present, second, item_below}
 use Rattle.toml_edit_edit_laws.specs.CommandLaws.{Goes}
 use Rattle.toml_edit_edit_laws.proofs.commands.Keeping.{present-is, item-parts}
 use Rattle.toml_edit_edit_laws.proofs.commands.Apart.{Named, named}
 use Rattle.toml_edit_edit_laws.proofs.commands.Finding.{some-and, some-second}
 use Rattle.toml_edit_laws.proofs.common.OptionSteps.{some-is}
-use Rattle.toml_edit_edit_laws.specs.PathEdits.{NamesSlot}
 
 -- an element of an array of tables, which its text names
 pub record IsElement (x : Text) (top found : Node) : Type 0 where
@@ -177,17 +176,3 @@ spot found k (j ∷ i ∷ path) s h =
     let a = some-and (item_below (j ∷ i ∷ path)) (present (lookup_slot k (slot_list s.slots))) found h in
     let p = present-is (lookup_slot k (slot_list s.slots)) a.0 a.1 in
     by_kind found k s p.key a.0 (j ∷ i ∷ path) p.is a.1 a.2 (λ v g. spot found j (i ∷ path) v g) (λ v g. spot found i path v g)
-
--- what the path names
-pub spot-names : (t : Tree) (path : List Text) (found : Node) (p : Spot (root_visit t) path found) (q : Path)
-    → q ≡ to_key p.visit.path p.segment → NamesSlot t path q
-spot-names t path found p q is =
-    record {
-      front = p.front;
-      key = p.segment;
-      inner = p.inner;
-      table = p.visit;
-      is = p.path_is;
-      named = record { way = p.way; goes = p.goes; leads = p.leads };
-      at = is;
-    }

@@ -19,12 +19,12 @@ use crate::events::{raw, split_first, split_scalar};
 use crate::fault::{malformed, refusal_of_all, refusal_with};
 use crate::key::{KeyPath, MOST_PATH_EVENTS, path_behind, path_end, split_frame};
 use crate::reader::Reader;
-use crate::value::{integer_of, put, read_value};
+use crate::value::{put, read_value};
 use toml_edit_error::ParseFault;
 use toml_edit_repr::{Decor, Formatted, Mode};
 use toml_edit_syntax::{Event, Span, text_at};
 use toml_edit_token::run::byte_at;
-use toml_edit_token::{decode_scalar, range_message};
+use toml_edit_token::{decode_integer, decode_other, range_message};
 use toml_edit_tree::{Item, Value};
 
 /// The path of a header, where its closing brackets end, and where the text after them is.
@@ -139,12 +139,12 @@ fn read_line_scalar<'a>(
         raw(suffix(reader.source, reader.mode, end.span)),
     );
     // Most values that are no strings are integers.
-    if let Some(number) = integer_of(text) {
+    if let Some(number) = decode_integer(text) {
         let value = Value::Integer(Formatted::spanned(number, span.start, span.end, decor));
         put(item, Item::Value(value));
         return Ok(rest);
     }
-    match decode_scalar(reader.alloc, text)? {
+    match decode_other(reader.alloc, text)? {
         Some(scalar) => {
             let value = Value::spanned(scalar, span.start, span.end, decor);
             put(item, Item::Value(value));

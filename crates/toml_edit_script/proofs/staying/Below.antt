@@ -1,7 +1,7 @@
 -- What is at and below paths.
 use Rattle.std.proofs.Common.{◌≡◌, refl, sym, ◌∙◌, ap, subst, ℕ, zero, suc, true, false, List, [], ◌∷◌, ◌++◌, Some, take, drop}
 use Rattle.toml_edit_model.specs.Text.{Text}
-use Rattle.toml_edit_model.specs.Keys.{names, new_key}
+use Rattle.toml_edit_model.specs.Keys.{new_key}
 use Rattle.toml_edit_model.specs.Tree.{Key, Node, nothing, leaf, list, inline, table, tables, Slots, SlotsAreWellMade, ItemsAreWellMade, IsWellMade, is_value_node}
 use Rattle.toml_edit_model.specs.Shown.{is_table_node}
 use Rattle.toml_edit_model.specs.Slots.{changed_at, keyed, lookup_slot}
@@ -14,12 +14,6 @@ use Rattle.toml_edit_edit_laws.proofs.commands.Apart.{named}
 use Rattle.toml_edit_edit_laws.proofs.commands.Finding.{some-and, some-second}
 use Rattle.toml_edit_edit_laws.proofs.commands.Keeping.{item-parts, present-is}
 use Rattle.toml_edit_edit_laws.proofs.path_calls.Keys.{child-at}
-
--- ---- paths
-
-pub names-join : (path more : List Key) → names (path ++ more) ≡ names path ++ names more
-names-join [] more = refl
-names-join (k ∷ path) more = ap (λ xs. k.name ∷ xs) (names-join path more)
 
 -- ---- what is well made
 

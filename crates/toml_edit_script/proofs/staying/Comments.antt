@@ -25,7 +25,7 @@ use Rattle.toml_edit_edit_laws.proofs.comments.HeaderPrints.{header_recommented,
 use Rattle.toml_edit_edit_laws.proofs.comments.HeaderSlots.{header_recommented_stays_made}
 use Rattle.toml_edit_paths.specs.Calls.{replaced_at}
 use Rattle.toml_edit_script.proofs.staying.Words.{StaysAt, StaysWithin, CommentedStays, IsCommented}
-use Rattle.toml_edit_script.specs.Places.{place_of}
+use Rattle.toml_edit_edit_laws.specs.Places.{place_of}
 use Rattle.toml_edit_script.proofs.staying.Below.{below-made}
 use Rattle.toml_edit_script.proofs.staying.Tables.{InsideValue, leads-join}
 use Rattle.toml_edit_script.proofs.staying.Turning.{Turned, table-turned}

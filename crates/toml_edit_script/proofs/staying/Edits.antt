@@ -22,7 +22,7 @@ use Rattle.toml_edit_script.specs.Effects.{array_set, first_same, in_order, inse
 use Rattle.toml_edit_script.specs.Elements.{inserted, on_kind, taken}
 use Rattle.toml_edit_script.specs.Lists.{Applies, applied, effect, made_of}
 use Rattle.toml_edit_script.specs.OthersStay.{AppliedStay, IsLocal, IsSort, OthersStay, paths_of, places_of, where_done}
-use Rattle.toml_edit_script.specs.Places.{place_of}
+use Rattle.toml_edit_edit_laws.specs.Places.{place_of}
 use Rattle.toml_edit_script.specs.Outcomes.{Makes, and_then}
 use Rattle.toml_edit_script.specs.declared.edit.Edit.{Edit}
 use Rattle.toml_edit_script.specs.declared.edit.Edit.TheVariants as edits
@@ -31,7 +31,7 @@ use Rattle.toml_edit_script.specs.declared.fault.EditFault.TheVariants.{NoSuchEl
 use Rattle.toml_edit_script.specs.declared.fault.ScriptFault.{ScriptFault}
 use Rattle.toml_edit_script.proofs.MoveLaws.{answered, went}
 use Rattle.toml_edit_script.proofs.staying.Arrays.{IsMadeArray, array-stays, with-line-made, without-line-made}
-use Rattle.toml_edit_script.proofs.staying.Below.{names-join}
+use Rattle.toml_edit_edit_laws.proofs.path_calls.Places.{names-join}
 use Rattle.toml_edit_script.proofs.staying.Carrying.{move-stays, renamed-stays}
 use Rattle.toml_edit_script.proofs.staying.Comments.{commented-stays, within-at}
 use Rattle.toml_edit_script.proofs.staying.Fitting.{one-fits}

@@ -34,7 +34,7 @@ use Rattle.toml_edit_script.specs.Missing.{is_numbered, keys_there, unled}
 use Rattle.toml_edit_script.specs.Moves.{put_in}
 use Rattle.toml_edit_script.specs.OthersStay.{FirstAddsTable, first_visit, has_values}
 use Rattle.toml_edit_script.specs.declared.fault.EditFault.TheVariants.{NoSuchPath}
-use Rattle.toml_edit_script.proofs.staying.Below.{names-join}
+use Rattle.toml_edit_edit_laws.proofs.path_calls.Places.{names-join}
 use Rattle.toml_edit_script.proofs.staying.Carrying.{put-was}
 use Rattle.toml_edit_script.proofs.staying.Effects.{was-changed}
 use Rattle.toml_edit_script.proofs.staying.ElementMore.{has-header, one-block, own_slots}

@@ -10,7 +10,7 @@ use Rattle.toml_edit_model.specs.Print.{Printed, printed}
 use Rattle.toml_edit_model.specs.Slots.{Slot, changed, has_slot, lookup_slot, with_item}
 use Rattle.toml_edit_model.specs.Text.{Text, one, same_text}
 use Rattle.toml_edit_model.specs.Tree.{IsWellMade, Node, Slots, SlotsAreWellMade, TableFields, Tree, inline, is_value_node, leaf, list, nothing, table, tables}
-use Rattle.toml_edit_laws.specs.EditLists.{Applies, add, named_path}
+use Rattle.toml_edit_laws.specs.EditLists.{Applies, add}
 use Rattle.toml_edit_laws.specs.Locality.{IsWellMadeSlot, edited, is_at_or_below, is_plain_value, root_visit}
 use Rattle.toml_edit_laws.proofs.common.OptionSteps.{some-is}
 use Rattle.toml_edit_laws.proofs.common.Tests.{and_left, if-false, if-true, or-left, or-right}
@@ -28,8 +28,9 @@ use Rattle.toml_edit_script.proofs.staying.Words.{MovedStays, Room, StaysAt, Sta
 use Rattle.toml_edit_script.proofs.staying.Below.{below-made}
 use Rattle.toml_edit_script.proofs.staying.Tables.{walk-left}
 use Rattle.toml_edit_script.proofs.staying.Values.{value-put, value-stays}
-use Rattle.toml_edit_script.specs.Places.{item_or, place_from, place_of}
-use Rattle.toml_edit_script.proofs.staying.Places.{in-slots, key-place, nothing-place, removal-place, same-places, value-place}
+use Rattle.toml_edit_edit_laws.specs.Places.{item_or, place_from, place_of}
+use Rattle.toml_edit_edit_laws.proofs.path_calls.Places.{key-place, nothing-place, value-place}
+use Rattle.toml_edit_script.proofs.staying.Places.{in-slots, same-places}
 
 -- ---- places
 
@@ -175,9 +176,8 @@ module _ (mode : Mode) (t w : Tree) (target : List Text) (s : Slot Node) (made :
   moved : (u : Tree) (from : List Text) → PutAt mode t w to → remove_at from w ≡ done u → StaysAtBoth mode t u from to
   moved u from x gone =
       let y = remove_edits mode w u from x.stays.made x.stays.steady.2 gone in
-      let q : Path = named_path mode y.edit w y.applies in
-      let is : place_of t from ≡ q = sym (x.back from) ∙ removal-place mode w x.stays.made from y.edit y.at y.applies in
-      subst (λ (z : Path). StaysButAt mode (z ∷ place_of t to ∷ []) t u) (sym is)
+      let q : Path = place_of w from in
+      subst (λ (z : Path). StaysButAt mode (z ∷ place_of t to ∷ []) t u) (x.back from)
       (stays-swapped mode (place_of t to) q t u (one_after_another mode (place_of t to ∷ []) (q ∷ []) t w u x.stays y.stays))
 
 pub moved-stays : (mode : Mode) → MovedStays mode

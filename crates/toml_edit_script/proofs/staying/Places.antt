@@ -1,164 +1,22 @@
--- The place of a path, by the way that it goes.
-use Rattle.std.proofs.Common.{◌≡◌, refl, sym, ◌∙◌, ap, subst, ℕ, zero, suc, Bool, true, false, List, [], ◌∷◌, ◌++◌, append_assoc, length, take, Option, Some, None}
+-- The place of a path in a changed tree.
+use Rattle.std.proofs.Common.{◌≡◌, refl, sym, ◌∙◌, ap, subst, ℕ, zero, suc, Bool, true, false, List, [], ◌∷◌, ◌++◌, length, take, Option, Some, None}
 use Rattle.std.specs.Prelude.{if◌then◌else◌, slice_get}
 use Rattle.toml_edit_model.specs.HeaderOrder.{Visit, visit_of}
 use Rattle.toml_edit_model.specs.Iterating.{elements}
-use Rattle.toml_edit_model.specs.Keys.{names}
 use Rattle.toml_edit_model.specs.Lists.{item_list, items_from, on_items, on_slots, slot_list, slots_from}
-use Rattle.toml_edit_model.specs.Mode.{Mode}
 use Rattle.toml_edit_model.specs.Paths.{Path, to_element, to_key}
 use Rattle.toml_edit_model.specs.Shown.{is_table_node}
 use Rattle.toml_edit_model.specs.Slots.{Slot, changed, changed_at, keyed, lookup_slot, on_item}
 use Rattle.toml_edit_model.specs.Text.{Text, same_text}
-use Rattle.toml_edit_model.specs.Tree.{Extent, Items, ItemsAreWellMade, Key, Node, Slots, SlotsAreWellMade, TableFields, Tree, inline, is_value_node, leaf, list, nothing, table, tables}
-use Rattle.toml_edit_laws.specs.EditLists.{Applies, Edit, add, named_path, remove, remove_element, replace}
-use Rattle.toml_edit_laws.specs.Locality.{Leads, Turn, along, element_count, into_element, into_table, root_visit}
+use Rattle.toml_edit_model.specs.Tree.{Extent, ItemsAreWellMade, Node, Slots, SlotsAreWellMade, TableFields, table, tables}
+use Rattle.toml_edit_laws.specs.Locality.{Leads, Turn, along, element_count, into_element, into_table}
 use Rattle.toml_edit_laws.proofs.common.Tests.{same_text-is}
 use Rattle.toml_edit_laws.proofs.locality.Elements.{item-made}
 use Rattle.toml_edit_laws.proofs.locality.Slots.{Found, change-item, found, item_list-from, items_from-list, slot_list-from, slots_under}
-use Rattle.toml_edit_laws.proofs.locality.Sound.{leads-made}
 use Rattle.toml_edit_laws.proofs.locality.Twice.{lookup-changed}
-use Rattle.toml_edit_edit_laws.specs.Commands.{at_number, element_of, kept_item, number_of}
-use Rattle.toml_edit_edit_laws.specs.CommandLaws.{Goes, NamesTable}
-use Rattle.toml_edit_edit_laws.specs.PathEdits.{IsEditAt, removes, sets}
-use Rattle.toml_edit_edit_laws.proofs.commands.Going.{element-there}
-use Rattle.toml_edit_edit_laws.proofs.path_calls.Spots.{GoesOn, Spot, at_element, at_slot, in_value}
-use Rattle.toml_edit_script.specs.Places.{element_or, element_path, item_or, place_from, place_of}
-use Rattle.toml_edit_script.proofs.staying.Below.{names-join}
-
--- ---- ends
-
-pub value-place : (q : Path) (path : List Text) (n : Node) → is_value_node n ≡ true → place_from q path n ≡ q
-value-place q [] n h = refl
-value-place q (k ∷ path) (leaf s r d) h = refl
-value-place q (k ∷ path) (list f xs) h = refl
-value-place q (k ∷ path) (inline f ss) h = refl
-value-place q (k ∷ path) (table f ss) h = absurd cc
-value-place q (k ∷ path) (tables e xs) h = absurd cc
-value-place q (k ∷ path) nothing h = absurd cc
-
-pub nothing-place : (q : Path) (path : List Text) → place_from q path nothing ≡ q
-nothing-place q [] = refl
-nothing-place q (k ∷ path) = refl
-
-take-front : (a b : List Node) → take (length a) (a ++ b) ≡ a
-take-front [] b = refl
-take-front (x ∷ a) b = ap (λ z. x ∷ z) (take-front a b)
-
-element-step : (q : Path) (x : Text) (front : List Text) (j : Text) (rest : List Text) (e : Extent) (xs : Items)
-    → place_from q (x ∷ (front ++ (j ∷ rest))) (tables e xs)
-    ≡ place_from (element_path q (item_list xs) (element_of is_table_node x (item_list xs))) (front ++ (j ∷ rest))
-    (element_or (element_of is_table_node x (item_list xs)))
-element-step q x [] j rest e xs = refl
-element-step q x (i ∷ front) j rest e xs = refl
-
--- ---- along a way
-
-pub along-place : (way : List Turn) (front : List Text) (j : Text) (rest : List Text) (s v : Visit) → Goes way front → Leads way s v
-    → SlotsAreWellMade s.slots
-    → place_from s.path (front ++ (j ∷ rest)) (table s.fields s.slots) ≡ place_from v.path (j ∷ rest) (table v.fields v.slots)
-along-place [] [] j rest s v goes leads made = ap (λ (x : Visit). place_from x.path (j ∷ rest) (table x.fields x.slots)) leads
-along-place [] (i ∷ front) j rest s v goes leads made = absurd goes
-along-place (into_table k ∷ way) [] j rest s v goes leads made = absurd goes
-along-place (into_table k ∷ way) (i ∷ front) j rest s v goes (l, f, ss, eq, more) made =
-    let fd : Found k (keyed l (table f ss)) (slot_list s.slots) = found k s.slots (keyed l (table f ss)) made eq in
-    let at : lookup_slot i (slot_list s.slots) ≡ Some (keyed l (table f ss)) = ap (λ x. lookup_slot x (slot_list s.slots)) goes.0 ∙ eq in
-    let name : to_key s.path i ≡ to_key s.path l.name = ap (to_key s.path) (goes.0 ∙ fd.named) in
-    ap (λ o. place_from (to_key s.path i) (front ++ (j ∷ rest)) (item_or o)) at
-    ∙ ap (λ q. place_from q (front ++ (j ∷ rest)) (table f ss)) name
-    ∙ along-place way front j rest (visit_of (to_key s.path l.name) (s.keys ++ (l ∷ [])) false f ss) v goes.1 more fd.made
-along-place (into_element k i ∷ way) [] j rest s v goes leads made = absurd goes
-along-place (into_element k i ∷ way) (a ∷ []) j rest s v goes leads made = absurd goes
-along-place (into_element k i ∷ way) (a ∷ x ∷ front) j rest s v goes (l, e, xs, before, f, ss, after, eq, items, place, more) made =
-    let fd : Found k (keyed l (tables e xs)) (slot_list s.slots) = found k s.slots (keyed l (tables e xs)) made eq in
-    let at : lookup_slot a (slot_list s.slots) ≡ Some (keyed l (tables e xs)) = ap (λ z. lookup_slot z (slot_list s.slots)) goes.0 ∙ eq in
-    let name : to_key s.path a ≡ to_key s.path l.name = ap (to_key s.path) (goes.0 ∙ fd.named) in
-    let well : SlotsAreWellMade ss =
-    item-made before (table f ss) after (subst ItemsAreWellMade (sym (items_from-list xs) ∙ ap items_from items) fd.made) in
-    let element : element_of is_table_node x (item_list xs) ≡ Some (i, table f ss) =
-    element-there is_table_node x i (item_list xs) before (table f ss) after goes.1 items place refl in
-    let count : element_count (take i (item_list xs)) ≡ element_count before =
-    ap (λ ys. element_count (take i ys)) items ∙ ap (λ n. element_count (take n (before ++ (table f ss ∷ after)))) (sym place)
-    ∙ ap element_count (take-front before (table f ss ∷ after)) in
-    ap (λ o. place_from (to_key s.path a) (x ∷ (front ++ (j ∷ rest))) (item_or o)) at
-    ∙ element-step (to_key s.path a) x front j rest e xs
-    ∙ ap (λ o. place_from (element_path (to_key s.path a) (item_list xs) o) (front ++ (j ∷ rest)) (element_or o)) element
-    ∙ ap (λ n. place_from (to_element (to_key s.path a) n) (front ++ (j ∷ rest)) (table f ss)) count
-    ∙ ap (λ q. place_from (to_element q (element_count before)) (front ++ (j ∷ rest)) (table f ss)) name
-    ∙ along-place way front j rest (visit_of (to_element (to_key s.path l.name) (element_count before)) (s.keys ++ (l ∷ [])) true f ss) v goes.2
-    more well
-
--- a path that goes the way to a table, and from there to a key
-pub goes-place : (t : Tree) (way : List Turn) (path front : List Text) (k : Text) (inner : List Text) (v : Visit) (o : Option (Slot Node))
-    → SlotsAreWellMade t.slots → Goes way front → path ≡ front ++ (k ∷ inner) → Leads way (root_visit t) v
-    → lookup_slot k (slot_list v.slots) ≡ o → place_from (to_key v.path k) inner (item_or o) ≡ to_key v.path k
-    → place_of t path ≡ to_key v.path k
-goes-place t way path front k inner v o made goes is leads there ends =
-    ap (place_of t) is ∙ along-place way front k inner (root_visit t) v goes leads made
-    ∙ ap (λ x. place_from (to_key v.path k) inner (item_or x)) there ∙ ends
-
--- a key of a named table
-pub key-place : (t : Tree) (path : List Text) (k : Text) (v : Visit) → SlotsAreWellMade t.slots → NamesTable t path v
-    → place_of t (path ++ (k ∷ [])) ≡ to_key v.path k
-key-place t path k v made n =
-    goes-place t n.way (path ++ (k ∷ [])) path k [] v (lookup_slot k (slot_list v.slots)) made n.goes refl n.leads refl refl
-
--- ---- where a path leaves the walk
-
-spot-end : (q : Path) (top found : Node) (inner : List Text) → GoesOn top found inner → place_from q inner top ≡ q
-spot-end q top found [] (at_slot is) = refl
-spot-end q top found (x ∷ []) (at_element y e) = ap (place_from q (y ∷ [])) e.is
-spot-end q top found (x ∷ inner) (in_value y rest is) = value-place q (y ∷ rest) top is
-
-module _ (t : Tree) (made : SlotsAreWellMade t.slots) (path : List Text) (found_there : Node) (p : Spot (root_visit t) path found_there) where
-  name : p.segment ≡ p.key.name
-  name = (found p.segment p.visit.slots (keyed p.key p.top) (leads-made p.way (root_visit t) p.visit made p.leads) p.there).named
-
-  pub spot-place : place_of t path ≡ to_key p.visit.path p.key.name
-  spot-place =
-      goes-place t p.way path p.front p.segment p.inner p.visit (Some (keyed p.key p.top)) made p.goes p.path_is p.leads p.there
-      (spot-end (to_key p.visit.path p.segment) p.top found_there p.inner p.on)
-      ∙ ap (to_key p.visit.path) name
-
-  -- a longer path has the place of the value that it goes into
-  pub spot-further : is_value_node p.top ≡ true → (more : List Text) → place_of t (path ++ more) ≡ to_key p.visit.path p.key.name
-  spot-further value more =
-      goes-place t p.way (path ++ more) p.front p.segment (p.inner ++ more) p.visit (Some (keyed p.key p.top)) made p.goes
-      (ap (λ (q : List Text). q ++ more) p.path_is ∙ append_assoc p.front (p.segment ∷ p.inner) more) p.leads p.there
-      (value-place (to_key p.visit.path p.segment) (p.inner ++ more) p.top value)
-      ∙ ap (to_key p.visit.path) name
-
--- ---- the place of an edit
-
-module _ (mode : Mode) (t : Tree) (made : SlotsAreWellMade t.slots) where
-  slot-named : (way : List Turn) (v : Visit) (k : Text) (s : Slot Node) → Leads way (root_visit t) v → lookup_slot k (slot_list v.slots) ≡ Some s
-      → to_key v.path k ≡ to_key v.path s.key.name
-  slot-named way v k s leads there = ap (to_key v.path) (found k v.slots s (leads-made way (root_visit t) v made leads) there).named
-
-  pub removal-place : (path : List Text) (e : Edit) → IsEditAt (removes path) e → (a : Applies mode e t) → place_of t path ≡ named_path mode e t a
-  removal-place path (replace way k f n) (x, inner, (front, goes, is), keeps) a =
-      goes-place t way path front k (x ∷ inner) a.0 (Some (keyed a.1 a.2)) made goes is a.3 a.4 (value-place (to_key a.0.path k) (x ∷ inner) a.2 a.5)
-      ∙ slot-named way a.0 k (keyed a.1 a.2) a.3 a.4
-  removal-place path (add way k n) at a = absurd at
-  removal-place path (remove way k) (front, goes, is) a =
-      goes-place t way path front k [] a.0 (Some a.1) made goes is a.2 a.3 refl ∙ slot-named way a.0 k a.1 a.2 a.3
-  removal-place path (remove_element way k i) (x, (front, goes, is), number) (v, w, leads, (l, e, xs, before, f, ss, after, eq, items, place, last)) =
-      goes-place t way path front k (x ∷ []) v (Some (keyed l (tables e xs))) made goes is leads eq refl
-
-  pub set-place : (path : List Key) (v : Node) (e : Edit) → IsEditAt (sets path v) e → (a : Applies mode e t)
-      → place_of t (names path) ≡ named_path mode e t a
-  set-place path v (replace way k f n) (inner, (front, goes, is), keeps) a =
-      goes-place t way (names path) front k inner a.0 (Some (keyed a.1 a.2)) made goes is a.3 a.4 (value-place (to_key a.0.path k) inner a.2 a.5)
-      ∙ slot-named way a.0 k (keyed a.1 a.2) a.3 a.4
-  set-place path v (add way k n) (front, l, inner, goes, is, key, item) a =
-      let name : k.name ≡ l.name = ap (λ (z : Key). z.name) key in
-      goes-place t way (names path) (names front) k.name (names inner) a.0 None made goes
-      (ap names is ∙ names-join front (l ∷ inner) ∙ ap (λ z. names front ++ (z ∷ names inner)) (sym name)) a.1 a.2
-      (nothing-place (to_key a.0.path k.name) (names inner))
-  set-place path v (remove way k) at a = absurd at
-  set-place path v (remove_element way k i) at a = absurd at
-
--- ---- places in a changed tree
+use Rattle.toml_edit_edit_laws.specs.Commands.{at_number, kept_item, number_of}
+use Rattle.toml_edit_edit_laws.specs.Places.{element_or, element_path, item_or, place_from}
+use Rattle.toml_edit_edit_laws.proofs.path_calls.Places.{take-front}
 
 other-lookup : (j k : Text) (F : Slot Node → Slot Node) → ((s : Slot Node) → (F s).key.name ≡ s.key.name) → same_text j k ≡ false
     → (es : List (Slot Node)) → lookup_slot j (changed k F es) ≡ lookup_slot j es

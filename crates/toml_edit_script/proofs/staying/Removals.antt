@@ -3,7 +3,6 @@ use Rattle.std.proofs.Common.{◌≡◌, refl, sym, ◌∙◌, ap, subst, ℕ, B
 use Rattle.std.specs.Prelude.{◌⊎◌, ◌-◌, nat_lt, if◌then◌else◌}
 use Rattle.toml_edit_model.specs.Mode.{Mode}
 use Rattle.toml_edit_model.specs.Text.{Text}
-use Rattle.toml_edit_model.specs.Paths.{Path}
 use Rattle.toml_edit_model.specs.ArrayCalls.{removed_at}
 use Rattle.toml_edit_model.specs.Keys.{new_key}
 use Rattle.toml_edit_model.specs.Tree.{Raw, owned, ArrayFields, Node, nothing, leaf, list, inline, table, tables, Items, SlotsAreWellMade, ItemsAreWellMade, IsWellMade, Tree, is_value_node, node_decor}
@@ -22,8 +21,7 @@ use Rattle.toml_edit_paths.specs.Calls.{replaced_below}
 use Rattle.toml_edit_paths.specs.Lines.{drop_line, remove_line_at, remove_line_below}
 use Rattle.toml_edit_script.proofs.staying.Words.{StaysAt, LineRemovalStays}
 use Rattle.toml_edit_script.proofs.staying.Below.{AreMade, below-made, made-changed, made-dropped, made-join, made-taken}
-use Rattle.toml_edit_script.specs.Places.{place_of}
-use Rattle.toml_edit_script.proofs.staying.Places.{removal-place}
+use Rattle.toml_edit_edit_laws.specs.Places.{place_of}
 use Rattle.toml_edit_edit_laws.specs.Staying.{StaysButAt}
 use Rattle.toml_edit_script.proofs.staying.Values.{value-stays}
 
@@ -131,8 +129,7 @@ module _ (mode : Mode) (t u : Tree) (path : List Text) (made : SlotsAreWellMade 
     (gone : remove_line_at path t ≡ done u) where
   by_place : (r : Node) → u ≡ with_slots t r → (remove_below path (root_item t) ≡ done r) ⊎ InArray path (root_item t) r → StaysAt mode t u path
   by_place r gives (inl h) =
-      let x = remove_edits mode t u path made steady (ap (mapped (with_slots t)) h ∙ ap (λ y. done y) (sym gives)) in
-      subst (λ (q : Path). StaysButAt mode (q ∷ []) t u) (sym (removal-place mode t made path x.edit x.at x.applies)) x.stays
+      (remove_edits mode t u path made steady (ap (mapped (with_slots t)) h ∙ ap (λ y. done y) (sym gives))).stays
   by_place r gives (inr x) =
       let m : Node = list (fields_removed x.at x.fields (item_list x.items)) (items_from (line_removed x.at x.fields (item_list x.items))) in
       let old : IsWellMade (list x.fields x.items) = below-made x.above (root_item t) (list x.fields x.items) made x.there in

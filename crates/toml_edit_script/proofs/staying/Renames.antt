@@ -21,8 +21,8 @@ use Rattle.toml_edit_edit_laws.proofs.path_calls.Staying.{renaming_stays}
 use Rattle.toml_edit_edit_laws.proofs.renaming.Names.{made-renamed, others-of_name, renamed-is}
 use Rattle.toml_edit_paths.specs.Calls.{replaced_at}
 use Rattle.toml_edit_script.proofs.staying.Words.{StaysWithin, StaysAtBoth, KeyStays}
-use Rattle.toml_edit_script.specs.Places.{place_of}
-use Rattle.toml_edit_script.proofs.staying.Places.{key-place}
+use Rattle.toml_edit_edit_laws.specs.Places.{place_of}
+use Rattle.toml_edit_edit_laws.proofs.path_calls.Places.{key-place}
 use Rattle.toml_edit_script.proofs.staying.Below.{below-made}
 use Rattle.toml_edit_script.proofs.staying.Tables.{InsideValue, OnWalk, table-lands, walk-left}
 use Rattle.toml_edit_script.proofs.staying.Values.{value-stays}

@@ -1,15 +1,13 @@
 -- A value that is put in a value, or under a new key.
-use Rattle.std.proofs.Common.{◌≡◌, refl, sym, ◌∙◌, ap, subst, true, List, [], ◌∷◌, ◌++◌, Some, None, inl, inr}
+use Rattle.std.proofs.Common.{◌≡◌, refl, sym, ◌∙◌, ap, subst, true, List, [], ◌∷◌, ◌++◌, Some, inl, inr}
 use Rattle.toml_edit_model.specs.Mode.{Mode}
 use Rattle.toml_edit_model.specs.Text.{Text}
-use Rattle.toml_edit_model.specs.Paths.{Path, to_key}
 use Rattle.toml_edit_model.specs.Keys.{names, new_key}
 use Rattle.toml_edit_model.specs.Tree.{Key, Node, nothing, leaf, list, inline, table, tables, no_slots, slot, SlotsAreWellMade, IsWellMade, Tree, is_value_node}
 use Rattle.toml_edit_model.specs.Fits.{is_steady_in}
 use Rattle.toml_edit_model.specs.Slots.{with_item, changed}
 use Rattle.toml_edit_model.specs.Lists.{slot_list, slots_from}
 use Rattle.toml_edit_laws.specs.Locality.{root_visit, is_plain_value}
-use Rattle.toml_edit_laws.specs.EditLists.{named_path}
 use Rattle.toml_edit_laws.proofs.common.OptionSteps.{some-is}
 use Rattle.toml_edit_edit_laws.specs.Commands.{done, mapped, child, item_at, item_below, root_item, set_at, set_below, with_slots}
 use Rattle.toml_edit_edit_laws.specs.CommandLaws.{AreSpelled}
@@ -25,9 +23,9 @@ use Rattle.toml_edit_edit_laws.proofs.path_calls.Setting.{set_adds_after_lines, 
 use Rattle.toml_edit_paths.specs.Calls.{replaced_at, replaced_below}
 use Rattle.toml_edit_script.specs.OthersStay.{HasPlace, in_value, at_new_key}
 use Rattle.toml_edit_script.proofs.staying.Words.{StaysAt, StaysWithin, SetStays, HeaderStays}
-use Rattle.toml_edit_script.specs.Places.{place_of}
-use Rattle.toml_edit_script.proofs.staying.Below.{below-made, child-goes, names-join, same-child}
-use Rattle.toml_edit_script.proofs.staying.Places.{goes-place, nothing-place, set-place}
+use Rattle.toml_edit_edit_laws.specs.Places.{place_of}
+use Rattle.toml_edit_edit_laws.proofs.path_calls.Places.{names-join}
+use Rattle.toml_edit_script.proofs.staying.Below.{below-made, child-goes, same-child}
 use Rattle.toml_edit_script.proofs.staying.Values.{value-stays}
 
 -- ---- in a value
@@ -74,16 +72,11 @@ module _ (mode : Mode) (t u : Tree) (path : List Key) (v : Node) (made : SlotsAr
       subst (λ (q : List Text). StaysButAt mode (place_of t q ∷ []) t u) (sym (names-join front inner) ∙ ap names (sym same))
       (set-in front inner old same spelled there value (names inner))
   set-under below (at_new_key front k w same spelled names-it new (inl has)) =
-      let x = set_adds_under mode t u front w k below v made steady wv plain spelled names-it new has (ap (λ q. set_at q v t) (sym same) ∙ set) in
-      let is : place_of t (names path) ≡ named_path mode x.edit t x.applies =
-      ap (λ q. place_of t (names q)) same ∙ set-place mode t made (front ++ (k ∷ below)) v x.edit x.at x.applies in
-      subst (λ (q : Path). StaysButAt mode (q ∷ []) t u) (sym is) x.stays
+      subst (λ q. StaysAt mode t u (names q)) (sym same)
+      (set_adds_under mode t u front w k below v made steady wv plain spelled names-it new has (ap (λ q. set_at q v t) (sym same) ∙ set)).stays
   set-under below (at_new_key front k w same spelled names-it new (inr some)) =
-      let x = set_adds_after_lines mode t u front w k below v made steady wv plain spelled names-it new some (ap (λ q. set_at q v t) (sym same) ∙ set) in
-      let is : place_of t (names path) ≡ to_key w.path k.name =
-      goes-place t names-it.way (names path) (names front) k.name (names below) w None made names-it.goes
-      (ap names same ∙ names-join front (k ∷ below)) names-it.leads new (nothing-place (to_key w.path k.name) (names below)) in
-      subst (λ (q : Path). StaysButAt mode (q ∷ []) t u) (sym is) x.1
+      subst (λ q. StaysAt mode t u (names q)) (sym same)
+      (set_adds_after_lines mode t u front w k below v made steady wv plain spelled names-it new some (ap (λ q. set_at q v t) (sym same) ∙ set)).1
 
 pub set-stays : (mode : Mode) → SetStays mode
 set-stays mode t u path below v made steady plain wv may set = set-under mode t u path v made steady plain wv set below may

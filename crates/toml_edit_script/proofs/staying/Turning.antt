@@ -23,8 +23,8 @@ use Rattle.toml_edit_edit_laws.specs.Comments.{header_edited, recommented, with_
 use Rattle.toml_edit_edit_laws.proofs.commands.Going.{changed-same, element-there}
 use Rattle.toml_edit_edit_laws.proofs.path_calls.Spots.{GoesOn, at_slot, at_element, in_value, Spot, spot}
 use Rattle.toml_edit_paths.specs.Calls.{replaced_at, replaced_below}
-use Rattle.toml_edit_script.specs.Places.{place_of}
-use Rattle.toml_edit_script.proofs.staying.Places.{spot-place}
+use Rattle.toml_edit_edit_laws.specs.Places.{place_of}
+use Rattle.toml_edit_edit_laws.proofs.path_calls.Places.{spot-place}
 use Rattle.toml_edit_script.proofs.staying.Tables.{InsideValue, goes-join}
 use Rattle.toml_edit_script.proofs.staying.Values.{inside-value, slot-left}
 

@@ -26,7 +26,7 @@ use Rattle.toml_edit_edit_laws.proofs.path_calls.Spots.{GoesOn, at_slot, at_elem
 use Rattle.toml_edit_edit_laws.proofs.path_calls.Staying.{edit_stays}
 use Rattle.toml_edit_paths.specs.Calls.{replaced_at, replaced_below}
 use Rattle.toml_edit_script.proofs.staying.Words.{StaysWithin, ValueStays}
-use Rattle.toml_edit_script.proofs.staying.Places.{spot-further}
+use Rattle.toml_edit_edit_laws.proofs.path_calls.Places.{spot-further}
 
 -- what a path leads to can be replaced
 pub there-replaced : (path : List Text) (m n a : Node) → item_below path n ≡ Some a → (r : Node) × (replaced_below path m n ≡ done r)

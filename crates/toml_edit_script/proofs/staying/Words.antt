@@ -20,7 +20,7 @@ use Rattle.toml_edit_edit_laws.specs.Staying.{StaysButAt}
 use Rattle.toml_edit_paths.specs.Calls.{item_inside, replaced_at}
 use Rattle.toml_edit_paths.specs.Lines.{remove_line_at}
 use Rattle.toml_edit_script.specs.OthersStay.{HasPlace, TakesLines}
-use Rattle.toml_edit_script.specs.Places.{place_of}
+use Rattle.toml_edit_edit_laws.specs.Places.{place_of}
 
 -- the item with this comment
 abbrev pub IsCommented : Option Text → Node → Node → Type 0

@@ -16,7 +16,7 @@ use Rattle.toml_edit_tree.specs.declared.value.Value.{Value}
 use Rattle.toml_edit_edit_laws.specs.Commands.{item_at}
 use Rattle.toml_edit_edit_laws.specs.CommandLaws.{NamesTable}
 use Rattle.toml_edit_script.specs.OthersStay.{HasPlace, IsHarmless, IsHarmlessAt, IsLocal, IsSort, MayMove, at_new_key, beside, in_value, into_table, paths_of, places_of}
-use Rattle.toml_edit_script.specs.Places.{place_of}
+use Rattle.toml_edit_edit_laws.specs.Places.{place_of}
 use Rattle.toml_edit_script.specs.declared.edit.Edit.TheVariants as edits
 
 abbrev a : Text

@@ -10,7 +10,6 @@ use crate::inline_table::InlineTable;
 use crate::item::Item;
 use crate::value::Value;
 use std::{slice, vec};
-use toml_edit_repr::InternalString;
 use toml_edit_slots::Slot;
 
 /// An iterator over the names of the keys of an inline table and their values, in order.
@@ -76,7 +75,7 @@ pub struct InlineTableIntoIter {
 }
 
 impl IntoIterator for InlineTable {
-    type Item = (InternalString, Value);
+    type Item = (String, Value);
 
     type IntoIter = InlineTableIntoIter;
 
@@ -90,17 +89,17 @@ impl IntoIterator for InlineTable {
 }
 
 impl Iterator for InlineTableIntoIter {
-    type Item = (InternalString, Value);
+    type Item = (String, Value);
 
     ghost next_gives = { YieldsFirstBy pair_owned owned_pairs };
 
     ghost remaining = { item_count owned_pairs };
 
-    fn next(&mut self) -> Option<(InternalString, Value)> {
+    fn next(&mut self) -> Option<(String, Value)> {
         while let Some(slot) = self.slots.next() {
             let Slot { key, item } = slot;
             match item {
-                Item::Value(value) => return Some((InternalString::from(key), value)),
+                Item::Value(value) => return Some((String::from(key), value)),
                 other => drop(other),
             }
         }

@@ -11,7 +11,6 @@ ghost use Rattle.toml_edit_tree.specs.View.{slots_view};
 use crate::item::Item;
 use crate::table::{Table, is_filled};
 use std::{slice, vec};
-use toml_edit_repr::InternalString;
 use toml_edit_slots::Slot;
 
 /// An iterator over the names of the keys of a table and their items, in order and without
@@ -93,7 +92,7 @@ pub struct IntoIter {
 }
 
 impl IntoIterator for Table {
-    type Item = (InternalString, Item);
+    type Item = (String, Item);
 
     type IntoIter = IntoIter;
 
@@ -107,14 +106,14 @@ impl IntoIterator for Table {
 }
 
 impl Iterator for IntoIter {
-    type Item = (InternalString, Item);
+    type Item = (String, Item);
 
     ghost next_gives = { YieldsFirstBy pair_taken all_left };
 
     ghost remaining = { item_count all_left };
 
-    fn next(&mut self) -> Option<(InternalString, Item)> {
+    fn next(&mut self) -> Option<(String, Item)> {
         let Slot { key, item } = self.slots.next()?;
-        Some((InternalString::from(key), item))
+        Some((String::from(key), item))
     }
 }

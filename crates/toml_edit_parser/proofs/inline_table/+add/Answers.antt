@@ -1,5 +1,5 @@
 -- Each exit of the descent along a path.
-use Rattle.std.proofs.Common.{List, refl, ap, sym, subst, ◌∙◌, arith, rules, Some, lit<, inr}
+use Rattle.std.proofs.Common.{List, refl, ap, sym, subst, ◌∙◌, arith, rules, Some, lit<, inr, string_bytes}
 use Rattle.std.proofs.lemmas.Result.{err_from_is_err_and}
 use Rattle.toml_edit_model.specs.Version.{v1_1}
 use Rattle.toml_edit_model.specs.Faults.{duplicate_key}
@@ -36,7 +36,7 @@ add_entry-returns-in_err-name-clause-entry t c =
 pub add_entry-returns-in-None-clause-entry : goal.add_entry-returns-in-None-clause-entry
 add_entry-returns-in-None-clause-entry t c =
     λ e p start above are stands at.
-    last-added c.args.reader.now.source.now e p start above c.args.path c.in-Some.first c.in-Some.rest.now c.in_ok-name.name
+    last-added c.args.reader.now.source.now e p start above c.args.path c.in-Some.first c.in-Some.rest.now (string_bytes c.in_ok-name.name)
     c.last_key.result
     (item_view c.args.item.now) (slots_view c.args.slots.now) (slots_view c.add_last.new.slots) c.add_last.result
     (record { are = are; stands = stands; at = at; split = c.in-Some.ensures; told = c.in_ok-name.ensures.name })
@@ -75,7 +75,7 @@ pub add_entry-returns-in-Some-find-clause-entry : goal.add_entry-returns-in-Some
 add_entry-returns-in-Some-find-clause-entry t c =
     λ e p start above are stands at.
     let named = c.get.ensures.name ∙ ap (λ (k : Key). k.name) c.passed_key-key.ensures.key in
-    inside-added c.args.reader.now.source.now e p start above c.args.path c.in-Some.first c.in-Some.rest.now c.in_ok-name.name
+    inside-added c.args.reader.now.source.now e p start above c.args.path c.in-Some.first c.in-Some.rest.now (string_bytes c.in_ok-name.name)
     c.in-Some-split_dot.after c.in-Some-split_dot.inside c.args.slots.now c.in-Some-find.at c.item_mut.result.now c.add_inside.new.holder
     (item_view c.args.item.now)
     c.add_inside.result
@@ -95,7 +95,7 @@ pub add_entry-returns-in-None-find-clause-entry : goal.add_entry-returns-in-None
 add_entry-returns-in-None-find-clause-entry t c =
     λ e p start above are stands at.
     let named = c.get.ensures.name ∙ ap (λ (k : Key). k.name) c.passed_key-key.ensures.key in
-    below-added c.args.reader.now.source.now e p start above c.args.path c.in-Some.first c.in-Some.rest.now c.in_ok-name.name
+    below-added c.args.reader.now.source.now e p start above c.args.path c.in-Some.first c.in-Some.rest.now (string_bytes c.in_ok-name.name)
     c.in-Some-split_dot.after c.in-Some-split_dot.inside c.args.slots.now c.passed_key-key.result (item_view c.args.item.now)
     (slots_view c.add_below.new.slots)
     c.add_below.result

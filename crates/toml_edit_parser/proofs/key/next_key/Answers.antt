@@ -1,4 +1,4 @@
-use Rattle.std.proofs.Common.{arith, subst, sym}
+use Rattle.std.proofs.Common.{string_bytes, arith, subst, sym}
 use Rattle.std.proofs.lemmas.Result.{err_from_is_err_and}
 use Rattle.toml_edit_parser.specs.Near.{IsNear}
 use Rattle.toml_edit_parser.proofs.KeyPathLaws.{after-dot-in, behind-dot-in, last-read, name-refused, passed-read}
@@ -16,7 +16,7 @@ returns-in_err-name-clause-key c =
 pub returns-in-None-clause-key : goal.returns-in-None-clause-key
 returns-in-None-clause-key c =
     λ own p start are stands at.
-    last-read c.args.reader.now.source.now own p start c.args.path c.in-Some.first c.in-Some.rest.now c.in_ok-name.name
+    last-read c.args.reader.now.source.now own p start c.args.path c.in-Some.first c.in-Some.rest.now (string_bytes c.in_ok-name.name)
     c.last_key-key.result
     (record { are = are; stands = stands; at = at; split = c.in-Some.ensures }) c.in_ok-name.ensures.name c.in-None.ensures
     c.last_key-key.ensures.key
@@ -24,7 +24,7 @@ returns-in-None-clause-key c =
 pub returns-in-Some-split_dot-clause-key : goal.returns-in-Some-split_dot-clause-key
 returns-in-Some-split_dot-clause-key c =
     λ own p start are stands at.
-    passed-read c.args.reader.now.source.now own p start c.args.path c.in-Some.first c.in-Some.rest.now c.in_ok-name.name
+    passed-read c.args.reader.now.source.now own p start c.args.path c.in-Some.first c.in-Some.rest.now (string_bytes c.in_ok-name.name)
     c.passed_key-key.result
     c.in-Some-split_dot.after c.in-Some-split_dot.inside
     (record { are = are; stands = stands; at = at; split = c.in-Some.ensures }) c.in_ok-name.ensures.name c.in-Some-split_dot.ensures

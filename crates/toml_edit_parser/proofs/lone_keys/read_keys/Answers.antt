@@ -23,7 +23,7 @@ segments-init c =
     let at : Span = record { start = length before; end = length before } in
     let whole = ap (λ (t : Text). length t) are.is.parts ∙ length-append before (path_text are.path ++ after) in
     let short = c.args.reader.now.short in
-    let within : length before < 2 ^ 32 = omega (arith, whole, short) in
+    let within : length before < 2 ^ 56 = omega (arith, whole, short) in
     let front : IsNear at = record { start = within; end = within } in
     let left : KeyPath = record { prefix = at; suffix = at; before = at; events = c.as_slice.result } in
     record {

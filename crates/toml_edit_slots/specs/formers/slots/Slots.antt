@@ -15,18 +15,17 @@ use Rattle.std.specs.declared.alloc.Global.{Global}
 use Rattle.std.specs.contracts.alloc.Global as heap
 use Rattle.std.specs.contracts.impls.GlobalAllocator.TheImpl.{ghosts}
 use Rattle.std.specs.List.{IsDistinct, IsDistinct-prop}
-use Rattle.std.specs.Prelude.{ℕ, suc, ◌^◌, ◌<◌, Option, None, Some, vec_len}
+use Rattle.std.specs.Prelude.{Option, None, Some}
 use Rattle.std.specs.Global.{Box}
-use Rattle.std.specs.Coded.{Coded-set, coded_list, coded_option, coded_ℕ, ×_prop, le_prop}
+use Rattle.std.specs.Coded.{Coded-set, coded_option, coded_ℕ, ×_prop, le_prop}
 use Rattle.toml_edit_model.specs.Text.{Text, same_text}
 use Rattle.toml_edit_model.specs.Tree.{Key}
-use Rattle.toml_edit_slots.specs.Slots.{names, on_item}
-use Rattle.toml_edit_slots.specs.Chains.{IsLinked, IsLinkedBefore, hashes, name_hash}
+use Rattle.toml_edit_slots.specs.Slots.{names, on_item, place_in}
+use Rattle.toml_edit_slots.specs.Hashed.{place_of}
 use Rattle.toml_edit_slots.specs.SlotIndex.{IsIndex, IsIndexed, noted_place}
 use Rattle.toml_edit_slots.specs.SlotCode.{slot_code}
-use Rattle.toml_edit_slots.specs.declared.chains.Chains.{Chains}
 use Rattle.toml_edit_slots.specs.declared.index.Index.{Index}
-use Rattle.toml_edit_slots.specs.declared.index.Index.TheVariants.{Chained, Sorted}
+use Rattle.toml_edit_slots.specs.declared.index.Index.TheVariants.{Hashed, Sorted}
 use Rattle.toml_edit_key.specs.contracts.key.Key as key
 use Rattle.toml_edit_slots.specs.declared.slots.Slot.{Slot}
 use Rattle.toml_edit_slots.specs.contracts.slots.Slot as slot
@@ -78,24 +77,9 @@ fields =
     (λ X a. (a.entries, a.index)) (λ X v. record { entries = v.0; index = v.1 }) (λ X a. refl)
     (λ X v. refl)
 
-IsLinkedBefore-prop : (n : ℕ) (m : Chains) → IsProp (IsLinkedBefore n m)
-IsLinkedBefore-prop n m =
-    ×_prop (λ p q i c h. Coded-set coded_ℕ _ _ (p c h) (q c h) i)
-    (λ p q i k h. Coded-set coded_ℕ _ _ (p k h) (q k h) i)
-
-lt_prop : (a b : ℕ) → IsProp (a < b)
-lt_prop a b = le_prop {n = suc a} {m = b}
-
-IsLinked-prop : (m : Chains) → IsProp (IsLinked m)
-IsLinked-prop m p q i = (
-  lt_prop 0 (vec_len m.heads) p.0 q.0 i,
-  lt_prop (vec_len m.links) (2 ^ 32) p.1 q.1 i,
-  IsLinkedBefore-prop (vec_len m.links) m p.2 q.2 i,
-)
-
 IsIndex-prop : (index : Index) (us : List Text) → IsProp (IsIndex index us)
-IsIndex-prop (Chained m) us =
-    ×_prop (IsLinked-prop m) (λ p q i. Coded-set (coded_list coded_ℕ) (hashes m) (map name_hash us) p q i)
+IsIndex-prop (Hashed m) us =
+    λ p q i t. Coded-set (coded_option coded_ℕ) (place_of m t) (place_in t us) (p t) (q t) i
 IsIndex-prop (Sorted m) us =
     λ p q i k t there. Coded-set (coded_option coded_ℕ) (noted_place m t) (Some k) (p k t there)
     (q k t there) i

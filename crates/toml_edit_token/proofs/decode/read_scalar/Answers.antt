@@ -1,16 +1,15 @@
--- A text that begins as a word is read whole as one.
-use Rattle.std.proofs.Common.{◌≡◌, sym, ap, subst, ◌∙◌, Option}
+-- An integer in range is the scalar that the text spells.
+use Rattle.std.proofs.Common.{w64, to_z, of_z, ◌≡◌, ℤ, Option, Some, sym, ap, subst, ◌∙◌, rules}
 use Rattle.std.specs.Prelude.{option_map, IfOk}
 use Rattle.toml_edit_model.specs.Scalars as scalars
-use Rattle.toml_edit_laws.specs.reading.Runs.{is_word_byte}
-use Rattle.toml_edit_laws.specs.reading.Tokens.{ranged}
 use Rattle.toml_edit_token.specs.Decoded.{scalar_view}
-use Rattle.toml_edit_token.proofs.WordReading.{word_whole}
+use Rattle.toml_edit_token.proofs.Decoding.{scalar_known}
 use Rattle.toml_edit_token.proofs.decode.read_scalar.Goals as goal
 
-pub returns-then-is_word : goal.returns-then-is_word
-returns-then-is_word c =
+pub returns-in-Some : goal.returns-in-Some
+returns-in-Some c =
     let t = c.args.text.now in
-    let begins = sym (c.is_word.ensures ∙ ap is_word_byte c.first_byte.ensures) ∙ c.if-is_word.true in
-    subst (λ (o : Option scalars.Scalar). IfOk c.read_word.result (λ r. option_map scalar_view r ≡ ranged t o)) (sym (word_whole t begins))
-    c.read_word.ensures
+    let z = c.in-Some.integer in
+    let own : to_z w64 (of_z w64 z) ≡ z = search rules in
+    let known = ap (λ (y : ℤ). Some (scalars.integer y)) own ∙ sym (scalar_known t (scalars.integer z) c.in-Some.ensures.found) in
+    subst (λ (o : Option scalars.Scalar). IfOk c.integer_read.result (λ r. option_map scalar_view r ≡ o)) known c.integer_read.ensures

@@ -6,8 +6,7 @@ use Rattle.toml_edit_fits.specs.Misfits.{below_key}
 use Rattle.toml_edit_fits.specs.MisfitViews.{TrailTells}
 use Rattle.toml_edit_fits.proofs.report.TrailReport.report_element.Goals as goal
 
-pub returns-in-Ok-new : goal.returns-in-Ok-new
-returns-in-Ok-new c place h =
+pub returns-in-Ok : goal.returns-in-Ok
+returns-in-Ok c place h =
     let digits = rw c.in-Ok.is at c.to_string.ensures in
-    let key = rw c.in-Ok-new.is at c.new.ensures.ok in
-    subst (λ (k : Key). TrailTells c.add.new.self (below_key k place)) (key ∙ ap new_key digits.ok) (c.add.ensures place h)
+    subst (λ (k : Key). TrailTells c.add.new.self (below_key k place)) (c.new.ensures ∙ ap new_key digits.ok) (c.add.ensures place h)

@@ -29,13 +29,13 @@ returns-in_default-clause-value c =
     λ s t start after suffix more spells stands place_is events_are counted. absurd (let none = c.in_default.ensures
     ∙ ap split_first events_are in cc)
 
-pub returns-in-Some-integer_of-clause-value : goal.returns-in-Some-integer_of-clause-value
-returns-in-Some-integer_of-clause-value c =
+pub returns-in-Some-decode_integer-clause-value : goal.returns-in-Some-decode_integer-clause-value
+returns-in-Some-decode_integer-clause-value c =
     λ s t start after suffix more spells stands place_is events_are counted.
     let place = c.args.span in
     let text = c.text_at-text.result.now in
     let text_is = c.text_at-text.ensures ∙ place_cut c.args.reader.now.source.now place start t place_is stands in
-    let read = c.in-Some-integer_of in
+    let read = c.in-Some-decode_integer in
     let same = read.ensures.only s (subst (λ (x : Text). Spells s x) (sym text_is) spells) in
     let found = read.ensures.found in
     let number = read.number in
@@ -57,8 +57,8 @@ returns-in-Some-integer_of-clause-value c =
     c.args.events.now c.in-Some.rest.now
     (values.Integer c.spanned.result) c.new-decor.result spells place_is events_are c.in-Some.ensures counted fits view decor)
 
-pub returns-in-Some-integer_of-clause-rest : goal.returns-in-Some-integer_of-clause-rest
-returns-in-Some-integer_of-clause-rest c =
+pub returns-in-Some-decode_integer-clause-rest : goal.returns-in-Some-decode_integer-clause-rest
+returns-in-Some-decode_integer-clause-rest c =
     let p = first_in c.args.reader.now.source.now c.args.events.now c.in-Some.end c.in-Some.rest.now c.in-Some.ensures c.requires.spans in
     (p.1, p.2)
 

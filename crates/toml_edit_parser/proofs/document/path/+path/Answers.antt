@@ -1,5 +1,5 @@
 -- Each exit of the descent along a path.
-use Rattle.std.proofs.Common.{ℕ, ◌≡◌, ◌-◌, length, refl, ap, sym, ◌∙◌, arith, rules, Some, get_or, set, slice_get, vec_len, inr, None}
+use Rattle.std.proofs.Common.{ℕ, ◌≡◌, ◌-◌, length, refl, ap, sym, ◌∙◌, arith, rules, Some, get_or, set, slice_get, vec_len, inr, None, string_bytes}
 use Rattle.std.proofs.lemmas.Result.{err_from_is_err_and}
 use Rattle.toml_edit_model.specs.Version.{v1_1}
 use Rattle.toml_edit_model.specs.Faults.{duplicate_key}
@@ -56,7 +56,7 @@ add_path-returns-in-None-clause-added t c =
     let k : PathKey = record { key = c.last_key.result; span = first.span; rest = None } in
     last-here mode source c.put_last.result s ms k (addition_for c.args.adding.now.kind (item_view c.args.item.now))
     (slots_view c.args.slots.now) _
-    (last-step mode source s ms c.args.path first c.in-Some.rest.now c.in_ok-name.name c.last_key.result c.in-Some.ensures
+    (last-step mode source s ms c.args.path first c.in-Some.rest.now (string_bytes c.in_ok-name.name) c.last_key.result c.in-Some.ensures
     c.in_ok-name.ensures.name c.in-None.ensures c.last_key.ensures.key at) refl
     (λ m is. c.put_last.ensures.put mode s m head is)
 
@@ -66,7 +66,7 @@ add_path-add_below-requires t c =
     let first = first_in source c.args.path.events.now c.in-Some.first c.in-Some.rest.now c.in-Some.ensures c.requires.events in
     let dot = dot_in source c.args.path c.in-Some-split_dot.after c.in-Some-split_dot.inside c.in-Some.rest.now
     c.in-Some-split_dot.ensures first.1 c.requires.prefix c.requires.suffix in
-    let new = sym (c.in-None-place_of.ensures.place ∙ ap (λ (x : Text). place x c.args.slots.now) (c.as_str.ensures
+    let new = sym (c.in-None-place_of.ensures.place ∙ ap (λ (x : Text). place x c.args.slots.now) (c.as_str.ensures.value
     ∙ sym (ap (λ (k : Key). k.name) c.passed_key-key.ensures.key))) in
     (omega (arith, c.decreases, first.2, dot.2), (new, dot.1))
 
@@ -80,10 +80,10 @@ add_path-returns-in-None-place_of-clause-added t c =
     let es = c.args.slots.now in
     new-here mode source c.add_below.result s ms k inside
     (addition_for c.args.adding.now.kind (item_view c.args.item.now)) (slots_view es) _
-    (passed-step mode source s ms c.args.path first c.in-Some.rest.now c.in_ok-name.name c.passed_key-key.result
+    (passed-step mode source s ms c.args.path first c.in-Some.rest.now (string_bytes c.in_ok-name.name) c.passed_key-key.result
     c.in-Some-split_dot.after inside c.in-Some.ensures c.in_ok-name.ensures.name c.in-Some-split_dot.ensures c.passed_key-key.ensures.key
     at) refl
-    (node-none c.passed_key-key.result.name es (sym (c.in-None-place_of.ensures.place ∙ ap (λ (x : Text). place x es) (c.as_str.ensures
+    (node-none c.passed_key-key.result.name es (sym (c.in-None-place_of.ensures.place ∙ ap (λ (x : Text). place x es) (c.as_str.ensures.value
     ∙ sym (ap (λ (k : Key). k.name) c.passed_key-key.ensures.key)))))
     (λ q path. c.add_below.ensures.added mode s q head path)
 
@@ -100,13 +100,13 @@ add_path-returns-in-Some-place_of-clause-added t c =
     λ mode s ms head at.
     let source = c.args.adding.now.reader.now.source.now in
     let first = c.in-Some.first in
-    let name = c.in_ok-name.name in
+    let name = string_bytes c.in_ok-name.name in
     let after = c.in-Some-split_dot.after in
     let inside = c.in-Some-split_dot.inside in
     let key = key_with name first.span unset (spanned_raw c.args.path.before) (spanned_raw after) in
     let k : PathKey = record { key = key; span = first.span; rest = Some inside } in
     let es = c.args.slots.now in
-    let here = sym (c.in-Some-place_of.ensures.place ∙ ap (λ (x : Text). place x es) c.as_str.ensures) in
+    let here = sym (c.in-Some-place_of.ensures.place ∙ ap (λ (x : Text). place x es) c.as_str.ensures.value) in
     there-here mode source c.add_in_item.result s ms k inside
     (addition_for c.args.adding.now.kind (item_view c.args.item.now))
     (item_view c.item_mut.result.now) (item_view c.add_in_item.new.holder) (slots_view es) _

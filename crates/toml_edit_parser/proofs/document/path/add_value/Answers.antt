@@ -1,5 +1,5 @@
 -- A path of one event is one key; another goes the long way.
-use Rattle.std.proofs.Common.{◌∙◌, None, eqb-true, length, refl, sym}
+use Rattle.std.proofs.Common.{◌∙◌, None, eqb-true, length, refl, sym, string_bytes}
 use Rattle.std.proofs.lemmas.Result.{err_from_is_err_and}
 use Rattle.toml_edit_laws.specs.AddPath.{a_value}
 use Rattle.toml_edit_tree.specs.View.{item_view, slots_view}
@@ -40,7 +40,7 @@ returns-clause-added c =
     let rest = c.in-Some.rest.now in
     let k : PathKey = record { key = c.last_key.result; span = first.span; rest = None } in
     last-here mode t c.add_last.result s ms k (a_value n) ss _
-    (last-step mode t s ms c.args.path first rest c.in_ok-name.name c.last_key.result c.in-Some.ensures
+    (last-step mode t s ms c.args.path first rest (string_bytes c.in_ok-name.name) c.last_key.result c.in-Some.ensures
     c.in_ok-name.ensures.name (no-dot c.args.path rest
     (eqb-true (length rest) 0 (sym c.is_empty.ensures ∙ c.if-not-is_empty.false))) c.last_key.ensures.key at) refl
     (λ m is. line-put mode t c.add_last.result s m k.key k.span n ss _ is c.add_last.ensures.last)
