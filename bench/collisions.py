@@ -2,15 +2,16 @@
 """Prints how many instructions `tomled print` takes on texts whose keys were chosen to make it slow, beside as many ordinary keys of the
 same lengths, and how the instructions a byte grow where there are twice as many keys.
 
-The names are made for the index of `toml_edit_slots`: for the chains of `src/chains.rt`, and for the trees of `src/places.rt`, which take
-the chains' place once one of them has too many names. The attacks:
+The names are made for the index of `toml_edit_slots`: for the map of `src/hashed.rt`, for its tally of `src/tally.rt`, and for the trees
+of `src/places.rt`, which take the map's place once too many names begin their search in one region of it. The attacks:
 
-- colliding: all names have one hash. Names of less than 32 bytes cannot have one: some of them are in one chain, so that the trees take
-  over, and the others are found there.
+- colliding: all names have one hash. Names of less than 32 bytes cannot have one: a hundred of them begin in one region, so that the trees
+  take over, and the others are found there.
 - descending: the same names in falling order of their second hashes, so that each goes before all that the trees have.
-- full chains: as many chains as needed, each with as many names as it may have.
-- full tables: tables of as many keys as one chain may have, all in one.
-- crowded tables: tables of one key more, so that each goes over to trees.
+- full regions: the regions of one half of the map are next to each other, and filled with as many names as they may have. All names of a
+  region begin in its last group, or in its first one, so that those of two regions begin side by side.
+- one tag: tables of 640 keys with such regions, where all names have the tag by which a group tells its names apart.
+- small tables: tables of 143 keys, for which nothing is counted, whose names all begin in one group and have one tag.
 
 All names of an attack begin alike, up to their last 8 bytes. None are made to agree in the second hash: by hashing names until two agree,
 8,000 such pairs take some 2^39 names. Where names agree in it too, the later ones are found in a second tree, of the names themselves.
@@ -32,14 +33,15 @@ SIZES = (8, 16, 32, 64)
 MOST_GROWTH, MOST_BESIDE = 1.05, 2.0
 BARE = b"ABCDEFGHIJKLMNOPQRSTUVWXYZabcdefghijklmnopqrstuvwxyz0123456789_-"
 
-# The hasher, `FoldHasher`, as std has it: its first state, and the number that it multiplies by.
+# The hasher, as the kit has it: its first state, and the number that it multiplies by.
 FIRST, TIMES, WORD = 0x243F6A8885A308D3, 0x9E3779B97F4A7C15, 2**64 - 1
 
 # The second hasher, SipHash-1-3 with both keys 0, as std's `DefaultHasher` has it: its first state.
 SECOND = (0x736F6D6570736575, 0x646F72616E646F6D, 0x6C7967656E657261, 0x7465646279746573)
 
-# The most names of a chain, and the shortest names that can be made to have any one hash.
-LONGEST, LONG = 12, 32
+# The shortest names that can be made to have any one hash; the groups of a region; the most names of a region; the most slots of a table
+# that has no tally; and the slots for which a map has a group.
+LONG, REGION, MOST, UNCOUNTED, LOAD = 32, 8, 80, 143, 5.5
 
 
 def folded(a, b):
@@ -61,11 +63,18 @@ def first_factor(prefix):
 
 
 def hasher(prefix):
-    """Returns the hash of the prefix and 8 bytes more, as a function of these."""
-    if not prefix:
-        return lambda last: folded(FIRST ^ read(last, 0), TIMES ^ 16) & 2**32 - 1
-    factor = first_factor(prefix)
-    return lambda last: folded(factor, read(last, 0) ^ TIMES) & 2**32 - 1
+    """Returns the map's hash of the prefix and 8 bytes more, as a function of these."""
+    if prefix:
+        factor = first_factor(prefix)
+        text = lambda last: folded(factor, read(last, 0) ^ TIMES)
+    else:
+        text = lambda last: folded(FIRST ^ read(last, 0), TIMES ^ 16)
+    # One byte of ones ends a text.
+    return lambda last: in_half(folded(text(last) ^ 0xFFFFFF, TIMES ^ 2))
+
+
+def in_half(word):
+    return (word ^ word >> 32) & 2**32 - 1
 
 
 def turned(word, bits):
@@ -138,42 +147,53 @@ def chosen(count, prefix, mask, kept):
 
 def colliding(count, size):
     prefix = one_hash(size)
-    # The chain is the same one of 2^15, and so of fewer.
-    crowd = [] if size >= LONG else chosen(min(2 * LONGEST, count), prefix, 2**15 - 1, {0: 2 * LONGEST})
+    # The region is the same one of 2,048, and so of fewer.
+    crowd = [] if size >= LONG else chosen(min(100, count), prefix, 2047 * REGION, {0: 100})
     rest = [prefix + tail(number + 2**40) for number in range(count - len(crowd))]
     return crowd + rest
 
 
 def descending(count, size):
     names = colliding(count, size)
-    crowd = 0 if size >= LONG else 2 * LONGEST
+    crowd = 0 if size >= LONG else 100
     return names[:crowd] + sorted(names[crowd:], key=second_hash, reverse=True)
 
 
-def full_chains(count, size):
-    """Names in as few chains as hold so many, from the first on. The chains take turns, so that where there are fewer none has more."""
-    chains, prefix = 1 << (count - 1).bit_length(), b"q" * (size - 8)
-    wanted = range(-(-count // LONGEST))
-    names = chosen(count, prefix, chains - 1, {chain: LONGEST for chain in wanted})
-    hashed, of = hasher(prefix), {chain: [] for chain in wanted}
+def groups_for(count):
+    groups = 1
+    while LOAD * groups < count:
+        groups *= 2
+    return groups
+
+
+def in_regions(count, size, tags, most):
+    """Names of which each region has so many with each of the tags, from the first region on: two regions' names begin in two groups side
+    by side. The tags are what is wanted of the hash, by the mask of the bits that are looked at."""
+    mask, wanted = tags
+    groups, prefix = groups_for(count), b"q" * (size - 8)
+    starts = [region * REGION + (0 if region % 2 else REGION - 1) for region in range(-(-count // (most * len(wanted))))]
+    names = chosen(count, prefix, groups - 1 | mask, {start | tag: most for start in starts for tag in wanted})
+    # The regions take turns, so that those of a smaller map have no more.
+    hashed, of = hasher(prefix), {start: [] for start in starts}
     for name in names:
-        of[hashed(name[-8:]) & chains - 1].append(name)
+        of[hashed(name[-8:]) & groups - 1].append(name)
     return [name for turn in itertools.zip_longest(*of.values()) for name in turn if name]
 
 
-def full_tables(count, size):
-    return in_tables(one_chain(LONGEST, size), count)
+def full_regions(count, size):
+    return in_regions(count, size, (0, (0,)), MOST)
 
 
-def crowded_tables(count, size):
-    return in_tables(one_chain(LONGEST + 1, size), count)
+def one_tag(count, size):
+    # So few regions are one half of those that a map has for these names.
+    return in_tables(in_regions(8 * MOST, size, (0xFF << 24, (0xFF << 24,)), MOST), count)
 
 
-def one_chain(count, size):
+def small_tables(count, size):
     prefix = one_hash(size)
     if size >= LONG:
-        return [prefix + tail(number) for number in range(count)]
-    return chosen(count, prefix, 63, {0: count})
+        return in_tables([prefix + tail(number) for number in range(UNCOUNTED)], count)
+    return in_tables(chosen(UNCOUNTED, prefix, 0xFF00000F, {0: UNCOUNTED}), count)
 
 
 def in_tables(names, count):
@@ -193,8 +213,8 @@ KINDS = {
     "dotted": lambda tables: "".join("table_%d.%s = 1\n" % (number, name) for number, names in enumerate(tables) for name in names),
     "headers": lambda tables: "".join("[table_%d.%s]\n" % (number, name) for number, names in enumerate(tables) for name in names),
 }
-WHOLE = {"colliding": colliding, "descending": descending, "full chains": full_chains}
-PARTS = {"full tables": full_tables, "crowded tables": crowded_tables}
+WHOLE = {"colliding": colliding, "descending": descending, "full regions": full_regions}
+PARTS = {"one tag": one_tag, "small tables": small_tables}
 ATTACKS = {**WHOLE, **PARTS}
 
 
@@ -252,7 +272,7 @@ def main():
     words = sys.argv[1:]
     if words[:1] == ["--text"]:
         kind, attack, size, count = words[1:]
-        tables = tables_of(attack if attack in ATTACKS else "full chains", int(size), int(count))
+        tables = tables_of(attack if attack in ATTACKS else "full regions", int(size), int(count))
         sys.stdout.write(KINDS[kind](tables if attack in ATTACKS else beside(tables, int(size))))
         return 0
     program = os.path.abspath(words[0]) if words else os.path.join(TOP, "crates/tomled/out/tomled")

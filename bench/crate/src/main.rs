@@ -6,4 +6,6 @@ fn main() {
     std::io::stdin().read_to_string(&mut text).unwrap();
     let document: toml_edit::DocumentMut = text.parse().unwrap();
     std::io::stdout().write_all(document.to_string().as_bytes()).unwrap();
+    // `tomled` does not free its document either.
+    std::mem::forget(document);
 }
