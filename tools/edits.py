@@ -4,9 +4,9 @@
     tools/edits.py [CRATE..]
 
 They are in `crates/CRATE/wrong`, in the form that `rt must-fail` reads. That command proves a crate a second time, and then each edit by
-itself. Here the checker reads a copy of the crate with many edits at once, and is asked only for the functions that hold the changed lines. A
-function stands on the contracts of others, and not on their bodies, so an edit is refused by what the checker says of its own functions. Those
-that are not refused so are tried again, at last alone.
+itself. Here the checker reads a copy of the crate with many edits at once, and is asked only for the functions that hold the changed lines;
+proofs of the others are holes there. A function stands on the contracts of others, and not on their bodies, so an edit is refused by what the
+checker says of its own functions. Those that are not refused so are tried again, at last alone.
 
 The libraries below are those that the gate has proved on this machine. It ends with status 1 unless each edit was refused, and says in its last
 line how many were.
