@@ -3,15 +3,16 @@
 same lengths, and how the instructions a byte grow where there are twice as many keys.
 
 The names are made for the index of `toml_edit_slots`: for the map of `src/hashed.rt`, for its tally of `src/tally.rt`, and for the trees
-of `src/places.rt`, which take the map's place once too many names begin their search in one region of it. The attacks:
+of `src/places.rt`, which take the map's place once too many names begin their search in one group or one region of it. The attacks:
 
 - colliding: all names have one hash. Names of less than 32 bytes cannot have one: a hundred of them begin in one region, so that the trees
   take over, and the others are found there.
 - descending: the same names in falling order of their second hashes, so that each goes before all that the trees have.
 - full regions: the regions of one half of the map are next to each other, and filled with as many names as they may have. All names of a
-  region begin in its last group, or in its first one, so that those of two regions begin side by side.
+  region begin in its last three groups, or in its first three, as many in each as may be, so that those of two regions begin side by side.
 - one tag: tables of 640 keys with such regions, where all names have the tag by which a group tells its names apart.
-- small tables: tables of 143 keys, for which nothing is counted, whose names all begin in one group and have one tag.
+- small tables: tables of 143 keys, in which groups alone are counted, whose names begin in six groups and have one tag.
+- one group: tables of 35 keys, for which nothing is counted, whose names all begin in one group and have one tag.
 
 All names of an attack begin alike, up to their last 8 bytes. None are made to agree in the second hash: by hashing names until two agree,
 8,000 such pairs take some 2^39 names. Where names agree in it too, the later ones are found in a second tree, of the names themselves.
@@ -41,7 +42,9 @@ SECOND = (0x736F6D6570736575, 0x646F72616E646F6D, 0x6C7967656E657261, 0x74656462
 
 # The shortest names that can be made to have any one hash; the groups of a region; the most names of a region; the most slots of a table
 # that has no tally; and the slots for which a map has a group.
-LONG, REGION, MOST, UNCOUNTED, LOAD = 32, 8, 80, 143, 5.5
+LONG, REGION, MOST, UNCOUNTED, LOAD = 32, 8, 80, 35, 5.5
+# The most names of a group, and the most slots of a table in which groups alone are counted.
+MOST_OF_GROUP, SMALL = 28, 143
 
 
 def folded(a, b):
@@ -171,8 +174,12 @@ def in_regions(count, size, tags, most):
     by side. The tags are what is wanted of the hash, by the mask of the bits that are looked at."""
     mask, wanted = tags
     groups, prefix = groups_for(count), b"q" * (size - 8)
-    starts = [region * REGION + (0 if region % 2 else REGION - 1) for region in range(-(-count // (most * len(wanted))))]
-    names = chosen(count, prefix, groups - 1 | mask, {start | tag: most for start in starts for tag in wanted})
+    starts = {}
+    for region in range(-(-count // (most * len(wanted)))):
+        for number in range(-(-most // MOST_OF_GROUP)):
+            group = region * REGION + (number if region % 2 else REGION - 1 - number)
+            starts[group] = min(MOST_OF_GROUP, most - number * MOST_OF_GROUP)
+    names = chosen(count, prefix, groups - 1 | mask, {start | tag: room for start, room in starts.items() for tag in wanted})
     # The regions take turns, so that those of a smaller map have no more.
     hashed, of = hasher(prefix), {start: [] for start in starts}
     for name in names:
@@ -190,6 +197,11 @@ def one_tag(count, size):
 
 
 def small_tables(count, size):
+    groups = -(-SMALL // MOST_OF_GROUP)
+    return in_tables(chosen(SMALL, b"p" * (size - 8), 0xFF00000F, {group: MOST_OF_GROUP for group in range(groups)}), count)
+
+
+def one_group(count, size):
     prefix = one_hash(size)
     if size >= LONG:
         return in_tables([prefix + tail(number) for number in range(UNCOUNTED)], count)
@@ -214,7 +226,7 @@ KINDS = {
     "headers": lambda tables: "".join("[table_%d.%s]\n" % (number, name) for number, names in enumerate(tables) for name in names),
 }
 WHOLE = {"colliding": colliding, "descending": descending, "full regions": full_regions}
-PARTS = {"one tag": one_tag, "small tables": small_tables}
+PARTS = {"one tag": one_tag, "small tables": small_tables, "one group": one_group}
 ATTACKS = {**WHOLE, **PARTS}
 
 

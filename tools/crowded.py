@@ -5,9 +5,9 @@
     tools/crowded.py test_rows_tables   calls on the root and on a table with a header
     tools/crowded.py test_rows_values   calls on an inline table, and by the trait of both kinds
 
-The index of a table (`crates/toml_edit_slots/src/index.rt`) is a map until too many names begin their search in one region of it, and trees
-from then on. They are counted once the map has room for 144 names. So each table here has that many, of which 90 are in one region. The
-answers are those of a list of pairs: what a call of the library does to the pairs, in order, by its documentation.
+The index of a table (`crates/toml_edit_slots/src/index.rt`) is a map until too many names begin their search in one region of it, or in one
+group, and trees from then on. Regions are counted once the map has room for 144 names. So each table here has that many, of which 90 are
+in one region. The answers are those of a list of pairs: what a call of the library does to the pairs, in order, by its documentation.
 
 To compare with the rows that the programs have:
 

@@ -1,16 +1,17 @@
 -- Places in maps, and how they change.
-use Rattle.std.proofs.Common.{◌≡◌, ℕ, suc, ◌+◌, ◌≤◌, Bool, true, false, cond, List, [], ◌∷◌, ◌++◌, filter, Option, Some, None, option_map}
+use Rattle.std.proofs.Common.{◌≡◌, ℕ, zero, suc, ◌+◌, ◌-◌, ◌<◌, ◌≤◌, if◌then◌else◌, Bool, true, false, cond, List, [], ◌∷◌, ◌++◌, filter, Option, Some, None, option_map}
 use Rattle.std.proofs.Common.{is_some, length, remove, refl, sym, ap, subst, ◌∙◌, inl, inr, arith, string_bytes, slice_get}
-use Rattle.std.proofs.lemmas.Bool.{cases_Bool, cases_lt, false≢true}
+use Rattle.std.proofs.lemmas.Bool.{cases_Bool, cases_lt, false≢true, le-ltb, lt-ltb}
 use Rattle.std.proofs.lemmas.Cmp.{nat_list_eq_equiv}
 use Rattle.std.proofs.lemmas.Map.Text.{is_text}
 use Rattle.std.proofs.lemmas.Option.{none-some, same_Some, slice_get_within}
 use Rattle.std.proofs.lemmas.Slice.Eq.{bytes_eq-Decides}
 use Rattle.std.specs.List.{IsDistinct, AllByRecursion}
-use Rattle.std.specs.Map.{lookup}
+use Rattle.std.specs.Map.{lookup, values_of}
 use Rattle.std.specs.Option.{option_map_or}
+use Rattle.indexmap.specs.Layout.{set_value_at}
 use Rattle.toml_edit_model.specs.Text.{Text, same_text}
-use Rattle.toml_edit_slots.specs.Hashed.{HasNames, HasSame, IsHashed, IsHashedBefore, IsPutAt, place_of}
+use Rattle.toml_edit_slots.specs.Hashed.{HasNames, HasSame, IsHashed, IsHashedBefore, IsPutAt, closed_place, place_of}
 use Rattle.toml_edit_slots.specs.SlotIndex.{stands_at, with_text}
 use Rattle.toml_edit_slots.specs.Slots.{names, place_in}
 use Rattle.toml_edit_slots.specs.declared.hashed.Hashed.{Hashed}
@@ -75,15 +76,6 @@ hashed-back es m n o u at there is some put back =
 
 module _ (us : List Text) (apart : IsDistinct same_text us) (m n : Hashed) (at : ℕ) (u : Text)
     (here : slice_get us at ≡ Some u) (put : IsPutAt at u m n) where
-  -- the same texts are here
-  pub keys-kept : ((t : Text) → is_some (place_of m t) ≡ is_some (place_in t us)) → (t : Text) → is_some (place_of n t)
-      ≡ is_some (place_in t us)
-  keys-kept keys t =
-      elim (cases_Bool (same_text u t)) [
-        | inl same ↦ rw (put t, same, ← place_in-congr u t same us, place_in-own us at u here apart) refl
-        | inr other ↦ rw (put t, other) (keys t)
-      ]
-
   -- one place more is right
   pub hashed-more : IsHashedBefore at m us → IsHashedBefore (at + 1) n us
   hashed-more right k t below there =
@@ -106,22 +98,7 @@ module _ (us : List Text) (apart : IsDistinct same_text us) (m n : Hashed) (at :
         | inr other ↦ rw (put t, other) (has t there)
       ]
 
--- where all places are right, they are those of the texts
-pub hashed-all : (us : List Text) (m : Hashed) (at : ℕ) → length us ≤ at
-    → ((t : Text) → is_some (place_of m t) ≡ is_some (place_in t us)) → IsHashedBefore at m us → IsHashed m us
-hashed-all us m at long keys right t =
-    elim (cases_option (place_in t us)) [
-      | inl gone ↦ rw gone (none_of (place_of m t) (keys t ∙ ap is_some gone))
-      | inr found ↦
-          let there = place_in-is t us found.0 found.1 in
-          rw (found.1) (right found.0 t (omega (arith, slice_get_within us found.0 t there, long)) there)
-    ]
-
 -- ---- a text taken out
-
-some-next : (o : Option ℕ) → is_some (option_map suc o) ≡ is_some o
-some-next None = refl
-some-next (Some j) = refl
 
 -- a text that none is equal to has no place
 gone_after : (s t : Text) (us : List Text) → same_text s t ≡ true → AllByRecursion (λ y. same_text s y ≡ false) us → place_in t us ≡ None
@@ -130,53 +107,67 @@ gone_after s t (u ∷ us) e a =
     let other : same_text t u ≡ false = sym (nat_list_eq_equiv.congr s t u e) ∙ a.0 in
     rw (other, gone_after s t us e a.1) refl
 
--- the others have places still
-is_in-removed : (t : Text) (us : List Text) (i : ℕ) → place_in t us ≡ Some i → IsDistinct same_text us → (v : Text)
-    → is_some (place_in v (remove us i)) ≡ cond (same_text t v) false (is_some (place_in v us))
+-- a place behind the gap is one less, and another stays
+down-behind : (gap p : ℕ) → gap < p → closed_place gap p ≡ p - 1
+down-behind gap p behind = ap (λ b. if b then p - 1 else p) (lt-ltb gap p behind)
+
+down-before : (gap p : ℕ) → p ≤ gap → closed_place gap p ≡ p
+down-before gap p before = ap (λ b. if b then p - 1 else p) (le-ltb gap p before)
+
+closed-suc : (k p : ℕ) → suc (closed_place k p) ≡ closed_place (suc k) (suc p)
+closed-suc k p =
+    elim (cases_lt k p) [
+      | inl less ↦
+          let one : suc (p - 1) ≡ suc p - 1 = omega (arith, less) in
+          ap suc (down-behind k p less) ∙ one ∙ sym (down-behind (suc k) (suc p) (omega (arith, less)))
+      | inr more ↦ ap suc (down-before k p more) ∙ sym (down-before (suc k) (suc p) (omega (arith, more)))
+    ]
+
+closed_next : (o : Option ℕ) → option_map (closed_place 0) (option_map suc o) ≡ o
+closed_next None = refl
+closed_next (Some p) =
+    let one : suc p - 1 ≡ p = omega arith in
+    ap (λ x. Some x) (down-behind 0 (suc p) (omega arith) ∙ one)
+
+closed_out : (k : ℕ) (b : Bool) (o : Option ℕ) → option_map (closed_place (suc k)) (cond b None (option_map suc o))
+    ≡ option_map suc (option_map (closed_place k) (cond b None o))
+closed_out k true o = refl
+closed_out k false None = refl
+closed_out k false (Some p) = ap (λ x. Some x) (sym (closed-suc k p))
+
+-- the places of the others, once the gap is closed
+places-closed : (u : Text) (us : List Text) (i : ℕ) → place_in u us ≡ Some i → IsDistinct same_text us → (t : Text)
+    → option_map (closed_place i) (cond (same_text u t) None (place_in t us)) ≡ place_in t (remove us i)
 unfolding IsDistinct
-is_in-removed t [] i h a v = absurd (none-some i h)
-is_in-removed t (u ∷ us) i h a v =
-    elim (cases_Bool (same_text t u)) [
+places-closed u [] i h a t = absurd (none-some i h)
+places-closed u (v ∷ us) i h a t =
+    elim (cases_Bool (same_text u v)) [
       | inl here ↦
           let e : 0 ≡ i = same_Some 0 i (rw here at h) in
-          elim (cases_Bool (same_text t v)) [
-            | inl same ↦ rw (← e, same, gone_after u v us (sym (nat_list_eq_equiv.congr t u v here) ∙ same) a.0) refl
+          elim (cases_Bool (same_text u t)) [
+            | inl same ↦ rw (← e, same, gone_after v t us (sym (nat_list_eq_equiv.congr u v t here) ∙ same) a.0) refl
             | inr other ↦
-                let apart : same_text v u ≡ false = nat_list_eq_equiv.symm v u ∙ sym (nat_list_eq_equiv.congr t u v here) ∙ other in
-                rw (← e, other, apart) (sym (some-next (place_in v us)))
+                let apart : same_text t v ≡ false = nat_list_eq_equiv.symm t v ∙ sym (nat_list_eq_equiv.congr u v t here) ∙ other in
+                rw (← e, other, apart) (closed_next (place_in t us))
           ]
       | inr there ↦
-          let (k, at, e) = some_next (place_in t us) i (rw there at h) in
-          elim (cases_Bool (same_text v u)) [
+          let (k, at, e) = some_next (place_in u us) i (rw there at h) in
+          elim (cases_Bool (same_text t v)) [
             | inl own ↦
-                let other : same_text t v ≡ false = nat_list_eq_equiv.symm t v ∙ nat_list_eq_equiv.congr v u t own
-                ∙ nat_list_eq_equiv.symm u t ∙ there in
-                rw (e, own, other) refl
-            | inr other ↦ rw (e, other, some-next (place_in v (remove us k)), some-next (place_in v us)) (is_in-removed t us k at a.1 v)
+                let other : same_text u t ≡ false = nat_list_eq_equiv.symm u t ∙ nat_list_eq_equiv.congr t v u own
+                ∙ nat_list_eq_equiv.symm v u ∙ there in
+                rw (e, own, other) (ap (λ x. Some x) (down-before (suc k) 0 (omega arith)))
+            | inr other ↦
+                rw (e, other) (closed_out k (same_text u t) (place_in t us) ∙ ap (option_map suc) (places-closed u us k at a.1 t))
           ]
     ]
 
-taken_out : (b : Bool) (o : Option ℕ) → is_some (cond b None o) ≡ cond b false (is_some o)
-taken_out true o = refl
-taken_out false o = refl
-
-module _ (us : List Text) (apart : IsDistinct same_text us) (m n : Hashed) (i : ℕ) (u : Text) (at : place_in u us
-    ≡ Some i) (is : IsHashed m us)
-    (gone : (t : Text) → place_of n t ≡ cond (same_text u t) None (place_of m t)) where
-  -- the others are here
-  pub keys-left : (t : Text) → is_some (place_of n t) ≡ is_some (place_in t (remove us i))
-  keys-left t = ap is_some (gone t) ∙ (rw (is t, taken_out (same_text u t) (place_in t us)) (sym (is_in-removed u us i at apart t)))
-
-  -- the places before are right
-  pub hashed-left : IsHashedBefore i n (remove us i)
-  hashed-left k t below there =
-      let own : place_in t us ≡ Some k = place_in-own us k t (sym (before-removed us i k below) ∙ there) apart in
-      elim (cases_Bool (same_text u t)) [
-        | inl same ↦
-            let e : i ≡ k = same_Some i k (sym at ∙ place_in-congr u t same us ∙ own) in
-            absurd (omega (arith, e, below))
-        | inr other ↦ rw (gone t, other) (is t ∙ own)
-      ]
+-- a map that lost a text, once the gap is closed
+pub hashed-closed : (us : List Text) → IsDistinct same_text us → (m n l : Hashed) (i : ℕ) (u : Text) → place_in u us ≡ Some i → IsHashed m us
+    → ((t : Text) → place_of n t ≡ cond (same_text u t) None (place_of m t))
+    → ((t : Text) → place_of l t ≡ option_map (closed_place i) (place_of n t)) → IsHashed l (remove us i)
+hashed-closed us apart m n l i u at is gone closed t =
+    closed t ∙ ap (option_map (closed_place i)) (gone t ∙ ap (cond (same_text u t) None) (is t)) ∙ places-closed u us i at apart t
 
 -- ---- what fits stays
 
@@ -239,3 +230,65 @@ pub hashed-fitting : (us : List Text) (m n : Hashed) → IsHashedBefore (length 
 hashed-fitting us m n right places t =
     ap (lookup (is_text t)) places
     ∙ lookup-fitting string_bytes us t m.places.entries (λ k is. right k t (slice_get_within us k t is) is)
+
+-- ---- places that move down
+
+module _ {K : Type 0} (gap : ℕ) where
+  -- the entries, the gap closed in so many of them
+  abbrev pub closed_first : ℕ → List (K × ℕ) → List (K × ℕ)
+  closed_first zero es = es
+  closed_first (suc n) [] = []
+  closed_first (suc n) (e ∷ es) = (e.0, closed_place gap e.1) ∷ closed_first n es
+
+  pub length-closed : (n : ℕ) (es : List (K × ℕ)) → length (closed_first n es) ≡ length es
+  length-closed zero es = refl
+  length-closed (suc n) [] = refl
+  length-closed (suc n) (e ∷ es) = ap suc (length-closed n es)
+
+  -- one more entry is written
+  closed-written : (n : ℕ) (es : List (K × ℕ)) (x : ℕ) → slice_get (values_of (closed_first n es)) n ≡ Some x
+      → set_value_at (closed_first n es) n (closed_place gap x) ≡ closed_first (suc n) es
+  closed-written zero [] x is = refl
+  closed-written zero (e ∷ es) x is = ap (λ y. (e.0, closed_place gap y) ∷ es) (sym (same_Some e.1 x is))
+  closed-written (suc n) [] x is = refl
+  closed-written (suc n) (e ∷ es) x is = ap (λ l. (e.0, closed_place gap e.1) ∷ l) (closed-written n es x is)
+
+  -- one more entry may stay
+  closed-same : (n : ℕ) (es : List (K × ℕ)) (x : ℕ) → slice_get (values_of (closed_first n es)) n ≡ Some x
+      → closed_place gap x ≡ x → closed_first n es ≡ closed_first (suc n) es
+  closed-same zero [] x is same = refl
+  closed-same zero (e ∷ es) x is same =
+      let own : e.1 ≡ x = same_Some e.1 x is in
+      ap (λ y. (e.0, y) ∷ es) (own ∙ sym same ∙ ap (closed_place gap) (sym own))
+  closed-same (suc n) [] x is same = refl
+  closed-same (suc n) (e ∷ es) x is same = ap (λ l. (e.0, closed_place gap e.1) ∷ l) (closed-same n es x is same)
+
+  module _ (n : ℕ) (es ds : List (K × ℕ)) (done : ds ≡ closed_first n es) where
+    pub closed-within : n < length es → n < length ds
+    closed-within within = let long = ap length done ∙ length-closed n es in omega (arith, long, within)
+
+    -- a place behind the gap is written
+    pub closed-behind : {x : ℕ} → gap < x → slice_get (values_of ds) n ≡ Some x → set_value_at ds n (x - 1) ≡ closed_first (n + 1) es
+    closed-behind {x} behind is =
+        let one : suc n ≡ n + 1 = omega arith in
+        ap (λ l. set_value_at l n (x - 1)) done ∙ ap (set_value_at (closed_first n es) n) (sym (down-behind gap x behind))
+        ∙ closed-written n es x (ap (λ l. slice_get (values_of l) n) (sym done) ∙ is) ∙ ap (λ k. closed_first k es) one
+
+    -- another stays
+    pub closed-before : {x : ℕ} → x ≤ gap → slice_get (values_of ds) n ≡ Some x → ds ≡ closed_first (n + 1) es
+    closed-before {x} before is =
+        let one : suc n ≡ n + 1 = omega arith in
+        done ∙ closed-same n es x (ap (λ l. slice_get (values_of l) n) (sym done) ∙ is) (down-before gap x before)
+        ∙ ap (λ k. closed_first k es) one
+
+  -- what is looked up, once all are done
+  pub lookup-closed : (test : K → Bool) (n : ℕ) (es : List (K × ℕ)) → length es ≤ n
+      → lookup test (closed_first n es) ≡ option_map (closed_place gap) (lookup test es)
+  lookup-closed test zero [] h = refl
+  lookup-closed test (suc n) [] h = refl
+  lookup-closed test zero (e ∷ es) h = absurd (omega (arith, h))
+  lookup-closed test (suc n) (e ∷ es) h =
+      elim (cases_Bool (test e.0)) [
+        | inl here ↦ rw here refl
+        | inr other ↦ rw other (lookup-closed test n es (omega (arith, h)))
+      ]

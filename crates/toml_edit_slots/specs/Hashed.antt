@@ -1,5 +1,5 @@
 -- The places of a table's slots, in a map.
-use Rattle.std.specs.Prelude.{◌≡◌, ℕ, ◌<◌, true, List, Option, Some, is_some, slice_get, if◌then◌else◌}
+use Rattle.std.specs.Prelude.{◌≡◌, ℕ, ◌-◌, ◌<◌, true, List, Option, Some, is_some, nat_lt, slice_get, if◌then◌else◌}
 use Rattle.indexmap.specs.IndexMap.{get_by_text}
 use Rattle.toml_edit_model.specs.Text.{Text, same_text}
 use Rattle.toml_edit_slots.specs.Slots.{place_in}
@@ -28,3 +28,7 @@ HasSame old new = (t : Text) → place_of new t ≡ place_of old t
 -- each of the texts is here, whatever its place
 abbrev pub HasNames : Hashed → List Text → Type 0
 HasNames m us = (t : Text) → is_some (place_in t us) ≡ true → is_some (place_of m t) ≡ true
+
+-- the place, once the gap before it is closed; one before the gap stays
+abbrev pub closed_place : ℕ → ℕ → ℕ
+closed_place gap p = if nat_lt gap p then p - 1 else p

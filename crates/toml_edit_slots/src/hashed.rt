@@ -1,12 +1,12 @@
 //! The places of slots, in a map from the names of their keys.
-ghost use Rattle.std.specs.Prelude.{◌≡◌, None, [], is_some, true, length, if◌then◌else◌, IfOk, OnOk, OnErr};
+ghost use Rattle.std.specs.Prelude.{◌≡◌, None, [], is_some, true, length, option_map, if◌then◌else◌, IfOk, OnOk, OnErr};
 ghost use Rattle.toml_edit_model.specs.Text.{Text, same_text};
 ghost use Rattle.toml_edit_slots.specs.Slots.{names};
-ghost use Rattle.toml_edit_slots.specs.Hashed.{HasSame, IsHashed, IsHashedBefore, IsPutAt, place_of};
+ghost use Rattle.toml_edit_slots.specs.Hashed.{HasSame, IsHashed, IsHashedBefore, IsPutAt, closed_place, place_of};
 
 use crate::places::is_named_at;
 use crate::slots::Slot;
-use crate::tally::{FEWEST, Tally};
+use crate::tally::{MANY, Tally};
 use indexmap::IndexMap;
 use std::alloc::Global;
 use toml_edit_repr::Mem;
@@ -67,8 +67,8 @@ impl Hashed {
         if self.places.capacity() == self.places.len() && self.grow(room).is_err() {
             return Err(Full::Memory);
         }
-        let region = self.tally.region_of(&self.places, name);
-        if self.tally.is_full(region) {
+        let group = self.tally.group_of(&self.places, name);
+        if self.tally.is_full(group) {
             return Err(Full::Crowded);
         }
         let Ok(text) = String::from_str(alloc, name) else {
@@ -78,7 +78,7 @@ impl Hashed {
             return Err(Full::Memory);
         };
         if old.is_none() {
-            self.tally.count(region);
+            self.tally.count(group);
         }
         Ok(old)
     }
@@ -94,14 +94,17 @@ impl Hashed {
     {
         let len = self.places.len();
         let all = room.max(len.saturating_add(1));
-        if all < FEWEST {
-            return self.places.reserve(all.saturating_sub(len));
-        }
-        let wide = all.saturating_mul(18).saturating_add(10) / 11;
+        let wide = if all < MANY {
+            all
+        } else {
+            all.saturating_mul(18).saturating_add(10) / 11
+        };
         self.places.reserve(wide.saturating_sub(len))?;
         let whole = self.places.capacity();
-        // Names and places need less than the groups, which stay as many if that is more than half.
-        self.places.shrink_to(all.max(whole / 2 + 1));
+        if all >= MANY {
+            // Names and places need less than the groups, which stay as many if that is more than half.
+            self.places.shrink_to(all.max(whole / 2 + 1));
+        }
         self.tally.resize(whole)?;
         self.tally.recount(&self.places);
         Ok(())
@@ -122,9 +125,21 @@ impl Hashed {
         ensures { (t : Text) → place_of self.new t
             ≡ if same_text name.now t then None else place_of self.old t }
     {
-        let region = self.tally.region_of(&self.places, name);
+        let group = self.tally.group_of(&self.places, name);
         if self.places.swap_remove(name).is_some() {
-            self.tally.take_off(region);
+            self.tally.take_off(group);
+        }
+    }
+
+    /// Moves the places after the gap down by one. Allocates nothing.
+    pub(crate) fn close_gap(&mut self, gap: usize)
+        ensures { (t : Text) → place_of self.new t ≡ option_map (closed_place gap) (place_of self.old t) }
+    {
+        for at in 0..self.places.len() {
+            let place = self.places[at];
+            if place > gap {
+                self.places[at] = place - 1;
+            }
         }
     }
 

@@ -222,7 +222,7 @@ fn close_in<T>(index: &mut Index, entries: &[Slot<T>], name: &str, gap: usize)
     match index {
         Index::Hashed(hashed) => {
             hashed.remove(name);
-            move_all_down(hashed, entries, gap);
+            hashed.close_gap(gap);
         }
         Index::Sorted(places) => {
             places.remove(name);
@@ -241,20 +241,6 @@ fn move_down<T>(places: &mut Places, entries: &[Slot<T>], gap: usize)
 {
     for at in gap + 1..entries.len() {
         places.set(entries[at].key.get(), at - 1);
-    }
-}
-
-/// Moves the places in a map after the gap down by one. They are of all names but the one at the gap.
-fn move_all_down<T>(hashed: &mut Hashed, entries: &[Slot<T>], gap: usize)
-    requires apart { AreApart entries.now }
-    requires gap { gap < length entries.now }
-    requires names { (t : Text) → is_some (place_of hashed.old t)
-        ≡ is_some (place_in t (remove (names entries.now) gap)) }
-    requires before { IsHashedBefore gap hashed.old (remove (names entries.now) gap) }
-    ensures { IsHashed hashed.new (remove (names entries.now) gap) }
-{
-    for at in gap + 1..entries.len() {
-        hashed.set(entries[at].key.get(), at - 1);
     }
 }
 

@@ -5,7 +5,7 @@ use Rattle.toml_edit_slots.specs.Hashed.{IsHashed}
 use Rattle.toml_edit_slots.specs.SlotIndex.{IsIndex, IsIndexOf}
 use Rattle.toml_edit_slots.proofs.SlotLaws.{place-within}
 use Rattle.toml_edit_slots.proofs.IndexLaws.{place_in-is}
-use Rattle.toml_edit_slots.proofs.HashedLaws.{hashed-left, keys-left}
+use Rattle.toml_edit_slots.proofs.HashedLaws.{hashed-closed}
 use Rattle.toml_edit_slots.proofs.PlacesLaws.{right-left, texts-left}
 use Rattle.toml_edit_slots.proofs.index.close_in.Goals as goal
 
@@ -30,17 +30,9 @@ move_down-requires-clause-before g c =
     is
     c.remove-in-Sorted.ensures.own c.remove-in-Sorted.ensures.others
 
-pub move_all_down-requires-clause-gap : goal.move_all_down-requires-clause-gap
-move_all_down-requires-clause-gap g c = place-within c.args.name.now c.args.entries.now c.args.gap c.requires.gap
-
-pub move_all_down-requires-clause-names : goal.move_all_down-requires-clause-names
-move_all_down-requires-clause-names g c =
+pub returns-in-Hashed : goal.returns-in-Hashed
+returns-in-Hashed g c =
     let us = names c.args.entries.now in
     let is : IsHashed c.in-Hashed.hashed us = subst (λ x. IsIndex x us) c.in-Hashed.is c.requires.indexed in
-    keys-left us c.requires.apart c.in-Hashed.hashed c.remove.new.self c.args.gap c.args.name.now c.requires.gap is c.remove.ensures
-
-pub move_all_down-requires-clause-before : goal.move_all_down-requires-clause-before
-move_all_down-requires-clause-before g c =
-    let us = names c.args.entries.now in
-    let is : IsHashed c.in-Hashed.hashed us = subst (λ x. IsIndex x us) c.in-Hashed.is c.requires.indexed in
-    hashed-left us c.requires.apart c.in-Hashed.hashed c.remove.new.self c.args.gap c.args.name.now c.requires.gap is c.remove.ensures
+    hashed-closed us c.requires.apart c.in-Hashed.hashed c.remove.new.self c.close_gap.new.self c.args.gap c.args.name.now c.requires.gap is
+    c.remove.ensures c.close_gap.ensures
