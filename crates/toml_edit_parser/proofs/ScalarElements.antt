@@ -20,9 +20,7 @@ use Rattle.toml_edit_syntax.specs.declared.event.EventKind.TheVariants.{After, L
 use Rattle.toml_edit_syntax.specs.declared.event.Span.{Span}
 use Rattle.toml_edit_syntax.specs.ValueEvents.{event, value_events, shortened}
 use Rattle.toml_edit_tree.specs.declared.item.Item.{Item}
-use Rattle.toml_edit_tree.specs.declared.item.Item.TheVariants as items
-use Rattle.toml_edit_tree.specs.declared.value.Value as code
-use Rattle.toml_edit_tree.specs.View.{item_view, items_view, value_view}
+use Rattle.toml_edit_tree.specs.View.{item_view, items_view}
 use Rattle.toml_edit_parser.specs.StatementParts.{IsLineValue, suffix_span}
 use Rattle.toml_edit_parser.specs.ValueRead.{span_at, spanned_raw, split_first, split_scalar, NamesOne, AddsElement}
 use Rattle.toml_edit_parser.proofs.ArrayLaws.{spanned_raw-is}
@@ -30,7 +28,6 @@ use Rattle.toml_edit_parser.proofs.HeadLaws.{no_fault, one_fault, scalar_node}
 use Rattle.toml_edit_parser.proofs.ReadFits.{fits-item}
 use Rattle.toml_edit_parser.proofs.ReadLaws.{same_parts, same_spans, mapped}
 use Rattle.toml_edit_parser.proofs.SpellingLaws.{scalar-some}
-use Rattle.toml_edit_parser.proofs.ViewLaws.{view-Value}
 use Rattle.toml_edit_model.specs.OwnedForm.{cut_out, RawFits, NodeFits, ItemsFit}
 
 -- the events of an element after the text before it
@@ -103,29 +100,29 @@ put_decor a b = record { prefix = Some (spanned_raw a); suffix = Some (spanned_r
 
 pub scalar_added : (a : Around) (s : scalars.Scalar) (t : Text) (start level : ℕ) (more : List Event) (old new : List Item)
     (before place : Span)
-    (first : Event) (events rest : List Event) (w : code.Value) (d : Decor)
+    (first : Event) (events rest : List Event) (x : Item) (d : Decor)
     → Spells s t → before ≡ span_at start a.before → place ≡ span_at (start + length a.before) t
     → events ≡ shortened level (event After (start + length a.before + length t) a.after ∷ more) → Some (first, rest) ≡ split_first events
-    → is_in_range s t ≡ true → value_view w ≡ leaf s (Some (span place.start place.end)) d → d ≡ put_decor before first.span
-    → new ≡ old ++ items.Value w ∷ []
+    → is_in_range s t ≡ true → item_view x ≡ leaf s (Some (span place.start place.end)) d → d ≡ put_decor before first.span
+    → new ≡ old ++ x ∷ []
     → AddsElement a (scalar s t) start level more old new rest
-scalar_added a s t start level more old new before place first events rest w d spells before_is place_is events_are split fits view decor
+scalar_added a s t start level more old new before place first events rest x d spells before_is place_is events_are split fits view decor
     put =
     let at = start + length a.before in
     let end = at + length t in
     let p = same_parts first (event After end a.after) rest (shortened level more) (split ∙ ap split_first events_are) in
-    let after_is : first.span ≡ span_at end a.after = ap (λ (x : Event). x.span) p.0 in
-    let spelling = λ (x : Span). leaf s (Some (span x.start x.end)) d in
+    let after_is : first.span ≡ span_at end a.after = ap (λ (e : Event). e.span) p.0 in
+    let spelling = λ (q : Span). leaf s (Some (span q.start q.end)) d in
     let known =
-    view-Value w ∙ view ∙ ap spelling place_is ∙ ap (leaf s (Some (span at end))) (
-    decor ∙ ap (λ (x : Span). put_decor x first.span) before_is ∙ ap (put_decor (span_at start a.before)) after_is
+    view ∙ ap spelling place_is ∙ ap (leaf s (Some (span at end))) (
+    decor ∙ ap (λ (q : Span). put_decor q first.span) before_is ∙ ap (put_decor (span_at start a.before)) after_is
     ∙ ap (λ r. record { prefix = Some r; suffix = Some (spanned_raw (span_at end a.after)) }) (spanned_raw-is start a.before)
     ∙ ap (λ r. record { prefix = Some (spanned_form.raw start a.before); suffix = Some r }) (spanned_raw-is end a.after)
     ) in
     record {
       faultless = no_fault s t at fits;
       rest_is = p.1;
-      added = items.Value w;
+      added = x;
       items = put;
       node = subst (λ n. IsValueNode spanned_form (scalar s t) start a.before a.after n) (sym known)
           (scalar_node s t at at (leaf s (Some (span at end)) unset) (scalar-some s t spells) refl refl start a.before a.after refl);
@@ -134,26 +131,26 @@ scalar_added a s t start level more old new before place first events rest w d s
 -- the value of a key line, and the text that is counted to its suffix
 pub scalar_put : (mode : Mode) (source : Text) (s : scalars.Scalar) (t : Text) (start : ℕ) (before : Span) (after suffix : Text)
     (more : List Event) (place : Span) (first : Event)
-    (events rest : List Event) (w : code.Value) (d : Decor)
+    (events rest : List Event) (x : Item) (d : Decor)
     → Spells s t → place ≡ span_at start t → events ≡ shortened 0 (event LineEnd (start + length t) after ∷ more) → Some (first, rest)
     ≡ split_first events
     → suffix_span mode source (span_at (start + length t) after) ≡ span_at (start + length t) suffix
-    → is_in_range s t ≡ true → value_view w ≡ leaf s (Some (span place.start place.end)) d → d
+    → is_in_range s t ≡ true → item_view x ≡ leaf s (Some (span place.start place.end)) d → d
     ≡ put_decor before (suffix_span mode source first.span)
-    → IsLineValue mode (scalar s t) start before suffix more (item_view (items.Value w)) rest
-scalar_put mode source s t start before after suffix more place first events rest w d spells place_is events_are split counted fits view
+    → IsLineValue mode (scalar s t) start before suffix more (item_view x) rest
+scalar_put mode source s t start before after suffix more place first events rest x d spells place_is events_are split counted fits view
     decor =
     let end = start + length t in
     let p = same_parts first (event LineEnd end after) rest (shortened 0 more) (split ∙ ap split_first events_are) in
-    let after_is : suffix_span mode source first.span ≡ span_at end suffix = ap (λ (x : Event). suffix_span mode source x.span) p.0
+    let after_is : suffix_span mode source first.span ≡ span_at end suffix = ap (λ (e : Event). suffix_span mode source e.span) p.0
     ∙ counted in
-    let spelling = λ (x : Span). leaf s (Some (span x.start x.end)) d in
+    let spelling = λ (q : Span). leaf s (Some (span q.start q.end)) d in
     record {
       faultless = no_fault s t start fits;
       node = λ i b here same.
           let known =
-          view-Value w ∙ view ∙ ap spelling place_is ∙ ap (leaf s (Some (span start end))) (
-          decor ∙ ap (λ (x : Span). put_decor x (suffix_span mode source first.span)) same ∙ ap (put_decor (span_at i b)) after_is
+          view ∙ ap spelling place_is ∙ ap (leaf s (Some (span start end))) (
+          decor ∙ ap (λ (q : Span). put_decor q (suffix_span mode source first.span)) same ∙ ap (put_decor (span_at i b)) after_is
           ∙ ap (λ r. record { prefix = Some r; suffix = Some (spanned_raw (span_at end suffix)) }) (spanned_raw-is i b)
           ∙ ap (λ r. record { prefix = Some (spanned_form.raw i b); suffix = Some r }) (spanned_raw-is end suffix)
           ) in
@@ -164,12 +161,12 @@ scalar_put mode source s t start before after suffix more place first events res
 
 -- ---- it fits
 
-pub scalar_fits : (t : Text) (xs ys : List Item) (w : code.Value) (s : scalars.Scalar) (i j : ℕ) (d : Decor) (a b : Raw)
-    → value_view w ≡ leaf s (Some (span i j)) d → RawFits t (span i j) → d ≡ record { prefix = Some a; suffix = Some b } → RawFits t a
+pub scalar_fits : (t : Text) (xs ys : List Item) (x : Item) (s : scalars.Scalar) (i j : ℕ) (d : Decor) (a b : Raw)
+    → item_view x ≡ leaf s (Some (span i j)) d → RawFits t (span i j) → d ≡ record { prefix = Some a; suffix = Some b } → RawFits t a
     → RawFits t b
-    → ys ≡ xs ++ items.Value w ∷ [] → ItemsFit t (items_view xs) → ItemsFit t (items_view ys)
-scalar_fits t xs ys w s i j d a b view spelling decor before after put fit =
-    let known = view-Value w ∙ view ∙ ap (leaf s (Some (span i j))) decor in
+    → ys ≡ xs ++ x ∷ [] → ItemsFit t (items_view xs) → ItemsFit t (items_view ys)
+scalar_fits t xs ys x s i j d a b view spelling decor before after put fit =
+    let known = view ∙ ap (leaf s (Some (span i j))) decor in
     let P : Node → Type 0 = λ n. NodeFits t n in
     let Q : List Item → Type 0 = λ zs. ItemsFit t (items_view zs) in
-    subst Q (sym put) (fits-item t xs (items.Value w) fit (subst P (sym known) (spelling, (before, after))))
+    subst Q (sym put) (fits-item t xs x fit (subst P (sym known) (spelling, (before, after))))

@@ -20,6 +20,7 @@ ghost use Rattle.toml_edit_parser.specs.Listed.{Refuses};
 use crate::events::{Close, raw, room_for, split_before, split_close, split_first, split_scalar};
 use crate::fault::{malformed, refusal_with};
 use crate::reader::Reader;
+use crate::spanned::put_spanned;
 use crate::value::read_value;
 use toml_edit_error::ParseFault;
 use toml_edit_repr::{Decor, Formatted, Mem};
@@ -128,7 +129,9 @@ fn read_scalar_element<'a>(
     }
     match decode_other(reader.alloc, text)? {
         Some(scalar) => {
-            put_value(values, Value::spanned(scalar, span.start, span.end, decor))?;
+            let at = values.len();
+            values.push(Item::None)?;
+            put_spanned(scalar, span, decor, &mut values[at]);
             Ok(rest)
         }
         None => Err(refusal_with(reader, range_message(text), span)),

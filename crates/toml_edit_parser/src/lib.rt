@@ -13,6 +13,7 @@ pub mod lone_keys;
 mod options;
 mod reader;
 mod slots;
+mod spanned;
 mod value;
 
 #[doc(hidden)]

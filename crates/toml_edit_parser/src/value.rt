@@ -16,6 +16,7 @@ use crate::events::split_first;
 use crate::fault::{Fault, malformed, refusal, refusal_with};
 use crate::inline_table::read_inline;
 use crate::reader::Reader;
+use crate::spanned::put_spanned;
 use std::mem;
 use toml_edit_error::ParseFault;
 use toml_edit_repr::{Decor, Formatted};
@@ -118,8 +119,7 @@ fn put_scalar(reader: &Reader<'_>, span: Span, item: &mut Item) -> Result<(), Pa
     }
     match decode_other(reader.alloc, text)? {
         Some(scalar) => {
-            let value = Value::spanned(scalar, span.start, span.end, decor);
-            put(item, Item::Value(value));
+            put_spanned(scalar, span, decor, item);
             Ok(())
         }
         None => Err(refusal_with(reader, range_message(text), span)),

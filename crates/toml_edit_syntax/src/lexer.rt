@@ -101,7 +101,7 @@ pub(crate) fn new_event(kind: EventKind, start: usize, end: usize) -> Event
 }
 
 /// The number of events at which a batch ends.
-const BATCH_SIZE: usize = 4096;
+const BATCH_SIZE: usize = 4000;
 
 /// Adds the events of a batch of the statements that end a text.
 #[inline(never)]

@@ -19,6 +19,7 @@ use crate::events::{raw, split_first, split_scalar};
 use crate::fault::{malformed, refusal_of_all, refusal_with};
 use crate::key::{KeyPath, MOST_PATH_EVENTS, path_behind, path_end, split_frame};
 use crate::reader::Reader;
+use crate::spanned::put_spanned;
 use crate::value::{put, read_value};
 use toml_edit_error::ParseFault;
 use toml_edit_repr::{Decor, Formatted, Mode};
@@ -146,8 +147,7 @@ fn read_line_scalar<'a>(
     }
     match decode_other(reader.alloc, text)? {
         Some(scalar) => {
-            let value = Value::spanned(scalar, span.start, span.end, decor);
-            put(item, Item::Value(value));
+            put_spanned(scalar, span, decor, item);
             Ok(rest)
         }
         None => Err(refusal_with(reader, range_message(text), span)),

@@ -69,7 +69,7 @@ returns-in-Some-2-clause-value c =
     let fits : is_in_range s t ≡ true =
     ap (λ (x : scalars.Scalar). is_in_range x t) same ∙ ap (is_in_range (scalar_view c.in-Some-2.scalar)) (sym text_is) ∙ found.in_range in
     let blank : c.default-decor.result ≡ unset = search rules in (
-      ap item_view c.put-in-Some-2.ensures ∙ view-Value _ ∙ c.spanned-value.ensures
+      c.put_spanned.ensures
           ∙ ap (λ (x : scalars.Scalar). leaf x (Some (span place.start place.end)) c.default-decor.result) (sym same)
           ∙ ap (λ (d : Decor). leaf s (Some (span place.start place.end)) d) blank
           ∙ ap (λ (n : ℕ). leaf s (Some (span place.start n)) unset) end_is,
@@ -80,7 +80,7 @@ pub returns-in-Some-2-clause-fits : goal.returns-in-Some-2-clause-fits
 returns-in-Some-2-clause-fits c =
     let place = c.args.span in
     let blank : c.default-decor.result ≡ unset = search rules in
-    let view = ap item_view c.put-in-Some-2.ensures ∙ view-Value _ ∙ c.spanned-value.ensures
+    let view = c.put_spanned.ensures
     ∙ ap (λ (d : Decor). leaf (scalar_view c.in-Some-2.scalar) (Some (span place.start place.end)) d) blank in
     subst (NodeFits c.args.reader.now.source.now) (sym view) ((c.requires.start, c.requires.end, c.requires.order), (tt, tt))
 

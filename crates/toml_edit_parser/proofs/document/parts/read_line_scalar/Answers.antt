@@ -11,16 +11,13 @@ use Rattle.toml_edit_repr.specs.Views.{FormattedView}
 use Rattle.toml_edit_token.specs.Decoded.{IsSpelling, scalar_view}
 use Rattle.toml_edit_token.specs.declared.decode.Scalar as code
 use Rattle.toml_edit_tree.specs.View.{item_view}
-use Rattle.toml_edit_tree.specs.declared.item.Item.{Item}
-use Rattle.toml_edit_tree.specs.declared.value.Value.TheVariants as values
 use Rattle.toml_edit_syntax.specs.declared.event.Span.{Span}
 use Rattle.toml_edit_repr.specs.Modes.{mode_of}
 use Rattle.toml_edit_parser.specs.Near.{IsNear}
-use Rattle.toml_edit_parser.specs.StatementParts.{IsLineValue}
 use Rattle.toml_edit_parser.specs.ValueRead.{spanned_raw, split_first}
 use Rattle.toml_edit_parser.proofs.ScalarElements.{place_cut, scalar_put, scalar_refusal}
 use Rattle.toml_edit_parser.proofs.SplitLaws.{first_in}
-use Rattle.toml_edit_parser.proofs.ViewLaws.{view-Integer}
+use Rattle.toml_edit_parser.proofs.ViewLaws.{view-Integer, view-Value}
 use Rattle.toml_edit_parser.proofs.NearLaws.{near, suffix-near}
 use Rattle.toml_edit_parser.proofs.document.parts.read_line_scalar.Goals as goal
 
@@ -48,14 +45,13 @@ returns-in-Some-decode_integer-clause-value c =
     ∙ ap (λ (x : Span). record { prefix = Some (spanned_raw c.args.before); suffix = Some (spanned_raw x) }) c.suffix.ensures in
     let own : to_z w64 (of_z w64 number) ≡ number = search rules in
     let view =
-    view-Integer c.spanned.result ∙ ap (λ (f : FormattedView ℤ). leaf (scalars.integer f.value) f.repr f.decor) c.spanned.ensures
+    ap item_view c.put.ensures ∙ view-Value _ ∙ view-Integer c.spanned.result
+    ∙ ap (λ (f : FormattedView ℤ). leaf (scalars.integer f.value) f.repr f.decor) c.spanned.ensures
     ∙ ap (λ (z : ℤ). leaf (scalars.integer z) (Some (span place.start place.end)) c.new-decor.result) own
     ∙ ap (λ (x : scalars.Scalar). leaf x (Some (span place.start place.end)) c.new-decor.result) (sym same) in
-    subst (λ (x : Item). IsLineValue (mode_of c.args.reader.now.mode) (syntax.scalar s t) start c.args.before suffix more (item_view x)
-    c.in-Some.rest.now) (sym c.put.ensures)
-    (scalar_put (mode_of c.args.reader.now.mode) c.args.reader.now.source.now s t start c.args.before after suffix more place c.in-Some.end
+    scalar_put (mode_of c.args.reader.now.mode) c.args.reader.now.source.now s t start c.args.before after suffix more place c.in-Some.end
     c.args.events.now c.in-Some.rest.now
-    (values.Integer c.spanned.result) c.new-decor.result spells place_is events_are c.in-Some.ensures counted fits view decor)
+    c.put.new.place c.new-decor.result spells place_is events_are c.in-Some.ensures counted fits view decor
 
 pub returns-in-Some-decode_integer-clause-rest : goal.returns-in-Some-decode_integer-clause-rest
 returns-in-Some-decode_integer-clause-rest c =
@@ -83,12 +79,10 @@ returns-in-Some-2-clause-value c =
     ∙ ap (λ (r : Raw). record { prefix = Some (spanned_raw c.args.before); suffix = Some r }) c.raw-2.ensures.raw
     ∙ ap (λ (x : Span). record { prefix = Some (spanned_raw c.args.before); suffix = Some (spanned_raw x) }) c.suffix.ensures in
     let view =
-    c.spanned-value.ensures ∙ ap (λ (x : scalars.Scalar). leaf x (Some (span place.start place.end)) c.new-decor.result) (sym same) in
-    subst (λ (x : Item). IsLineValue (mode_of c.args.reader.now.mode) (syntax.scalar s t) start c.args.before suffix more (item_view x)
-    c.in-Some.rest.now) (sym c.put-in-Some-2.ensures)
-    (scalar_put (mode_of c.args.reader.now.mode) c.args.reader.now.source.now s t start c.args.before after suffix more place c.in-Some.end
+    c.put_spanned.ensures ∙ ap (λ (x : scalars.Scalar). leaf x (Some (span place.start place.end)) c.new-decor.result) (sym same) in
+    scalar_put (mode_of c.args.reader.now.mode) c.args.reader.now.source.now s t start c.args.before after suffix more place c.in-Some.end
     c.args.events.now c.in-Some.rest.now
-    c.spanned-value.result c.new-decor.result spells place_is events_are c.in-Some.ensures counted fits view decor)
+    c.put_spanned.new.item c.new-decor.result spells place_is events_are c.in-Some.ensures counted fits view decor
 
 pub returns-in-Some-2-clause-rest : goal.returns-in-Some-2-clause-rest
 returns-in-Some-2-clause-rest c =
