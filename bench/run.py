@@ -24,6 +24,8 @@ SIZES = (64, 128, 256)
 PRINT, PARSE, PEER_PARSE = (("print",), 0), (("get", "absent"), 2), (("parse",), 0)
 # The most seconds of a processor that a peer may take, without valgrind.
 PATIENCE = 3
+# Callgrind counts each byte that `rep movsb` copies as an instruction. So the C library has to copy without it.
+COPIES = {**os.environ, "GLIBC_TUNABLES": "glibc.cpu.x86_rep_movsb_threshold=%d" % (1 << 40)}
 KEYS = (10000, 20000)
 
 
@@ -256,7 +258,7 @@ def valgrind(program, text, tool, same, how=PRINT):
             file.write(text)
         with open(source) as file:
             words = ["valgrind", "--tool=" + tool, "--%s-out-file=%s" % (tool, out), program, *how[0]]
-            run = subprocess.run(words, stdin=file, capture_output=True)
+            run = subprocess.run(words, stdin=file, capture_output=True, env=COPIES)
         if run.returncode != how[1] or same and run.stdout.decode() != text:
             raise ValueError("%s did not print what it read, or not end as it should" % program)
         with open(out) as file:
