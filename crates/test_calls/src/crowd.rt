@@ -2,7 +2,7 @@
 
 /// Names whose search begins in one region of an index, which finds them in trees once a table
 /// holds 80 of them among as many others. `bench/collisions.py` chooses such names.
-pub const CROWD: [&str; 100] = [
+pub const CROWD: &[&str] = &[
     "CvPWazUt", "Yp-yNvb8", "aYPJoiwp", "Vomd9eLK", "4O__EsKu", "DMWt_JuV", "Q49xSbmq", "UWdeHCQF",
     "gw7jl2MV", "6ILtNZ9_", "Uha217to", "qbKTp303", "52BuX8B6", "r4QqNOOg", "iqISuj-l", "jHPpS6YO",
     "7wOcgp0K", "rDOC8HsD", "tydYW7Ax", "qxEDGrw_", "1ucx-IUm", "As0f5m3N", "iADCLX7s", "t9awE1eU",

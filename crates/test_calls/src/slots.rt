@@ -11,7 +11,7 @@ fn is_next(slots: &Slots<u8>, name: &str, before: usize) -> bool {
 }
 
 /// More names than are found without an index.
-const NAMES: [&str; 20] = [
+const NAMES: &[&str] = &[
     "a", "b", "c", "d", "e", "f", "g", "h", "i", "j", "k", "l", "m", "n", "o", "p", "q", "r", "s",
     "t",
 ];

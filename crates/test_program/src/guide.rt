@@ -125,75 +125,78 @@ fn gives(alloc: Global, read: Result<DocumentMut, ParseFault>, name: &str, wante
     }
 }
 
+/// Names of changes, and texts before and after.
+const EDITS: &[(&str, &str, &str)] = &[
+    (
+        "set port",
+        SERVER,
+        "title = 'x'\n\n# two servers\n[server]\nport = 8080  # http\nhost = 'a'\n",
+    ),
+    ("set defaults", "a = 1 # one\n", "a = 1 # one\nb = 5\n"),
+    (
+        "insert a",
+        "a = 1 # one\nb = 2 # two\n",
+        "a = 2\nb = 2 # two\n",
+    ),
+    ("insert a", "b = 2 # two\n", "b = 2 # two\na = 2\n"),
+    (
+        "insert a first",
+        "b = 1 # b\n\"c\".x = 2\nc.y = 3\n",
+        "a = 0\nb = 1 # b\n\"c\".x = 2\n\"c\".y = 3\n",
+    ),
+    ("insert a first", "b = 1 # b\na = 2\n", "a = 0\nb = 1 # b\n"),
+    (
+        "add serde",
+        "log = '0.4'\n",
+        "log = '0.4'\nserde = { version = \"1.0\", features = [\"derive\", \"rc\"] }\n",
+    ),
+    (
+        "add lib",
+        "[package]\nname = 'x'\n",
+        "[package]\nname = 'x'\n\n[lib]\nbench = false\n",
+    ),
+    (
+        "add bin",
+        "[[bin]]\nname = 'a' # one\n\n[lib]\n",
+        "[[bin]]\nname = 'a' # one\n\n[[bin]]\n\n[lib]\n",
+    ),
+    ("add bin", "a = 1\n", "a = 1\n\n[[bin]]\n"),
+    (
+        "push",
+        "all = [\n  'Ada', # wrote it\n  'George',\n]\n",
+        "all = [\n  'Ada', # wrote it\n  'George',\n  \"Alan\",\n]\n",
+    ),
+    (
+        "push",
+        "all = [\n\t# the first\n\t'Ada', # wrote it\n]\n",
+        "all = [\n\t# the first\n\t'Ada', # wrote it\n\t\"Alan\",\n]\n",
+    ),
+    (
+        "push",
+        "all = [\n  'Ada' # wrote it\n]\n",
+        "all = [\n  'Ada', # wrote it\n  \"Alan\",\n]\n",
+    ),
+    ("push", "all = []\n", "all = [\n    \"Alan\",\n]\n"),
+    (
+        "rename",
+        "a = 1\n# about b\nb  = 2 # b\nc = 3\n\n[t]\n",
+        "a = 1\n# about b\nx  = 2 # b\nc = 3\n\n[t]\n",
+    ),
+    (
+        "sort",
+        "z = [\n  'b',\n  'a',\n]\n# about b\nb = 1 # b\na = 2\n",
+        "a = 2\n# about b\nb = 1 # b\nz = [\n  'a',\n  'b',\n]\n",
+    ),
+    (
+        "set b",
+        "[a]\r\nb = 1 # one\r\nc = 2",
+        "[a]\nb = 3 # one\nc = 2\n",
+    ),
+];
+
 #[test]
 fn edits(rt: HostRuntime) {
-    for (name, before, after) in [
-        (
-            "set port",
-            SERVER,
-            "title = 'x'\n\n# two servers\n[server]\nport = 8080  # http\nhost = 'a'\n",
-        ),
-        ("set defaults", "a = 1 # one\n", "a = 1 # one\nb = 5\n"),
-        (
-            "insert a",
-            "a = 1 # one\nb = 2 # two\n",
-            "a = 2\nb = 2 # two\n",
-        ),
-        ("insert a", "b = 2 # two\n", "b = 2 # two\na = 2\n"),
-        (
-            "insert a first",
-            "b = 1 # b\n\"c\".x = 2\nc.y = 3\n",
-            "a = 0\nb = 1 # b\n\"c\".x = 2\n\"c\".y = 3\n",
-        ),
-        ("insert a first", "b = 1 # b\na = 2\n", "a = 0\nb = 1 # b\n"),
-        (
-            "add serde",
-            "log = '0.4'\n",
-            "log = '0.4'\nserde = { version = \"1.0\", features = [\"derive\", \"rc\"] }\n",
-        ),
-        (
-            "add lib",
-            "[package]\nname = 'x'\n",
-            "[package]\nname = 'x'\n\n[lib]\nbench = false\n",
-        ),
-        (
-            "add bin",
-            "[[bin]]\nname = 'a' # one\n\n[lib]\n",
-            "[[bin]]\nname = 'a' # one\n\n[[bin]]\n\n[lib]\n",
-        ),
-        ("add bin", "a = 1\n", "a = 1\n\n[[bin]]\n"),
-        (
-            "push",
-            "all = [\n  'Ada', # wrote it\n  'George',\n]\n",
-            "all = [\n  'Ada', # wrote it\n  'George',\n  \"Alan\",\n]\n",
-        ),
-        (
-            "push",
-            "all = [\n\t# the first\n\t'Ada', # wrote it\n]\n",
-            "all = [\n\t# the first\n\t'Ada', # wrote it\n\t\"Alan\",\n]\n",
-        ),
-        (
-            "push",
-            "all = [\n  'Ada' # wrote it\n]\n",
-            "all = [\n  'Ada', # wrote it\n  \"Alan\",\n]\n",
-        ),
-        ("push", "all = []\n", "all = [\n    \"Alan\",\n]\n"),
-        (
-            "rename",
-            "a = 1\n# about b\nb  = 2 # b\nc = 3\n\n[t]\n",
-            "a = 1\n# about b\nx  = 2 # b\nc = 3\n\n[t]\n",
-        ),
-        (
-            "sort",
-            "z = [\n  'b',\n  'a',\n]\n# about b\nb = 1 # b\na = 2\n",
-            "a = 2\n# about b\nb = 1 # b\nz = [\n  'a',\n  'b',\n]\n",
-        ),
-        (
-            "set b",
-            "[a]\r\nb = 1 # one\r\nc = 2",
-            "[a]\nb = 3 # one\nc = 2\n",
-        ),
-    ] {
+    for (name, before, after) in EDITS {
         let read = DocumentMut::from_str(rt.alloc(), before);
         assert!(rt; gives(rt.alloc(), read, name, after), "{name}");
     }

@@ -265,43 +265,46 @@ fn gives(alloc: Global, before: &str, name: &str, after: &str) -> bool {
     }
 }
 
+/// Names of changes, and texts before and after.
+const EDITS: &[(&str, &str, &str)] = &[
+    ("utc", "", "at = 2024-02-29T07:30:00Z\n"),
+    (
+        "dates",
+        "day = 1979-05-27T07:32:00Z\nhour = 07:32:00\none = 1\n",
+        "day = 2024-02-29\nhour = 07:32:00\none = 1\n",
+    ),
+    ("float", "", "x = 1e-9\n"),
+    ("decimal", "a = 0xFF # mask\n", "a = 255 # mask\n"),
+    ("mask", "b = 1\n", "b = 1\nmask = 0xFF\n"),
+    ("comment", "a = 1\nb = 2\n", "a = 1\n# two\nb = 2\n"),
+    ("replace", "a = [1, 2 , 3]\n", "a = [1, 9 , 3, 4]\n"),
+    ("put", "a = [1, 2 , 3]\n", "a = [0,1, 8, 3]\n"),
+    ("insert", "a = [1, 2]\n", "a = [1, 5, 2, 6]\n"),
+    ("move", "a = [1, 2 , 3]\n", "a = [1, 3]\nb = [ 2 ]\n"),
+    (
+        "remove",
+        "a = ['a', 'x', 'b', 'x']\nb = ['x']\n",
+        "a = ['a', 'b']\nb = []\n",
+    ),
+    (
+        "element",
+        "[[a]]\nx = 1\n\n[b]\n\n[[a]]\nx = 2\n",
+        "[[a]]\nx = 1\n\n[b]\n\n[[a]]\n",
+    ),
+    ("describe", "t = {a = 1}\n", "t = {a = 1}\n"),
+    ("nested", "x = 1\n", "x = 1\n\n[a.b]\n"),
+    ("dotted", "t = {}\n", "t = { b.c = 2 }\n"),
+    (
+        "versions",
+        "z = '1'\nb = {version = '2'}\n[c]\nversion = '3'\n[d]\nx = 1\n",
+        "z = '1'\nb = {}\n[c]\n[d]\nx = 1\n",
+    ),
+    ("sort", "b = 1 # b\na = 2\n", "a = 2\nb = 1 # b\n"),
+];
+
 #[test]
 fn edits(rt: HostRuntime) {
-    for (name, before, after) in [
-        ("utc", "", "at = 2024-02-29T07:30:00Z\n"),
-        (
-            "dates",
-            "day = 1979-05-27T07:32:00Z\nhour = 07:32:00\none = 1\n",
-            "day = 2024-02-29\nhour = 07:32:00\none = 1\n",
-        ),
-        ("float", "", "x = 1e-9\n"),
-        ("decimal", "a = 0xFF # mask\n", "a = 255 # mask\n"),
-        ("mask", "b = 1\n", "b = 1\nmask = 0xFF\n"),
-        ("comment", "a = 1\nb = 2\n", "a = 1\n# two\nb = 2\n"),
-        ("replace", "a = [1, 2 , 3]\n", "a = [1, 9 , 3, 4]\n"),
-        ("put", "a = [1, 2 , 3]\n", "a = [0,1, 8, 3]\n"),
-        ("insert", "a = [1, 2]\n", "a = [1, 5, 2, 6]\n"),
-        ("move", "a = [1, 2 , 3]\n", "a = [1, 3]\nb = [ 2 ]\n"),
-        (
-            "remove",
-            "a = ['a', 'x', 'b', 'x']\nb = ['x']\n",
-            "a = ['a', 'b']\nb = []\n",
-        ),
-        (
-            "element",
-            "[[a]]\nx = 1\n\n[b]\n\n[[a]]\nx = 2\n",
-            "[[a]]\nx = 1\n\n[b]\n\n[[a]]\n",
-        ),
-        ("describe", "t = {a = 1}\n", "t = {a = 1}\n"),
-        ("nested", "x = 1\n", "x = 1\n\n[a.b]\n"),
-        ("dotted", "t = {}\n", "t = { b.c = 2 }\n"),
-        (
-            "versions",
-            "z = '1'\nb = {version = '2'}\n[c]\nversion = '3'\n[d]\nx = 1\n",
-            "z = '1'\nb = {}\n[c]\n[d]\nx = 1\n",
-        ),
-        ("sort", "b = 1 # b\na = 2\n", "a = 2\nb = 1 # b\n"),
-    ] {
+    for (name, before, after) in EDITS {
         assert!(rt; gives(rt.alloc(), before, name, after), "{name}");
     }
 }

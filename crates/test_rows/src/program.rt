@@ -2,7 +2,7 @@
 use crate::{date_time, document, key, run, scalar, tokens, value};
 use test_rows_read::{Answer, Program, Row};
 
-const KINDS: [&str; 20] = [
+const KINDS: &[&str] = &[
     "text",
     "strict_text",
     "exact_text",

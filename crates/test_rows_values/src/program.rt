@@ -4,7 +4,7 @@ use test_rows_read::make::{self, Reads};
 use test_rows_read::{Answer, Program, Row};
 use toml_edit::{DocumentMut, Table};
 
-const KINDS: [&str; 6] = [
+const KINDS: &[&str] = &[
     "text",
     "exact_text",
     "item",

@@ -1,4 +1,5 @@
 //! Each program on a document, with the text that it has to leave.
+use crate::guide::done;
 use std::alloc::{AllocError, Global};
 use test_calls::holding::is_text;
 use toml_edit::{Document, DocumentMut, Mem, ParseFault};
@@ -9,11 +10,6 @@ use toml_edit_programs::lint::lint;
 use toml_edit_programs::merge::merge;
 use toml_edit_programs::migrate::migrate;
 use toml_edit_programs::sort_deps::sort_deps;
-
-/// Fails if it was not done.
-fn done(is_done: bool) -> Mem<()> {
-    if is_done { Ok(()) } else { Err(AllocError) }
-}
 
 /// Runs the migration of this name.
 fn migrates(alloc: Global, document: &mut DocumentMut, name: &str) -> bool {
@@ -93,52 +89,55 @@ const NEW: &str =
 
 const TABLES: &str = "[a]\nb = 1\nc = 2\n[d]\n";
 
+/// Names of programs, and texts before and after.
+const PROGRAMS: &[(&str, &str, &str)] = &[
+    (
+        "sort",
+        "[dependencies]\n# about z\nz = '1' # z\na = { version = '2' }\n\n[target.'cfg(unix)'.dev-dependencies]\ny = 1\nb = 2\n\n[other]\ny = 1\nb = 2\n",
+        "[dependencies]\na = { version = '2' }\n# about z\nz = '1' # z\n\n[target.'cfg(unix)'.dev-dependencies]\nb = 2\ny = 1\n\n[other]\ny = 1\nb = 2\n",
+    ),
+    (
+        "sort",
+        "[dependencies.z]\nversion = '1'\n\n# about a\n[dependencies.a]\nversion = '2'\n[package]\nname = 'x'\n",
+        "\n# about a\n[dependencies.a]\nversion = '2'\n[dependencies.z]\nversion = '1'\n[package]\nname = 'x'\n",
+    ),
+    (
+        "bump",
+        "[dependencies]\nserde = '1' # s\nlog = '1'\n[dev-dependencies]\nserde = { version = '1', features = ['x'] } # i\n[build-dependencies.serde]\nversion = '1' # h\n[target.x.dependencies]\nserde.version = '1' # d\n",
+        "[dependencies]\nserde = \"2\" # s\nlog = '1'\n[dev-dependencies]\nserde = { version = \"2\", features = ['x'] } # i\n[build-dependencies.serde]\nversion = \"2\" # h\n[target.x.dependencies]\nserde.version = \"2\" # d\n",
+    ),
+    (
+        "bump none",
+        "[dependencies]\nlog = '1'\n",
+        "[dependencies]\nlog = '1'\n",
+    ),
+    (
+        "count",
+        "a = 1\nb = []\nc = {}\n[d]\ne = 1\n",
+        "a = 1\nb = []\nc = {}\n[d]\ne = 1\n",
+    ),
+    (
+        "add",
+        "[workspace]\nmembers = [\n  'a', # first\n  'b' # second\n]\n",
+        "[workspace]\nmembers = [\n  'a', # first\n  'b', # second\n  \"c\"\n]\n",
+    ),
+    (
+        "add again",
+        "workspace.members = ['a']\n",
+        "workspace.members = ['a']\n",
+    ),
+    ("merge", FIRST, MERGED),
+    ("migrate", OLD, NEW),
+    ("rename a missing key", TABLES, TABLES),
+    ("rename to a taken key", TABLES, TABLES),
+    ("move to a taken path", TABLES, TABLES),
+    ("move into itself", TABLES, "[d]\n[a.e]\nb = 1\nc = 2\n"),
+    ("move a number", TABLES, TABLES),
+];
+
 #[test]
 fn changes_documents(rt: HostRuntime) {
-    for (name, before, after) in [
-        (
-            "sort",
-            "[dependencies]\n# about z\nz = '1' # z\na = { version = '2' }\n\n[target.'cfg(unix)'.dev-dependencies]\ny = 1\nb = 2\n\n[other]\ny = 1\nb = 2\n",
-            "[dependencies]\na = { version = '2' }\n# about z\nz = '1' # z\n\n[target.'cfg(unix)'.dev-dependencies]\nb = 2\ny = 1\n\n[other]\ny = 1\nb = 2\n",
-        ),
-        (
-            "sort",
-            "[dependencies.z]\nversion = '1'\n\n# about a\n[dependencies.a]\nversion = '2'\n[package]\nname = 'x'\n",
-            "\n# about a\n[dependencies.a]\nversion = '2'\n[dependencies.z]\nversion = '1'\n[package]\nname = 'x'\n",
-        ),
-        (
-            "bump",
-            "[dependencies]\nserde = '1' # s\nlog = '1'\n[dev-dependencies]\nserde = { version = '1', features = ['x'] } # i\n[build-dependencies.serde]\nversion = '1' # h\n[target.x.dependencies]\nserde.version = '1' # d\n",
-            "[dependencies]\nserde = \"2\" # s\nlog = '1'\n[dev-dependencies]\nserde = { version = \"2\", features = ['x'] } # i\n[build-dependencies.serde]\nversion = \"2\" # h\n[target.x.dependencies]\nserde.version = \"2\" # d\n",
-        ),
-        (
-            "bump none",
-            "[dependencies]\nlog = '1'\n",
-            "[dependencies]\nlog = '1'\n",
-        ),
-        (
-            "count",
-            "a = 1\nb = []\nc = {}\n[d]\ne = 1\n",
-            "a = 1\nb = []\nc = {}\n[d]\ne = 1\n",
-        ),
-        (
-            "add",
-            "[workspace]\nmembers = [\n  'a', # first\n  'b' # second\n]\n",
-            "[workspace]\nmembers = [\n  'a', # first\n  'b', # second\n  \"c\"\n]\n",
-        ),
-        (
-            "add again",
-            "workspace.members = ['a']\n",
-            "workspace.members = ['a']\n",
-        ),
-        ("merge", FIRST, MERGED),
-        ("migrate", OLD, NEW),
-        ("rename a missing key", TABLES, TABLES),
-        ("rename to a taken key", TABLES, TABLES),
-        ("move to a taken path", TABLES, TABLES),
-        ("move into itself", TABLES, "[d]\n[a.e]\nb = 1\nc = 2\n"),
-        ("move a number", TABLES, TABLES),
-    ] {
+    for (name, before, after) in PROGRAMS {
         let read = DocumentMut::from_str(rt.alloc(), before);
         assert!(rt; gives(rt.alloc(), read, name, after), "{name}");
     }
@@ -156,55 +155,58 @@ fn merges(alloc: Global, read: Result<DocumentMut, ParseFault>, over: &str, want
     }
 }
 
+/// Texts, what lies over them, and what comes of both.
+const MERGES: &[(&str, &str, &str)] = &[
+    (
+        "v = { x = 1 } # v\n",
+        "v = { y = 2 } # w\n",
+        "v = { x = 1 , y = 2 } # v\n",
+    ),
+    (
+        "v = { x = 1 } # v\n",
+        "[v]\n# y\ny = 2 # y\n",
+        "v = { x = 1 , y = 2 } # v\n",
+    ),
+    (
+        "[v]\nx = 1 # x\n",
+        "v = { y = 2 } # w\n",
+        "[v]\nx = 1 # x\ny = 2\n",
+    ),
+    (
+        "v.x = 1 # x\n",
+        "[v]\n# y\ny = 2 # y\n",
+        "v.x = 1 # x\n# y\nv.y = 2 # y\n",
+    ),
+    (
+        "v = {}\n",
+        "[v.w]\n# k\nk = 1 # k\n",
+        "v = { w = { k = 1 } }\n",
+    ),
+    (
+        "# v\nv = 1 # v\n[w]\n",
+        "v = { x = 1 }\n",
+        "# v\nv = { x = 1 } # v\n[w]\n",
+    ),
+    (
+        "# v\nv = { x = 1 } # v\n",
+        "v = 1 # w\n",
+        "# v\nv = 1 # v\n",
+    ),
+    (
+        "v = 1 # v\nw = 2\n[x]\n",
+        "# t\n[v] # w\na = 1\n",
+        "w = 2\n# t\n[v] # w\na = 1\n[x]\n",
+    ),
+    (
+        "[[v]]\nx = 1\n",
+        "[[v]]\nx = 2\n[[v]]\nx = 3\n",
+        "[[v]]\nx = 2\n[[v]]\nx = 3\n",
+    ),
+];
+
 #[test]
 fn merges_tables_of_either_kind(rt: HostRuntime) {
-    for (under, over, wanted) in [
-        (
-            "v = { x = 1 } # v\n",
-            "v = { y = 2 } # w\n",
-            "v = { x = 1 , y = 2 } # v\n",
-        ),
-        (
-            "v = { x = 1 } # v\n",
-            "[v]\n# y\ny = 2 # y\n",
-            "v = { x = 1 , y = 2 } # v\n",
-        ),
-        (
-            "[v]\nx = 1 # x\n",
-            "v = { y = 2 } # w\n",
-            "[v]\nx = 1 # x\ny = 2\n",
-        ),
-        (
-            "v.x = 1 # x\n",
-            "[v]\n# y\ny = 2 # y\n",
-            "v.x = 1 # x\n# y\nv.y = 2 # y\n",
-        ),
-        (
-            "v = {}\n",
-            "[v.w]\n# k\nk = 1 # k\n",
-            "v = { w = { k = 1 } }\n",
-        ),
-        (
-            "# v\nv = 1 # v\n[w]\n",
-            "v = { x = 1 }\n",
-            "# v\nv = { x = 1 } # v\n[w]\n",
-        ),
-        (
-            "# v\nv = { x = 1 } # v\n",
-            "v = 1 # w\n",
-            "# v\nv = 1 # v\n",
-        ),
-        (
-            "v = 1 # v\nw = 2\n[x]\n",
-            "# t\n[v] # w\na = 1\n",
-            "w = 2\n# t\n[v] # w\na = 1\n[x]\n",
-        ),
-        (
-            "[[v]]\nx = 1\n",
-            "[[v]]\nx = 2\n[[v]]\nx = 3\n",
-            "[[v]]\nx = 2\n[[v]]\nx = 3\n",
-        ),
-    ] {
+    for (under, over, wanted) in MERGES {
         let read = DocumentMut::from_str(rt.alloc(), under);
         assert!(rt; merges(rt.alloc(), read, over, wanted), "{over}");
     }

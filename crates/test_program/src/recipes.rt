@@ -1,5 +1,5 @@
 //! The tasks of the guide, on documents whose texts before and after are written by hand.
-use crate::jobs::{array_mut, done};
+use crate::guide::{array_mut, done};
 use std::alloc::{AllocError, Global};
 use test_calls::holding::is_text;
 use toml_edit::{Document, DocumentMut, FromStr, Mem, ParseFault, Table, Value};
@@ -63,35 +63,38 @@ fn gives(alloc: Global, read: Result<DocumentMut, ParseFault>, name: &str, wante
     }
 }
 
+/// Names of tasks, and texts before and after.
+const TASKS: &[(&str, &str, &str)] = &[
+    (
+        "version",
+        "[package]\n# by hand\nversion = '1.0' # kept\n",
+        "[package]\n# by hand\nversion = \"2.0\" # kept\n",
+    ),
+    ("no version", "[package]\n", "[package]\n"),
+    ("width", "a = 1\n", "a = 1\n\n[tool.fmt]\nwidth = 100\n"),
+    (
+        "sort",
+        "[dependencies]\n# about z\nz = 1 # z\na = 2\n",
+        "[dependencies]\na = 2\n# about z\nz = 1 # z\n",
+    ),
+    (
+        "remove",
+        "[a]\n# about b\nb = 1 # b\nc = 2\n",
+        "[a]\nc = 2\n",
+    ),
+    ("remove none", "[a]\nb = 1\n", "[a]\nb = 1\n"),
+    (
+        "member",
+        "all = [\n  'one', # 1\n  'two', # 2\n  'three', # 3\n]\n",
+        "all = [\n  'one', # 1\n  'three', # 3\n]\n",
+    ),
+    ("comment", "\na = 1\n", "\n# why\na = 1\n"),
+    ("rename", "a = 1\nb = 2\n", "a = 1\nb = 2\n"),
+];
+
 #[test]
 fn does_tasks(rt: HostRuntime) {
-    for (name, before, after) in [
-        (
-            "version",
-            "[package]\n# by hand\nversion = '1.0' # kept\n",
-            "[package]\n# by hand\nversion = \"2.0\" # kept\n",
-        ),
-        ("no version", "[package]\n", "[package]\n"),
-        ("width", "a = 1\n", "a = 1\n\n[tool.fmt]\nwidth = 100\n"),
-        (
-            "sort",
-            "[dependencies]\n# about z\nz = 1 # z\na = 2\n",
-            "[dependencies]\na = 2\n# about z\nz = 1 # z\n",
-        ),
-        (
-            "remove",
-            "[a]\n# about b\nb = 1 # b\nc = 2\n",
-            "[a]\nc = 2\n",
-        ),
-        ("remove none", "[a]\nb = 1\n", "[a]\nb = 1\n"),
-        (
-            "member",
-            "all = [\n  'one', # 1\n  'two', # 2\n  'three', # 3\n]\n",
-            "all = [\n  'one', # 1\n  'three', # 3\n]\n",
-        ),
-        ("comment", "\na = 1\n", "\n# why\na = 1\n"),
-        ("rename", "a = 1\nb = 2\n", "a = 1\nb = 2\n"),
-    ] {
+    for (name, before, after) in TASKS {
         let read = DocumentMut::from_str(rt.alloc(), before);
         assert!(rt; gives(rt.alloc(), read, name, after), "{name}");
     }
@@ -127,20 +130,23 @@ fn is_json(alloc: Global, read: Result<DocumentMut, ParseFault>, wanted: &str) -
     }
 }
 
+/// Texts, and their JSON.
+const JSON: &[(&str, &str)] = &[
+    ("", "{}"),
+    (
+        "z = \"a\\\"b\\\\c\\u0001é\"\na = [+1_0.5e+1_0, -0.0, 0xF, []]\n",
+        "{\"z\":\"a\\\"b\\\\c\\u0001é\",\"a\":[10.5e+10,-0.0,15,[]]}",
+    ),
+    (
+        "t = { b = true, d = 1979-05-27 }\n[[e]]\n[[e]]\nf.g = 2\n",
+        "{\"t\":{\"b\":true,\"d\":\"1979-05-27\"},\"e\":[{},{\"f\":{\"g\":2}}]}",
+    ),
+    ("a = -inf\n", ""),
+];
+
 #[test]
 fn writes_json(rt: HostRuntime) {
-    for (text, wanted) in [
-        ("", "{}"),
-        (
-            "z = \"a\\\"b\\\\c\\u0001é\"\na = [+1_0.5e+1_0, -0.0, 0xF, []]\n",
-            "{\"z\":\"a\\\"b\\\\c\\u0001é\",\"a\":[10.5e+10,-0.0,15,[]]}",
-        ),
-        (
-            "t = { b = true, d = 1979-05-27 }\n[[e]]\n[[e]]\nf.g = 2\n",
-            "{\"t\":{\"b\":true,\"d\":\"1979-05-27\"},\"e\":[{},{\"f\":{\"g\":2}}]}",
-        ),
-        ("a = -inf\n", ""),
-    ] {
+    for (text, wanted) in JSON {
         let read = DocumentMut::from_str(rt.alloc(), text);
         assert!(rt; is_json(rt.alloc(), read, wanted), "{text}");
     }

@@ -1,8 +1,9 @@
 //! Each job of tools for manifests, on documents whose texts before and after are written by hand.
+use crate::guide::{array_mut, done};
 use crate::paths::path;
 use std::alloc::{AllocError, Global};
 use test_calls::holding::is_text;
-use toml_edit::{Array, Document, DocumentMut, Item, Mem, ParseFault, RawString, Table, Value};
+use toml_edit::{Document, DocumentMut, Item, Mem, ParseFault, RawString, Table, Value};
 use toml_edit_recipes::add::add_sorted;
 use toml_edit_recipes::comments::{comment_of, explain};
 use toml_edit_recipes::convert::give_header;
@@ -11,16 +12,6 @@ use toml_edit_recipes::lint::{empty_strings, misfit};
 use toml_edit_recipes::paths::{configure, set_string_at};
 use toml_edit_recipes::relocate::move_table;
 use toml_edit_recipes::rename::rename;
-
-/// Fails if it was not done.
-pub fn done(is_done: bool) -> Mem<()> {
-    if is_done { Ok(()) } else { Err(AllocError) }
-}
-
-/// Returns the array under a key.
-pub fn array_mut<'a>(root: &'a mut Table, key: &str) -> Option<&'a mut Array> {
-    root.get_mut(key).and_then(|item| item.as_array_mut())
-}
 
 /// Returns the table under a key.
 pub fn table_mut<'a>(root: &'a mut Table, key: &str) -> Option<&'a mut Table> {
@@ -109,67 +100,70 @@ fn gives(alloc: Global, read: Result<DocumentMut, ParseFault>, name: &str, wante
 
 const SORTED: &str = "[dependencies]\n# the first\na = '1'\nc = '3' # three\n\n[features]\n";
 
+/// Names of jobs, and texts before and after.
+const JOBS: &[(&str, &str, &str)] = &[
+    (
+        "bump",
+        "[package]\n# by hand\nversion = '1.0' # kept\n",
+        "[package]\n# by hand\nversion = \"2.0\" # kept\n",
+    ),
+    (
+        "add b",
+        SORTED,
+        "[dependencies]\n# the first\na = '1'\nb = 2\nc = '3' # three\n\n[features]\n",
+    ),
+    (
+        "add z",
+        SORTED,
+        "[dependencies]\n# the first\na = '1'\nc = '3' # three\nz = 2\n\n[features]\n",
+    ),
+    ("keep a", SORTED, SORTED),
+    (
+        "rename",
+        "a = 1\n[old] # o\nx = 1\n\n[old.sub]\n[b]\n",
+        "a = 1\n[new] # o\nx = 1\n\n[new.sub]\n[b]\n",
+    ),
+    (
+        "rename",
+        "# above\nold = 1 # behind\nb = 2\n",
+        "# above\nnew = 1 # behind\nb = 2\n",
+    ),
+    (
+        "append",
+        "all = [\n  'Ada', # wrote it\n  'George', # logic\n]\n",
+        "all = [\n  'Ada', # wrote it\n  'George', # logic\n  \"Alan\",\n]\n",
+    ),
+    (
+        "append",
+        "all = [\n  'Ada', # wrote it\n  'George' # logic\n]\n",
+        "all = [\n  'Ada', # wrote it\n  'George', # logic\n  \"Alan\"\n]\n",
+    ),
+    (
+        "append",
+        "all = ['Ada'] # one\n",
+        "all = ['Ada', \"Alan\"] # one\n",
+    ),
+    (
+        "give a header",
+        "[dependencies]\n# logs\nlog = { version = '1' } # l\nserde = '2'\n\n[lib]\n",
+        "[dependencies]\nserde = '2'\n\n# logs\n[dependencies.log] # l\nversion = '1'\n\n[lib]\n",
+    ),
+    ("configure", "a = 1\n", "a = 1\n\n[tool.x]\ny = 1\n"),
+    (
+        "configure",
+        "[tool.x]\nz = 2 # z\n\n[b]\n",
+        "[tool.x]\nz = 2 # z\ny = 1\n\n[b]\n",
+    ),
+    (
+        "explain",
+        "# the port\nport = 80  # old\n",
+        "# the port\nport = 80  # for tests\n",
+    ),
+];
+
 #[test]
 fn does_jobs(rt: HostRuntime) {
-    for (name, before, after) in [
-        (
-            "bump",
-            "[package]\n# by hand\nversion = '1.0' # kept\n",
-            "[package]\n# by hand\nversion = \"2.0\" # kept\n",
-        ),
-        (
-            "add b",
-            SORTED,
-            "[dependencies]\n# the first\na = '1'\nb = 2\nc = '3' # three\n\n[features]\n",
-        ),
-        (
-            "add z",
-            SORTED,
-            "[dependencies]\n# the first\na = '1'\nc = '3' # three\nz = 2\n\n[features]\n",
-        ),
-        ("keep a", SORTED, SORTED),
-        (
-            "rename",
-            "a = 1\n[old] # o\nx = 1\n\n[old.sub]\n[b]\n",
-            "a = 1\n[new] # o\nx = 1\n\n[new.sub]\n[b]\n",
-        ),
-        (
-            "rename",
-            "# above\nold = 1 # behind\nb = 2\n",
-            "# above\nnew = 1 # behind\nb = 2\n",
-        ),
-        (
-            "append",
-            "all = [\n  'Ada', # wrote it\n  'George', # logic\n]\n",
-            "all = [\n  'Ada', # wrote it\n  'George', # logic\n  \"Alan\",\n]\n",
-        ),
-        (
-            "append",
-            "all = [\n  'Ada', # wrote it\n  'George' # logic\n]\n",
-            "all = [\n  'Ada', # wrote it\n  'George', # logic\n  \"Alan\"\n]\n",
-        ),
-        (
-            "append",
-            "all = ['Ada'] # one\n",
-            "all = ['Ada', \"Alan\"] # one\n",
-        ),
-        (
-            "give a header",
-            "[dependencies]\n# logs\nlog = { version = '1' } # l\nserde = '2'\n\n[lib]\n",
-            "[dependencies]\nserde = '2'\n\n# logs\n[dependencies.log] # l\nversion = '1'\n\n[lib]\n",
-        ),
-        ("configure", "a = 1\n", "a = 1\n\n[tool.x]\ny = 1\n"),
-        (
-            "configure",
-            "[tool.x]\nz = 2 # z\n\n[b]\n",
-            "[tool.x]\nz = 2 # z\ny = 1\n\n[b]\n",
-        ),
-        (
-            "explain",
-            "# the port\nport = 80  # old\n",
-            "# the port\nport = 80  # for tests\n",
-        ),
-    ] {
+    for (name, before, after) in JOBS {
         let read = DocumentMut::from_str(rt.alloc(), before);
         assert!(rt; gives(rt.alloc(), read, name, after));
     }
