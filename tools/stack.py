@@ -10,7 +10,7 @@ inline tables, each at a path of 80 keys: 6,400 levels, at the root and in an ar
 text that is refused after such a value too.
 
 It ends with status 1 if a run fails, or if one takes more than 1,024 KB, but for `{:?}`, which is derived, and for `Display`, which may take
-1,088. `bindings/c/stack.c` measures the library for C.
+1,056. `bindings/c/stack.c` measures the library for C.
 """
 import resource
 import subprocess
@@ -24,7 +24,7 @@ LIMIT, MOST = 80, 1024
 # The most that is tried, and how exactly it is measured, in KB.
 HIGHEST, STEP = 65536, 16
 # What calls may take that have limits of their own.
-OTHERS = {"debug": HIGHEST, "display": 1088}
+OTHERS = {"debug": HIGHEST, "display": 1056}
 PATH = ".".join("k%d" % number for number in range(LIMIT))
 # A value at both limits, and the same at a path of 80 keys.
 DEEP = "".join("{ %s = " % PATH for _ in range(LIMIT)) + "1" + " }" * LIMIT
