@@ -4,7 +4,7 @@
 
 It counts with valgrind's callgrind and massif, so the numbers are the same on every run of one build. It wants the built program:
 run `rt run` in crates/tomled once, or name another program as the first argument, such as one that `tools/unproved.py tomled FILE --marks`
-builds. On 19 kinds of documents such a program took 0.97 to 1.03 of the instructions of the proved one.
+builds. Such a program took 0.97 to 1.02 of the instructions of the proved one.
 
     bench/run.py [--memory] [PROGRAM]
     bench/run.py --beside OTHER [--beside OTHER ..] [--peers OTHER ..] [PROGRAM]
