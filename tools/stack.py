@@ -9,8 +9,8 @@ took, in KB: a usual document, and those at the limits of depth, 80 keys in a pa
 inline tables, each at a path of 80 keys: 6,400 levels, at the root and in an array of tables. These are measured with all commands, and a
 text that is refused after such a value too.
 
-It ends with status 1 if a run fails, or if one takes more than 1,024 KB, but for `{:?}`, which is derived, and for `Display`, which may take
-1,056. `bindings/c/stack.c` measures the library for C.
+It ends with status 1 if a run fails, or if one takes more than 1,024 KB, but for `{:?}`, which is derived. `bindings/c/stack.c` measures the
+library for C.
 """
 import resource
 import subprocess
@@ -23,8 +23,8 @@ import unproved
 LIMIT, MOST = 80, 1024
 # The most that is tried, and how exactly it is measured, in KB.
 HIGHEST, STEP = 65536, 16
-# What calls may take that have limits of their own.
-OTHERS = {"debug": HIGHEST, "display": 1056}
+# The call whose stack has no limit, since it is derived.
+DERIVED = "debug"
 PATH = ".".join("k%d" % number for number in range(LIMIT))
 # A value at both limits, and the same at a path of 80 keys.
 DEEP = "".join("{ %s = " % PATH for _ in range(LIMIT)) + "1" + " }" * LIMIT
@@ -102,10 +102,11 @@ class Tally:
     def measure(self, name, program, words, text, wanted):
         status, stack = stack_of(self.programs[program], words, text)
         ends = status >= 0 if wanted is None else status == wanted
-        if not ends or stack > OTHERS.get(words[0], MOST):
+        limited = words[0] != DERIVED
+        if not ends or limited and stack > MOST:
             self.faults += 1
             print("%s: %s %s: status %d, %d KB" % (name, program, " ".join(word[:20] for word in words), status, stack))
-        self.most, self.runs = self.most if words[0] in OTHERS else max(self.most, stack), self.runs + 1
+        self.most, self.runs = max(self.most, stack) if limited else self.most, self.runs + 1
         return stack
 
 

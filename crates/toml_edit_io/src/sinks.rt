@@ -24,7 +24,7 @@ impl<W: Write> Sink for Shown<'_, W> {
 
     ghost puts = { λ s text t. Shows W.write_str_gives s.failed s.f text t.failed t.f };
 
-    // A call keeps the frames small of what puts a value in a value.
+    // Inlined, it would add to the frame of each value that holds another.
     #[inline(never)]
     fn put(&mut self, text: &str) {
         if !self.failed {

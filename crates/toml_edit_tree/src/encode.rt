@@ -305,7 +305,11 @@ fn put_pairs<'p, 'a, S: Sink>(
     last
 }
 
-/// Puts the pairs of one slot, as [`put_pairs`] does: those of a value, or those in any table.
+/// Puts the pairs of one slot, as [`put_pairs`] does: those in a table or in a dotted inline table,
+/// or the one of any other value.
+///
+/// The longer path is made once, since each level of a path of dotted keys has room for it on the
+/// stack.
 #[cycle(print)]
 #[inline(always)]
 fn put_item_pairs<'p, 'a, S: Sink>(
@@ -324,46 +328,24 @@ fn put_item_pairs<'p, 'a, S: Sink>(
         (lines_of_item (mode_of mode) (item_view item.now)
         (keys_on path.now ++ (key.now ∷ [])))) out.new }
 {
+    let under = Path::Under(path, key);
     match item {
-        Item::Value(value) => put_value_pairs(out, mode, value, key, path, before),
-        Item::Table(table) => put_pairs(out, mode, &table.slots, &Path::Under(path, key), before),
-        Item::None | Item::ArrayOfTables(_) => before,
-    }
-}
-
-/// Puts the pairs of a value, as [`put_pairs`] does: those in a dotted inline table, or the one
-/// of any other value.
-#[cycle(print)]
-#[inline(always)]
-fn put_value_pairs<'p, 'a, S: Sink>(
-    out: &mut S,
-    mode: Mode,
-    value: &'a Value,
-    key: &'a Key,
-    path: &'p Path<'p, 'a>,
-    before: Option<&'a Decor>,
-) -> Option<&'a Decor>
-    ensures last { option_copied result
-        ≡ last_shown (option_copied before.entry)
-        (lines_of_item (mode_of mode) (value_view value.now) (keys_on path.now ++ (key.now ∷ []))) }
-    ensures text { WritesInCalls S.puts out.old
-        (pairs_shown (mode_of mode) (option_copied before.entry)
-        (lines_of_item (mode_of mode) (value_view value.now)
-        (keys_on path.now ++ (key.now ∷ [])))) out.new }
-{
-    match value {
-        Value::InlineTable(table) => {
-            if table.dotted {
-                put_pairs(out, mode, &table.items, &Path::Under(path, key), before)
-            } else {
+        Item::Value(value) => match value {
+            Value::InlineTable(table) => {
+                if table.dotted {
+                    put_pairs(out, mode, &table.items, &under, before)
+                } else {
+                    put_pair(out, mode, value, key, path, before);
+                    Some(value.decor())
+                }
+            }
+            _ => {
                 put_pair(out, mode, value, key, path, before);
                 Some(value.decor())
             }
-        }
-        _ => {
-            put_pair(out, mode, value, key, path, before);
-            Some(value.decor())
-        }
+        },
+        Item::Table(table) => put_pairs(out, mode, &table.slots, &under, before),
+        Item::None | Item::ArrayOfTables(_) => before,
     }
 }
 

@@ -8,10 +8,10 @@ use Rattle.toml_edit_tree.specs.View.{item_view, items_view, value_view}
 use Rattle.toml_edit_tree.proofs.PairTextLaws.{pair-last, pair-shown}
 use Rattle.toml_edit_tree.proofs.TurnLaws.{items-end, last-turn, other-turn, pairs-turn, value-turn}
 use Rattle.toml_edit_tree.proofs.ValueLines.{array-text, braced-line, inline-table-text, other-line}
-use Rattle.toml_edit_tree.proofs.ViewLaws.{view-Array, view-Boolean, view-Datetime, view-Float, view-InlineTable, view-Integer, view-String}
+use Rattle.toml_edit_tree.proofs.ViewLaws.{view-Array, view-Boolean, view-Datetime, view-Float, view-InlineTable, view-Integer, view-String, view-Value}
 use Rattle.toml_edit_tree.proofs.encode.+print.Goals as goal
 use Rattle.toml_edit_tree.proofs.encode.+print.Goals.{put_items-in-Value, put_items-in_default}
-use Rattle.toml_edit_laws.specs.PrintByVisits.{element_text, pairs_shown, written_items}
+use Rattle.toml_edit_laws.specs.PrintByVisits.{element_text, last_shown, pairs_shown, written_items}
 
 pub put_array_text-returns : goal.put_array_text-returns
 put_array_text-returns g t c =
@@ -88,23 +88,32 @@ put_pairs-slots-preserved g t c =
     }
 
 -- an inline table in braces, and any other value, is a pair
-pub put_value_pairs-returns-else-table-clause-text : goal.put_value_pairs-returns-else-table-clause-text
-put_value_pairs-returns-else-table-clause-text g t c =
-    let v = c.args.value.now in
-    let alone = braced-line v c.in-InlineTable.table c.in-InlineTable.is c.if-table.false in
-    put_same _ _ _ _ c.put_pair.ensures (sym (pair-shown (mode_of c.args.mode) (keys_on c.args.path.now) c.args.key.now (value_view v) alone
-    (option_copied c.args.before)))
-
-pub put_value_pairs-returns-in_default : goal.put_value_pairs-returns-in_default
-put_value_pairs-returns-in_default g t c =
+pub put_item_pairs-returns-else-table-clause-text : goal.put_item_pairs-returns-else-table-clause-text
+put_item_pairs-returns-else-table-clause-text g t c =
+    let v = c.in-Value.value in
     let ks = keys_on c.args.path.now in
     let k = c.args.key.now in
-    let n = value_view c.args.value.now in
-    let alone = other-line c.args.value.now c.in_default.not-InlineTable in
+    let before = option_copied c.args.before in
+    let alone = braced-line v c.in-InlineTable.table c.in-InlineTable.is c.if-table.false in
+    put_same _ _ _ _ c.put_pair.ensures
+    (sym (ap (λ n. pairs_shown (mode_of c.args.mode) before (lines_of_item (mode_of c.args.mode) n (ks ++ (k ∷ []))))
+    (ap item_view c.in-Value.is ∙ view-Value v) ∙ pair-shown (mode_of c.args.mode) ks k (value_view v) alone before))
+
+pub put_item_pairs-returns-in_default : goal.put_item_pairs-returns-in_default
+put_item_pairs-returns-in_default g t c =
+    let v = c.in-Value.value in
+    let ks = keys_on c.args.path.now in
+    let k = c.args.key.now in
+    let before = option_copied c.args.before in
+    let alone = other-line v c.in_default.not-InlineTable in
+    let seen = ap item_view c.in-Value.is ∙ view-Value v in
     record {
-      last = ap Some c.decor-in_default.ensures ∙ sym (pair-last (mode_of c.args.mode) ks k n alone (option_copied c.args.before));
+      last = ap Some c.decor-in_default.ensures
+          ∙ sym (ap (λ n. last_shown before (lines_of_item (mode_of c.args.mode) n (ks ++ (k ∷ [])))) seen
+          ∙ pair-last (mode_of c.args.mode) ks k (value_view v) alone before);
       text = put_same _ _ _ _ c.put_pair-in_default.ensures
-          (sym (pair-shown (mode_of c.args.mode) ks k n alone (option_copied c.args.before)));
+          (sym (ap (λ n. pairs_shown (mode_of c.args.mode) before (lines_of_item (mode_of c.args.mode) n (ks ++ (k ∷ [])))) seen
+          ∙ pair-shown (mode_of c.args.mode) ks k (value_view v) alone before));
     }
 
 -- the values
