@@ -1,7 +1,7 @@
 -- What was asked of a folder, call by call.
 use Rattle.std.proofs.Common.{◌≡◌, ◌≢◌, Bool, true, false, inl, inr, List, [], ◌∷◌, ◌++◌, Option, Some, None, Result, Ok, Err, IsErr, IsErrAnd, append_assoc, refl, sym, ap, subst, ◌∙◌}
-use Rattle.toml_edit_replace.specs.Events.{Text, Call, Event, Notes, made, removed, synced_folder, renamed, likened, wrote, synced, held, done, failed, more, succeeds}
-use Rattle.toml_edit_replace.specs.Replacing.{Asked, AreOther, Asks, Checks, Compares, Fills, FillsBy, IsWhy, IsWhyNot, MakesOther, Removes, Replaces, Stops, all_done, checked, compared, filling, replaced, replacing, taken, undone}
+use Rattle.toml_edit_replace.specs.Events.{Text, Call, Event, Notes, cleared, made, removed, synced_folder, renamed, likened, wrote, synced, held, done, failed, more, succeeds}
+use Rattle.toml_edit_replace.specs.Replacing.{Asked, AreOther, Asks, Checks, Compares, Fills, FillsBy, IsWhy, IsWhyNot, MakesOther, Removes, Replaces, Stops, all_done, checked, compared, filling, prepared, replaced, replacing, taken, undone}
 use Rattle.toml_edit_replace.specs.declared.replacement.ReplaceFault.{ReplaceFault}
 use Rattle.toml_edit_replace.specs.declared.replacement.ReplaceFault.TheVariants.{Changed, ReadOnly, Failed}
 
@@ -153,11 +153,11 @@ module _ (a : Asked) where
   joined : (xs ys zs : List Event) (e : Event) → (xs ++ (ys ++ (e ∷ []))) ++ zs ≡ xs ++ (ys ++ (e ∷ zs))
   joined xs ys zs e = append_assoc xs (ys ++ (e ∷ [])) zs ∙ ap (λ es. xs ++ es) (append_assoc ys (e ∷ []) zs)
 
-  then_noted : (ns : List Text) (b : Text) (o m n : Option (List Event)) (es : List Event) → m ≡ more (checked a ++ (taken ns ++ (done (made b) ∷ []))) o
+  then_noted : (ns : List Text) (b : Text) (o m n : Option (List Event)) (es : List Event) → m ≡ more (prepared a ++ (taken ns ++ (done (made b) ∷ []))) o
       → n ≡ more es m → n ≡ more (replacing a ns b es) o
   then_noted ns b o m n es p q =
-      subst (λ (fs : List Event). n ≡ more fs o) (joined (checked a) (taken ns) es (done (made b)))
-      (noted (checked a ++ (taken ns ++ (done (made b) ∷ []))) es o m n p q)
+      subst (λ (fs : List Event). n ≡ more fs o) (joined (prepared a) (taken ns) es (done (made b)))
+      (noted (prepared a ++ (taken ns ++ (done (made b) ∷ []))) es o m n p q)
 
   why_undone : (ns : List Text) (b : Text) (fs : List Event) (d : Bool) (f : ReplaceFault) → AreOther a a.name (ns ++ (b ∷ [])) → IsWhyNot a b fs f
       → IsWhy a (undone a ns b fs d) f
@@ -176,7 +176,7 @@ module _ (a : Asked) where
   why_fails es (Failed e) other = tt
 
   ended : (ns : List Text) (b : Text) (o m n : Option (List Event)) (r : Result (Unit {0}) ReplaceFault) → AreOther a a.name (ns ++ (b ∷ []))
-      → m ≡ more (checked a ++ (taken ns ++ (done (made b) ∷ []))) o → FillsBy a b m n r → Replaces a o n r
+      → m ≡ more (prepared a ++ (taken ns ++ (done (made b) ∷ []))) o → FillsBy a b m n r → Replaces a o n r
   ended ns b o m n (Ok u) apart p q =
       (replaced a ns b, (ns, b, apart, refl), then_noted ns b o m n (all_done (filling a b) ++ (done (synced_folder a.name) ∷ [])) p q)
   ended ns b o m n (Err f) apart p (inl (fs, stops, why, d, q)) = (
@@ -192,9 +192,11 @@ module _ (a : Asked) where
     then_noted ns b o m n (all_done (filling a b) ++ (failed (synced_folder a.name) ∷ [])) p q,
   )
 
-  module _ (o k : Option (List Event)) (c : Result (Unit {0}) ReplaceFault) (u : Unit {0}) (checks : Checks a o k c) (is : c ≡ Ok u) where
-    checked_all : k ≡ more (checked a) o
-    checked_all = subst (λ (x : Result (Unit {0}) ReplaceFault). Checks a o k x) is checks
+  module _ (o j k : Option (List Event)) (c : Result (Unit {0}) ReplaceFault) (u : Unit {0}) (checks : Checks a o j c) (is : c ≡ Ok u)
+      (clears : k ≡ more (done (cleared a.name) ∷ []) j) where
+    prepared_all : k ≡ more (prepared a) o
+    prepared_all =
+        noted (checked a) (done (cleared a.name) ∷ []) o j k (subst (λ (x : Result (Unit {0}) ReplaceFault). Checks a o j x) is checks) clears
 
     module _ {A E : Type 0} (name : A → Text) (m : Option (List Event)) (made_it : Result A E) (makes : MakesOther a a.name name k m made_it) where
       pub replaces_none : (e : E) (r : Result (Unit {0}) ReplaceFault) (P : ReplaceFault → Type 0) → made_it ≡ Err e → IsErrAnd r P
@@ -202,11 +204,11 @@ module _ (a : Asked) where
       replaces_none e (Ok v) P fails fault other = absurd fault
       replaces_none e (Err f) P fails fault other =
           let (ns, apart, q) = subst (λ (x : Result A E). MakesOther a a.name name k m x) fails makes in
-          (checked a ++ taken ns, inr (inl (ns, apart, refl)), why_fails _ f (other f fault), noted (checked a) (taken ns) o k m checked_all q)
+          (prepared a ++ taken ns, inr (inl (ns, apart, refl)), why_fails _ f (other f fault), noted (prepared a) (taken ns) o k m prepared_all q)
 
       pub replaces_end : (x : A) (t : Text) (n : Option (List Event)) (r : Result (Unit {0}) ReplaceFault) → made_it ≡ Ok x → t ≡ name x
           → FillsBy a t m n r → Replaces a o n r
       replaces_end x t n r works v fills =
           let (ns, apart, q) = subst (λ (y : Result A E). MakesOther a a.name name k m y) works makes in
-          ended ns (name x) o m n r apart (noted (checked a) (taken ns ++ (done (made (name x)) ∷ [])) o k m checked_all q)
+          ended ns (name x) o m n r apart (noted (prepared a) (taken ns ++ (done (made (name x)) ∷ [])) o k m prepared_all q)
           (subst (λ (b : Text). FillsBy a b m n r) v fills)

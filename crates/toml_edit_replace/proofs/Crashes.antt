@@ -4,7 +4,7 @@ use Rattle.std.specs.Prelude.{bytes_eq, unwrap_or}
 use Rattle.std.proofs.lemmas.Slice.Eq.{bytes_eq-Decides}
 use Rattle.std.proofs.lemmas.Bool.Decides.{eqb_tells}
 use Rattle.toml_edit_replace.specs.Crash.{File, first, of_run, any, Happening, asks, ends, sweeps, HoldsMade, HoldsOne, IsAllowed, IsNew, IsSafe, Made, Merges, State, Throughout, after, file_of, led, made_after, made_at, put, start, unmade}
-use Rattle.toml_edit_replace.specs.Events.{Text, Call, Event, found, leads_to, locked, writable, made, likened, wrote, synced, held, renamed, removed, synced_folder, done}
+use Rattle.toml_edit_replace.specs.Events.{Text, Call, Event, found, leads_to, locked, cleared, writable, made, likened, wrote, synced, held, renamed, removed, synced_folder, done}
 use Rattle.toml_edit_replace.specs.Replacing.{Asked, AreOther, IsReplaced, StopsReplacing, Stops, all_done, compared, filling, replacing, taken}
 
 -- ---- numbers and names
@@ -140,10 +140,10 @@ module _ (a : Asked) where
   taken-runs [] es h = h
   taken-runs (n ∷ ns) es h = (tt, taken-runs ns es h)
 
-  checked-runs : (force : Bool) (es : List Event) → Runs a unmade es
-      → Runs a unmade ((if force then [] else (done (writable a.name) ∷ [])) ++ es)
-  checked-runs true es h = h
-  checked-runs false es h = (tt, h)
+  prepared-runs : (force : Bool) (es : List Event) → Runs a unmade es
+      → Runs a unmade (((if force then [] else (done (writable a.name) ∷ [])) ++ (done (cleared a.name) ∷ [])) ++ es)
+  prepared-runs true es h = (tt, h)
+  prepared-runs false es h = (tt, (tt, h))
 
   other : (b : Text) (last : Text) (ns : List Text) → AreOther a last (ns ++ (b ∷ [])) → b ≢ a.name
   other b last [] (h, i, j) = h
@@ -152,7 +152,7 @@ module _ (a : Asked) where
   replacing-runs : (ns : List Text) (b : Text) (es : List Event) → AreOther a a.name (ns ++ (b ∷ [])) → Runs a (begun b) es
       → Runs a unmade (replacing a ns b es)
   replacing-runs ns b es apart h =
-      checked-runs a.force (taken ns ++ (done (made b) ∷ es)) (taken-runs ns (done (made b) ∷ es) ((other b a.name ns apart, refl), h))
+      prepared-runs a.force (taken ns ++ (done (made b) ∷ es)) (taken-runs ns (done (made b) ∷ es) ((other b a.name ns apart, refl), h))
 
   taken-alone : (ns : List Text) → Runs a unmade (taken ns)
   taken-alone [] = tt
@@ -161,7 +161,7 @@ module _ (a : Asked) where
   runs : (es : List Event) → IsReplaced a es ⊎ StopsReplacing a es → Runs a unmade es
   runs es (inl (ns, b, apart, is)) = subst (Runs a unmade) (sym is) (replacing-runs ns b _ apart (whole-runs b true))
   runs es (inr (inl (other, is))) = subst (Runs a unmade) (sym is) (tt, tt)
-  runs es (inr (inr (inl (ns, apart, is)))) = subst (Runs a unmade) (sym is) (checked-runs a.force (taken ns) (taken-alone ns))
+  runs es (inr (inr (inl (ns, apart, is)))) = subst (Runs a unmade) (sym is) (prepared-runs a.force (taken ns) (taken-alone ns))
   runs es (inr (inr (inr (inl (ns, b, apart, fs, stops, d, is))))) =
       subst (Runs a unmade) (sym is) (replacing-runs ns b _ apart (stops-runs b d (begun b) (filling a b) fs (robust b d) stops))
   runs es (inr (inr (inr (inr (ns, b, apart, is))))) = subst (Runs a unmade) (sym is) (replacing-runs ns b _ apart (whole-runs b false))
@@ -176,15 +176,15 @@ module _ (a : Asked) where
   taken-at [] es = refl
   taken-at (n ∷ ns) es = taken-at ns es
 
-  checked-at : (force : Bool) (es : List Event)
-      → made_at unmade ((if force then [] else (done (writable a.name) ∷ [])) ++ es) ≡ made_at unmade es
-  checked-at true es = refl
-  checked-at false es = refl
+  prepared-at : (force : Bool) (es : List Event)
+      → made_at unmade (((if force then [] else (done (writable a.name) ∷ [])) ++ (done (cleared a.name) ∷ [])) ++ es) ≡ made_at unmade es
+  prepared-at true es = refl
+  prepared-at false es = refl
 
   pub ends-over : (es : List Event) → IsReplaced a es → (made_at unmade es).is_over ≡ true
   ends-over es (ns, b, apart, is) =
       ap (λ (fs : List Event). (made_at unmade fs).is_over) is
-      ∙ ap (λ (m : Made). m.is_over) (checked-at a.force _ ∙ taken-at ns (done (made b) ∷ (all_done (filling a b) ++ (done (synced_folder a.name) ∷ []))))
+      ∙ ap (λ (m : Made). m.is_over) (prepared-at a.force _ ∙ taken-at ns (done (made b) ∷ (all_done (filling a b) ++ (done (synced_folder a.name) ∷ []))))
       ∙ named-over b a.before
 
 -- ---- each happening keeps it
@@ -324,6 +324,7 @@ module _ (asked : ℕ → Asked) (name : Text) (same : (q : ℕ) → (asked q).n
   step s r (leads_to n t) d h k free = quiet s r h
   step s r (locked n) d h k free = quiet s r h
   step s r (writable n) d h k free = quiet s r h
+  step s r (cleared n) d h k free = quiet s r h
   step s r (made b) true h (apart, other) free =
       elsewhere b (λ (t : State). Holding asked name (record t { made = put r (record unmade { name = Some b; written = Some [] }) s.made })) _ _
       (subst (λ (n : Text). b ≢ n) (same r) apart)

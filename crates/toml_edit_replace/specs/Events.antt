@@ -13,6 +13,8 @@ pub data Call : Type 0 where
   locked : Text → Call
   -- the file of this name is not read-only
   writable : Text → Call
+  -- the new files beside the file of this name go that were left by runs which have ended
+  cleared : Text → Call
   -- a file is made, of a name that none had
   made : Text → Call
   -- It gets the owner, the group and the mode of the file of this name; if forced, those that can be

@@ -1,7 +1,7 @@
 -- What replacing a file asks of its folder.
 use Rattle.std.specs.Prelude.{◌≡◌, ◌≢◌, ◌⊎◌, Bool, false, if◌then◌else◌, List, [], ◌∷◌, ◌++◌, Option, Some, None, Result, Ok, Err}
 use Rattle.std.specs.Option.{option_copied}
-use Rattle.toml_edit_replace.specs.Events.{Text, Call, Event, found, locked, writable, made, likened, wrote, synced, held, renamed, removed, synced_folder, done, failed, more}
+use Rattle.toml_edit_replace.specs.Events.{Text, Call, Event, found, locked, writable, cleared, made, likened, wrote, synced, held, renamed, removed, synced_folder, done, failed, more}
 use Rattle.toml_edit_replace.specs.declared.replacement.Replacement.{Replacement}
 use Rattle.toml_edit_replace.specs.declared.replacement.ReplaceFault.{ReplaceFault}
 use Rattle.toml_edit_replace.specs.declared.replacement.ReplaceFault.TheVariants.{Changed, ReadOnly, Failed}
@@ -48,6 +48,10 @@ asked_by r = record { name = r.name.now; before = option_copied r.before; text =
 abbrev pub checked : Asked → List Event
 checked a = if a.force then [] else (done (writable a.name) ∷ [])
 
+-- what ended runs left goes before a new file is made
+abbrev pub prepared : Asked → List Event
+prepared a = checked a ++ (done (cleared a.name) ∷ [])
+
 -- Names of the new file are tried until one is free: none is the file's, and each is another than the
 -- one before.
 abbrev pub AreOther : Asked → Text → List Text → Type 0
@@ -70,7 +74,7 @@ filling a b =
 
 -- the calls of a replacement: those before the new file is made, and those after
 abbrev pub replacing : Asked → List Text → Text → List Event → List Event
-replacing a ns b es = checked a ++ (taken ns ++ (done (made b) ∷ es))
+replacing a ns b es = prepared a ++ (taken ns ++ (done (made b) ∷ es))
 
 abbrev pub replaced : Asked → List Text → Text → List Event
 replaced a ns b = replacing a ns b (all_done (filling a b) ++ (done (synced_folder a.name) ∷ []))
@@ -103,7 +107,7 @@ FindsOther a b es =
 abbrev pub StopsReplacing : Asked → List Event → Type 0
 StopsReplacing a es =
     IsReadOnly a es
-    ⊎ ((ns : List Text) × AreOther a a.name ns × (es ≡ checked a ++ taken ns))
+    ⊎ ((ns : List Text) × AreOther a a.name ns × (es ≡ prepared a ++ taken ns))
     ⊎ IsUndone a (λ b. Stops (filling a b)) es
     ⊎ ((ns : List Text) × (b : Text) × AreOther a a.name (ns ++ (b ∷ []))
     × (es ≡ replacing a ns b (all_done (filling a b) ++ (failed (synced_folder a.name) ∷ []))))

@@ -1,6 +1,6 @@
 //! Folders, of which files are read and replaced.
-ghost use Rattle.std.specs.Prelude.{◌≡◌, ◌≢◌, Option, List, IfOk, string_bytes};
-ghost use Rattle.toml_edit_replace.specs.Events.{Event, Notes, NotesFound, NotesWhether, found, held, leads_to, likened, locked, made, removed, renamed, synced, synced_folder, writable, wrote};
+ghost use Rattle.std.specs.Prelude.{◌≡◌, ◌≢◌, [], ◌∷◌, Option, List, IfOk, string_bytes};
+ghost use Rattle.toml_edit_replace.specs.Events.{Event, Notes, NotesFound, NotesWhether, cleared, done, found, held, leads_to, likened, locked, made, more, removed, renamed, synced, synced_folder, writable, wrote};
 
 use std::alloc::Global;
 use std::io;
@@ -29,6 +29,11 @@ pub trait Folder {
     /// Returns `true` if the file is missing, or its mode lets anyone write it.
     fn is_writable(&mut self, name: &str) -> io::Result<bool>
         ensures { NotesWhether (history self.old) (history self.new) (writable name.now) result };
+
+    /// Removes the new files beside the file that were left by runs which have ended. What cannot be
+    /// removed stays.
+    fn clear(&mut self, name: &str)
+        ensures { history self.new ≡ more (done (cleared name.now) ∷ []) (history self.old) };
 
     /// Returns a name beside the file that no file is likely to have, other than the one before.
     fn beside(&mut self, alloc: Global, name: &str, last: &str) -> io::Result<String>

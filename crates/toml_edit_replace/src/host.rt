@@ -68,12 +68,15 @@ impl Folder for Host<'_> {
         }
     }
 
+    fn clear(&mut self, name: &str) {
+        let boot = boot_of(self.rt);
+        clear(self.rt, folder_of(name), boot.as_str().trim_end());
+    }
+
     fn beside(&mut self, alloc: Global, name: &str, last: &str) -> io::Result<String> {
         let boot = boot_of(self.rt);
         let boot = boot.as_str().trim_end();
-        let folder = folder_of(name);
-        clear(self.rt, folder, boot);
-        let beside = fresh_name(self.rt, alloc, folder, boot, self.process)?;
+        let beside = fresh_name(self.rt, alloc, folder_of(name), boot, self.process)?;
         if beside.as_str() == name || beside.as_str() == last {
             return Err(io::Error::from(ErrorKind::AlreadyExists));
         }

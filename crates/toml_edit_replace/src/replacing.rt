@@ -41,6 +41,7 @@ pub fn replace<F: Folder>(
     ensures { Replaces (asked_by asked.now) (F.history folder.old) (F.history folder.new) result }
 {
     check(folder, asked)?;
+    folder.clear(asked.name);
     let beside = make(alloc, folder, asked, asked.name, TRIES)?;
     replace_by(folder, beside.as_str(), asked)
 }

@@ -106,6 +106,8 @@ impl Folder for Memory {
         Ok(!self.read_only)
     }
 
+    fn clear(&mut self, _name: &str) {}
+
     fn beside(&mut self, alloc: Global, name: &str, last: &str) -> io::Result<String> {
         let beside = format!(in alloc; "{last}.new")?;
         if beside.as_str() == name || beside.as_str() == last {

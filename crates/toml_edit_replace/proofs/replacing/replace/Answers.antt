@@ -5,10 +5,10 @@ use Rattle.toml_edit_replace.proofs.replacing.replace.Goals as goal
 
 pub returns-in_err-beside : goal.returns-in_err-beside
 returns-in_err-beside g c =
-    replaces_none (asked_by c.args.asked.now) _ _ _ _ c.check.ensures c.in_ok-check.was string_bytes _ _ c.make.ensures _ _ _ c.in_err-beside.was
+    replaces_none (asked_by c.args.asked.now) _ _ _ _ _ c.check.ensures c.in_ok-check.was c.clear.ensures string_bytes _ _ c.make.ensures _ _ _ c.in_err-beside.was
     c.from_residual-in_err-beside.ensures.1 (λ f is. subst IsOther (sym is) tt)
 
 pub returns : goal.returns
 returns g c =
-    replaces_end (asked_by c.args.asked.now) _ _ _ _ c.check.ensures c.in_ok-check.was string_bytes _ _ c.make.ensures _ _ _ _ c.in_ok-beside.was
+    replaces_end (asked_by c.args.asked.now) _ _ _ _ _ c.check.ensures c.in_ok-check.was c.clear.ensures string_bytes _ _ c.make.ensures _ _ _ _ c.in_ok-beside.was
     c.as_str.ensures.value c.replace_by.ensures
