@@ -7,7 +7,7 @@ SUITE is the folder that has `valid` and `invalid`. Left out, it is where Debian
 Each text is tried as TOML 1.0 and as TOML 1.1. Where the suite lists the files of each version (`files-toml-1.0.0`), these are the texts of
 that version. An older suite has one set of files, and names those that 1.0 lacks in `version.go` beside the folder.
 
-The program test_meaning writes a meaning as the suite has it. It is the proved one, after `rt run < stdin` in crates/test_meaning, or the
+The program test_tools writes a meaning as the suite has it. It is the proved one, after `rt run < stdin` in crates/test_tools, or the
 one in FOLDER, or one that is built by `--unproved`, which takes a minute. It reads TOML 1.0 where its last argument is `strict`, and ends
 with 0, or with 1 where it refuses the text. Floats are compared by their value, and date-times by their parts.
 
@@ -90,7 +90,7 @@ def moment(text):
 
 def came_of(program, words, text):
     """What the program makes of a text: its meaning, or None where it is refused."""
-    run = subprocess.run([program, *words], input=text, capture_output=True)
+    run = subprocess.run([program, "meaning", *words], input=text, capture_output=True)
     if run.returncode == 1 and not run.stdout:
         return None
     if run.returncode:
@@ -135,7 +135,7 @@ def main():
     if words[:1] == ["--help"]:
         return print(__doc__.strip())
     with tempfile.TemporaryDirectory() as folder, concurrent.futures.ThreadPoolExecutor(os.cpu_count()) as pool:
-        (program,), words = unproved.programs(["test_meaning"], words, folder)
+        (program,), words = unproved.programs(["test_tools"], words, folder)
         suite = os.path.abspath(words[0] if words else SUITE)
         if not os.path.isdir(suite + "/valid"):
             sys.exit("no suite at %s: install Debian's package %s, or name the folder" % (suite, PACKAGE))

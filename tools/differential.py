@@ -19,7 +19,7 @@ the text; and of one that is accepted that `get` writes what means the same, and
 `EXPLAINED` has the differences that are meant, or faults of the others, each with its reason. Any other one is printed with a shortest text
 that still has it, and the status is then 1.
 
-It wants the programs tomled and test_meaning. They are the proved ones, after `rt run < stdin` in the folder of each, or those in FOLDER, or
+It wants the programs tomled and test_tools. They are the proved ones, after `rt run < stdin` in the folder of each, or those in FOLDER, or
 built by `--unproved`, which takes two minutes.
 """
 import concurrent.futures
@@ -285,8 +285,8 @@ def explained(reader, text):
 class Tries:
     """The programs, and the checks of a text."""
 
-    def __init__(self, folder, tomled, meaning):
-        self.tomled, self.strict, self.plain = tomled, by_program([meaning, "strict"]), by_program([meaning])
+    def __init__(self, folder, tomled, tools):
+        self.tomled, self.strict, self.plain = tomled, by_program([tools, "meaning", "strict"]), by_program([tools, "meaning"])
         self.readers = {}
         if tomllib:
             self.readers["tomllib"] = by_tomllib
@@ -470,7 +470,7 @@ def main():
     if words[:1] == ["--help"]:
         return print(__doc__.strip())
     with tempfile.TemporaryDirectory() as folder, concurrent.futures.ThreadPoolExecutor(os.cpu_count()) as pool:
-        programs, words = unproved.programs(["tomled", "test_meaning"], words, folder)
+        programs, words = unproved.programs(["tomled", "test_tools"], words, folder)
         texts = texts_of(words)
         tries = Tries(folder, *programs)
         found = list(pool.map(lambda task: tries.differences(*task), texts))

@@ -17,7 +17,7 @@ import os, subprocess, sys, tempfile, tomllib
 
 import unproved
 
-PROGRAM = "test_formats"
+PROGRAM = "test_tools"
 # Words of the program that are tried with each text.
 WORDS = [[], ["exact"], ["exact", "returns"], ["by-depth", "four"], ["narrow"], ["no-equals"], ["no-dots"], ["no-comments"], ["no-empty-lines"],
          ["no-indentation"], ["no-arrays"], ["no-inline-tables"], ["no-empty-lines", "no-indentation", "exact"], ["no-width"],
@@ -107,7 +107,7 @@ def end_of_string(text, at, mark):
 
 def run(program, words, text):
     """What the program writes, or None where it refuses the text."""
-    ran = subprocess.run([program, *words], input=text, capture_output=True, timeout=60)
+    ran = subprocess.run([program, "format", *words], input=text, capture_output=True, timeout=60)
     if ran.returncode:
         return None
     return ran.stdout

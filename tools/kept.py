@@ -3,7 +3,7 @@
 
     tools/kept.py [MB]     a document of so many megabytes (100)
 
-It builds the program `test_kept` unproved (`tools/unproved.py`) and counts what it allocates, by a C library that comes before libc, so it
+It builds the program `test_tools` unproved (`tools/unproved.py`) and counts what it allocates, by a C library that comes before libc, so it
 wants a C compiler too. What a document of one number leaves is taken off. It fails if a value that is detached leaves more than its texts, or
 another one more than the source, or if the program prints another value.
 """
@@ -70,9 +70,9 @@ def text(value, size):
 def run(program, counting, words, value, size):
     """The bytes that are left at the end, and the most that there were."""
     document = text(value, size)
-    ran = subprocess.run([program, *words], input=document, capture_output=True, text=True, env=dict(os.environ, LD_PRELOAD=counting))
+    ran = subprocess.run([program, "kept", *words], input=document, capture_output=True, text=True, env=dict(os.environ, LD_PRELOAD=counting))
     if ran.returncode or ran.stdout != " %s\n" % value:
-        sys.exit("test_kept %s: status %d, printed %r\n%s" % (" ".join(words), ran.returncode, ran.stdout, ran.stderr))
+        sys.exit("kept %s: status %d, printed %r\n%s" % (" ".join(words), ran.returncode, ran.stdout, ran.stderr))
     return map(int, ran.stderr.split())
 
 
@@ -82,11 +82,11 @@ def main():
     size = int(sys.argv[1] if sys.argv[1:] else 100) * 1000000
     faults = 0
     with tempfile.TemporaryDirectory() as folder:
-        program, counting = folder + "/test_kept", folder + "/counting.so"
+        program, counting = folder + "/test_tools", folder + "/counting.so"
         with open(folder + "/counting.c", "w", encoding="utf-8") as file:
             file.write(COUNTING)
         subprocess.run(["cc", "-O1", "-shared", "-fPIC", "-o", counting, folder + "/counting.c"], check=True)
-        unproved.build("test_kept", program)
+        unproved.build("test_tools", program)
         for words, bound in (([], size + SMALL), (["detach"], SMALL)):
             alone, _ = run(program, counting, words, "1", 0)
             left, most = run(program, counting, words, '"%s"' % VALUE, size)

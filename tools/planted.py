@@ -75,7 +75,7 @@ def tools(folder, suite):
     """For each tool in turn, how what it runs is built, its commands, and the second at which no more of them is begun."""
     differential = (script("differential.py", "--in", folder, str(TEXTS), str(seed)) for seed in itertools.count(1))
     fuzzing = itertools.repeat(script("fuzz.py", "--keep", folder, str(FUZZED), "print", "exact", "set"))
-    yield "conformance", lambda: built("test_meaning", folder), [script("conformance.py", "--in", folder, *suite)], MOST
+    yield "conformance", lambda: built("test_tools", folder), [script("conformance.py", "--in", folder, *suite)], MOST
     yield "differential", lambda: built("tomled", folder), differential, HALF
     yield "fuzz", lambda: fuzz.build(folder), fuzzing, MOST
 

@@ -4,9 +4,9 @@
     tools/threads.py [ROUNDS]             looks for races in so many rounds (2,000)
     tools/threads.py --plain [ROUNDS]     the same without atomic operations in the count of the source, where a race has to be found
 
-In a round, each thread reads the document `stdin` of `crates/test_shared` and splits it in two, which share its source. Then both threads edit
+In a round, each thread reads the document `shared.toml` of `crates/test_tools` and splits it in two, which share its source. Then both threads edit
 the two documents of each such pair at the same time, one document each, and drop them. In every other round they stop before the last edit.
-The functions are those of the program `test_shared`, which makes the same edits one after the other: where none is left out, a document has to
+The functions are those of the program `test_tools`, which makes the same edits one after the other: where none is left out, a document has to
 print as in its `stdout`. They are built unproved (`tools/unproved.py`). It wants gcc with Debian's package libtsan2, and `objcopy`.
 """
 import os
@@ -18,10 +18,10 @@ import tempfile
 import sources
 import unproved
 
-FOLDER = unproved.TOP + "/crates/test_shared"
+FOLDER = unproved.TOP + "/crates/test_tools"
 # The functions that are called from C.
 NAMES = {"toml_edit::document::DocumentMut::new": "start", "toml_edit::document::DocumentMut::drop": "end"}
-NAMES.update(("test_shared::" + name, name) for name in ("split", "edit", "prints"))
+NAMES.update(("test_tools::shared::" + name, name) for name in ("split", "edit", "prints"))
 CALLS = r"""
 #include <pthread.h>
 #include <stdbool.h>
@@ -115,12 +115,12 @@ def opened(text, plain):
 
 def build(folder, plain):
     """Builds the program of two threads in a folder."""
-    unproved.module("test_shared", folder + "/kept.bc")
+    unproved.module("test_tools", folder + "/kept.bc")
     clang = unproved.kit().KIT
     words = [clang + "/toolchain/bin/clang", "--target=" + unproved.TARGET, "--no-default-config", "-Wno-override-module", "-S", "-emit-llvm"]
     subprocess.run([*words, "-O0", "-Xclang", "-disable-llvm-passes", "-x", "ir", folder + "/kept.bc", "-o", folder + "/kept.ll"], check=True)
     text, size = opened(sources.read(folder + "/kept.ll"), plain)
-    edits = re.search(r"^const ROUNDS: usize = (\d+);", sources.read(FOLDER + "/src/main.rt"), re.M)[1]
+    edits = re.search(r"^const ROUNDS: usize = (\d+);", sources.read(FOLDER + "/src/shared.rt"), re.M)[1]
     for name, written in (("kept.ll", text), ("calls.c", CALLS)):
         with open("%s/%s" % (folder, name), "w", encoding="utf-8") as file:
             file.write(written)
@@ -142,11 +142,12 @@ def main():
         return print(__doc__.strip())
     rounds = words[0] if words else "2000"
     with tempfile.TemporaryDirectory() as folder:
-        texts = sources.read(FOLDER + "/stdout").split("---\n")
+        shown = re.search(r"^shared < .*\n((?:.*\n)*?)format < ", sources.read(FOLDER + "/stdout"), re.M)[1]
+        texts = shown.split("---\n")
         for name, text in zip(("first", "second"), texts, strict=True):
             with open("%s/%s" % (folder, name), "w", encoding="utf-8") as file:
                 file.write(text)
-        called = [build(folder, plain), FOLDER + "/stdin", folder + "/first", folder + "/second", rounds]
+        called = [build(folder, plain), FOLDER + "/data/shared.toml", folder + "/first", folder + "/second", rounds]
         ran = subprocess.run(called, capture_output=True, text=True, env=dict(os.environ, TSAN_OPTIONS="exitcode=%d halt_on_error=1" % FOUND))
     found = ran.returncode == FOUND and "WARNING: ThreadSanitizer: data race" in ran.stderr
     if plain and found:

@@ -3,11 +3,29 @@
 //! Reads a TOML document from standard input, and writes the document, the item at a path of keys,
 //! or the document with that item set or removed to standard output. With `exact` it keeps line
 //! endings, and a missing last newline; with `strict` it reads TOML 1.0. The crate
-//! `toml_edit_command` has the exit statuses.
+//! `toml_edit_command` has the exit statuses, and `test_runs` runs of each.
 #![tactic(auto)]
 
+use process_words::{WordsFault, words_of};
 use std::process::ExitCode;
+use toml_edit_command::{end_without_memory, run};
+use toml_edit_io::Watched;
 
 fn main(rt: HostRuntime) -> ExitCode {
-    tomled_main::run_process(rt)
+    let words = match words_of(&rt) {
+        Ok(words) => words,
+        // No command has such a word.
+        Err(WordsFault::NotUtf8(_)) => Vec::new(rt.alloc()),
+        Err(WordsFault::Memory) => {
+            return ExitCode::from(end_without_memory(&mut Watched::new(rt.stderr())));
+        }
+    };
+    let status = run(
+        rt.alloc(),
+        words.as_slice(),
+        &mut Watched::new(rt.stdin()),
+        &mut Watched::new(rt.stdout()),
+        &mut Watched::new(rt.stderr()),
+    );
+    ExitCode::from(status)
 }

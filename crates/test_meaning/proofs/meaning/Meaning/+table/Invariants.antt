@@ -1,5 +1,0 @@
--- Each call is a level lower.
-use Rattle.test_meaning.proofs.meaning.Meaning.+table.Given as goal
-
-abbrev pub decreases-table : goal.decreases-table
-decreases-table l = l.levels

@@ -1,5 +1,0 @@
--- Each call is a level lower.
-use Rattle.test_meaning.proofs.meaning.Meaning.+value.Given as goal
-
-abbrev pub decreases-value : goal.decreases-value
-decreases-value l = l.levels
