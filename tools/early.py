@@ -108,6 +108,12 @@ def stub(folder, crate, name, module):
             file.write(STUB.format(statement="Rattle.%s.proofs.%s%s" % (crate, name, module), name=name.rpartition(".")[2]))
 
 
+def left_out(folder, names):
+    """What a copy of a crate lacks: the answers, and what is no source. A file of `specs` may have the name of one with answers."""
+    answers = ("Answers.antt", "Invariants.antt") if "proofs" in folder.split("/") else ()
+    return [name for name in names if name in ("out", "wrong", *answers)]
+
+
 def stubs(crate, had):
     """Copies a crate with a hole as the proof of each function, unless the copy is there, and returns its folder."""
     made, stamp = crate.folder + "/out/stubs", crate.stamp()
@@ -115,7 +121,7 @@ def stubs(crate, had):
         return made
     names = [(name, ".Statement") for name in names_of(crate, had)] + [(name, "") for name in cycles_of(crate)]
     shutil.rmtree(made, ignore_errors=True)
-    shutil.copytree(crate.folder, made, ignore=shutil.ignore_patterns("out", "wrong", "Answers.antt", "Invariants.antt"))
+    shutil.copytree(crate.folder, made, ignore=left_out)
     for name, module in names:
         stub(made, crate.name, name, module)
     with open(made + "/stamp", "w", encoding="utf-8") as file:
