@@ -8,6 +8,7 @@ pub mod ListLaws
 pub mod MoveLaws
 pub mod OutcomeLaws
 pub mod PathLaws
+pub mod RemovesLaws
 pub mod RootLaws
 pub mod SameLaws
 pub mod ViewedSlots

@@ -39,13 +39,13 @@ only-is n c h = by_test (is_item n) refl h
     by_test false e h = absurd cc
 
 -- a slot that holds the item
-record Held (k : Text) (ss : List (Slot Node)) (c : Node) : Type 0 where
-  slot : Slot Node
-  there : lookup_slot k ss ≡ Some slot
-  holds : slot.item ≡ c
-  filled : is_item c ≡ true
+pub record Held (k : Text) (ss : List (Slot Node)) (c : Node) : Type 0 where
+  pub slot : Slot Node
+  pub there : lookup_slot k ss ≡ Some slot
+  pub holds : slot.item ≡ c
+  pub filled : is_item c ≡ true
 
-held : (k : Text) (ss : List (Slot Node)) (c : Node) → present (lookup_slot k ss) ≡ Some c → Held k ss c
+pub held : (k : Text) (ss : List (Slot Node)) (c : Node) → present (lookup_slot k ss) ≡ Some c → Held k ss c
 held k ss c h = by_slot (lookup_slot k ss) refl h
   where
     by_slot : (o : Option (Slot Node)) → lookup_slot k ss ≡ o → present o ≡ Some c → Held k ss c
@@ -55,11 +55,11 @@ held k ss c h = by_slot (lookup_slot k ss) refl h
         record { slot = s; there = e; holds = p.0; filled = p.1 }
 
 -- an element that is it
-record Element (is : Node → Bool) (k : Text) (ns : List Node) (c : Node) : Type 0 where
-  at : ℕ
-  there : element_of is k ns ≡ Some (at, c)
+pub record Element (is : Node → Bool) (k : Text) (ns : List Node) (c : Node) : Type 0 where
+  pub at : ℕ
+  pub there : element_of is k ns ≡ Some (at, c)
 
-element : (is : Node → Bool) (k : Text) (ns : List Node) (c : Node) → second (element_of is k ns) ≡ Some c → Element is k ns c
+pub element : (is : Node → Bool) (k : Text) (ns : List Node) (c : Node) → second (element_of is k ns) ≡ Some c → Element is k ns c
 element is k ns c h = by_element (element_of is k ns) refl h
   where
     by_element : (o : Option (ℕ × Node)) → element_of is k ns ≡ o → second o ≡ Some c → Element is k ns c
@@ -268,7 +268,7 @@ begins [] q = true
 begins (j ∷ p) [] = false
 begins (j ∷ p) (k ∷ q) = if same_text j k then begins p q else false
 
-kind-below : (path : List Text) (m n n' y : Node) → OneKind y m → item_below path n ≡ Some y → replaced_below path m n ≡ done n' → OneKind n n'
+pub kind-below : (path : List Text) (m n n' y : Node) → OneKind y m → item_below path n ≡ Some y → replaced_below path m n ≡ done n' → OneKind n n'
 kind-below [] m n n' y kind h g =
     subst (λ x. OneKind x n') (sym (some-is n y h)) (subst (OneKind y) (done-is m n' g) kind)
 kind-below (k ∷ path) m n n' y kind h g = kind-stays (new_key k) (replaced_below path m) n n' g

@@ -8,6 +8,7 @@ pub mod FirstTable
 pub mod Slots
 pub mod Lists
 pub mod Along
+pub mod Removes
 pub mod LinesStay
 pub mod OthersStay
 -- Worked examples: nothing cites them.

@@ -51,6 +51,11 @@ Applies es old new (Err f) =
     (e : Edit) × (slice_get es f.at ≡ Some e) × (applied (take f.at es) old ≡ Ok new)
     × ((f.fault ≡ Memory) ⊎ (effect e new ≡ Err f.fault))
 
+-- the first edit is refused for this reason, and nothing changes
+abbrev pub RefusesFirst : List Edit → Tree → Tree → EditFault → Type 0
+RefusesFirst es old new f =
+    (e : Edit) × (slice_get es 0 ≡ Some e) × (new ≡ old) × ((f ≡ Memory) ⊎ (effect e old ≡ Err f))
+
 -- the edits that were made: all, or those before the one that is refused
 abbrev pub made_of : List Edit → Result (Unit {0}) ScriptFault → List Edit
 made_of es (Ok u) = es

@@ -11,6 +11,7 @@ mod keys;
 pub mod laws;
 mod missing;
 mod moves;
+mod removes;
 mod same;
 mod script;
 

@@ -1,11 +1,11 @@
 //! Making edits.
-ghost use Rattle.std.specs.Prelude.{[], ◌∷◌, OnOk};
+ghost use Rattle.std.specs.Prelude.{◌≡◌, ◌<◌, ◌≤◌, [], ◌∷◌, length, take, Ok, IfErr, IfOk, OnOk};
 ghost use Rattle.toml_edit_model.specs.Mode.{Mode};
 ghost use Rattle.toml_edit_tree.specs.View.{value_view};
 ghost use Rattle.toml_edit.specs.DocumentView.{IsPrintedAs, tree_owned};
 ghost use Rattle.toml_edit_model.specs.Keys.{names};
 ghost use Rattle.toml_edit_script.specs.Effects as effects;
-ghost use Rattle.toml_edit_script.specs.Lists.{Applies, effect, made_of};
+ghost use Rattle.toml_edit_script.specs.Lists.{Applies, RefusesFirst, applied, effect, made_of};
 ghost use Rattle.toml_edit_script.specs.OthersStay.{OthersStay};
 ghost use Rattle.toml_edit_script.specs.Outcomes.{Makes};
 
@@ -17,6 +17,7 @@ use crate::keys::{comment, rename, sort};
 use crate::laws::others_stay;
 use crate::missing::{is_numbered, keys_there};
 use crate::moves::relocate;
+use crate::removes::remove_first;
 use std::alloc::Global;
 use toml_edit::{DocumentMut, Key, Value};
 
@@ -46,12 +47,34 @@ fn make_all(alloc: Global, document: &mut DocumentMut, edits: &[Edit]) -> Result
     ensures applies { Applies edits.now (tree_owned document.old) (tree_owned document.new) result }
     ensures printed { IsPrintedAs document.new document.old }
 {
-    for at in 0..edits.len() {
-        if let Err(fault) = make(alloc, document, &edits[at]) {
-            return Err(ScriptFault { at, fault });
+    let mut at = 0;
+    'edits: while at < edits.len() {
+        match make_next(alloc, document, &edits[at..]) {
+            Ok(made) => at += made,
+            Err(fault) => return Err(ScriptFault { at, fault }),
         }
     }
     Ok(())
+}
+
+/// Makes the first edit, or at once the removes at the front that are from one table. Returns how many
+/// edits were made.
+fn make_next(alloc: Global, document: &mut DocumentMut, edits: &[Edit]) -> Result<usize, EditFault>
+    requires { 0 < length edits.now }
+    ensures some { IfOk result (λ made. 0 < made) }
+    ensures within { IfOk result (λ made. made ≤ length edits.now) }
+    ensures applied { IfOk result (λ made. applied (take made edits.now) (tree_owned document.old)
+        ≡ Ok (tree_owned document.new)) }
+    ensures refuses { IfErr result (λ fault. RefusesFirst edits.now (tree_owned document.old)
+        (tree_owned document.new) fault) }
+    ensures printed { IsPrintedAs document.new document.old }
+{
+    let made = remove_first(alloc, document, edits);
+    if made > 0 {
+        return Ok(made);
+    }
+    make(alloc, document, &edits[0])?;
+    Ok(1)
 }
 
 /// Makes one edit in the document. [`apply`] says what a later one finds in it.

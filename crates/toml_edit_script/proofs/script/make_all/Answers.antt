@@ -1,30 +1,43 @@
--- One edit more, or the first that is refused.
-use Rattle.std.proofs.Common.{◌≡◌, ◌∙◌, ap, length, refl, subst, sym}
-use Rattle.std.proofs.lemmas.Option.{slice_get_read}
+-- Some edits more, or the first that is refused.
+use Rattle.std.proofs.Common.{◌≡◌, ◌∙◌, ◌+◌, ◌≤◌, Some, ap, arith, drop, length, length-drop, refl, slice_get, subst, sym, take}
+use Rattle.std.proofs.lemmas.List.{take_all}
 use Rattle.std.specs.Prelude.{◌⊎◌, Ok, Err}
 use Rattle.toml_edit.specs.DocumentView.{tree_owned}
-use Rattle.toml_edit_script.specs.Lists.{effect}
+use Rattle.toml_edit_script.specs.Lists.{applied, effect}
 use Rattle.toml_edit_script.specs.declared.fault.EditFault.TheVariants.{Memory}
-use Rattle.toml_edit_script.proofs.ListLaws.{one-applied, take-more}
+use Rattle.toml_edit_script.proofs.ListLaws.{all-after, get-after, more-applied, take-none}
 use Rattle.toml_edit_script.proofs.script.make_all.Goals as goal
+
+pub edits-init : goal.edits-init
+edits-init c =
+    (omega arith, ap (λ es. applied es (tree_owned c.args.document.now)) (take-none c.args.edits.now), (refl, refl))
+
+pub edits-preserved : goal.edits-preserved
+edits-preserved c =
+    let es = c.args.edits.now in
+    let at = c.edits.at in
+    let made = c.in-Ok.made in
+    let rest = all-after es at in
+    let within : made ≤ length (drop at es) = subst (λ xs. made ≤ length xs) rest c.in-Ok.ensures.within in
+    let printed = c.in-Ok.ensures.printed in (
+      omega (arith, within, length-drop at es),
+      more-applied es at made (tree_owned c.args.document.now) (tree_owned c.edits.document) (tree_owned c.make_next.new.document)
+          c.edits.invariant.1
+          (subst (λ xs. applied (take made xs) (tree_owned c.edits.document) ≡ Ok (tree_owned c.make_next.new.document)) rest c.in-Ok.ensures.applied),
+      (printed.0 ∙ c.edits.invariant.2.0, printed.1 ∙ c.edits.invariant.2.1),
+    )
 
 pub returns-in-Err-clause-applies : goal.returns-in-Err-clause-applies
 returns-in-Err-clause-applies c =
     let es = c.args.edits.now in
-    let e = c.index-edits-at.result in
-    let makes = c.in-Err.ensures.makes in (
-      e,
-      slice_get_read es (length es) c.loop-at.at e refl c.loop-at-test.true c.index-edits-at.is,
-      c.loop-at.invariant.0 ∙ ap (λ x. Ok x) (sym makes.1),
-      subst (λ x. (c.in-Err.fault ≡ Memory) ⊎ (effect e x ≡ Err c.in-Err.fault)) (sym makes.1) makes.0,
+    let r = c.in-Err.ensures.refuses in (
+      r.0,
+      sym (get-after es c.edits.at) ∙ subst (λ xs. slice_get xs 0 ≡ Some r.0) (all-after es c.edits.at) r.1,
+      c.edits.invariant.1 ∙ ap (λ x. Ok x) (sym r.2),
+      subst (λ x. (c.in-Err.fault ≡ Memory) ⊎ (effect r.0 x ≡ Err c.in-Err.fault)) (sym r.2) r.3,
     )
 
-pub loop-at-preserved : goal.loop-at-preserved
-loop-at-preserved c =
+pub returns-clause-applies : goal.returns-clause-applies
+returns-clause-applies c =
     let es = c.args.edits.now in
-    let e = c.index-edits-at.result in
-    let printed = c.in_default.ensures.printed in (
-      one-applied es c.loop-at.at e (tree_owned c.args.document.now) (tree_owned c.loop-at.document) (tree_owned c.make.new.document)
-          (take-more es c.loop-at.at e c.loop-at-test.true c.index-edits-at.is) c.loop-at.invariant.0 c.in_default.ensures.makes,
-      (printed.0 ∙ c.loop-at.invariant.1.0, printed.1 ∙ c.loop-at.invariant.1.1),
-    )
+    ap (λ xs. applied xs (tree_owned c.args.document.now)) (sym (take_all c.edits.at es c.edits-test.false)) ∙ c.edits.invariant.1
