@@ -1,13 +1,18 @@
 //! Equality, order and hash, each at a concrete type. A copy equals what it copies, and has its
 //! hash.
-use crate::hash_of;
 use std::alloc::Global;
 use std::cmp::Ordering;
-use std::hash::Hash;
+use std::hash::{DefaultHasher, Hash, Hasher};
 use toml_edit::{
     Datetime, Decor, FloatText, Formatted, FromStr, Key, Mem, ParseFault, ParsePath, RawString,
     Repr, TomlError, Value, ValueRepr,
 };
+
+fn hash_of<T: Hash>(value: &T) -> u64 {
+    let mut state = DefaultHasher::new();
+    value.hash(&mut state);
+    state.finish()
+}
 
 fn are_alike<T: Hash + Eq>(one: &T, other: &T) -> bool {
     one == other && hash_of(one) == hash_of(other)

@@ -1,5 +1,7 @@
 //! Tests of what no row of `test_rows` can say: equality, order and hash, `Display`, owned texts,
-//! and calls on large tables.
+//! calls on large tables, and programs that use the library: the functions of the guide, the jobs
+//! of tools for manifests, whole programs, the first examples of the Rust crate's documentation, and
+//! prints and runs over streams that take little at a time or fail.
 //!
 //! Each test fails if calls do nothing. Functions that are generic in a type own what is made, and
 //! are proved once: a test passes it to them.
@@ -11,7 +13,18 @@ mod comparisons;
 mod crowd;
 #[cfg(test)]
 mod displays;
-pub mod holding;
+#[cfg(test)]
+mod edits;
+#[cfg(test)]
+mod examples;
+#[cfg(test)]
+mod generic;
+#[cfg(test)]
+mod guide;
+#[cfg(test)]
+mod holding;
+#[cfg(test)]
+mod jobs;
 #[cfg(test)]
 mod labelled;
 #[cfg(test)]
@@ -19,17 +32,24 @@ mod makers;
 #[cfg(test)]
 mod mixed;
 #[cfg(test)]
+mod paths;
+#[cfg(test)]
+mod prints;
+#[cfg(test)]
+mod programs;
+#[cfg(test)]
+mod recipes;
+#[cfg(test)]
+mod runs;
+#[cfg(test)]
 mod slots;
 #[cfg(test)]
 mod spans;
 #[cfg(test)]
+mod streams;
+#[cfg(test)]
+mod tasks;
+#[cfg(test)]
 mod texts;
-
-use std::hash::{DefaultHasher, Hash, Hasher};
-
-/// Returns the hash of a value.
-pub fn hash_of<T: Hash>(value: &T) -> u64 {
-    let mut state = DefaultHasher::new();
-    value.hash(&mut state);
-    state.finish()
-}
+#[cfg(test)]
+mod threads;

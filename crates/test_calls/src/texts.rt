@@ -4,7 +4,7 @@ use std::fmt::Debug;
 use std::marker::{Send, Sync};
 use toml_edit_text::{PackedText, SharedText};
 
-const TEXTS: [&str; 4] = [
+const TEXTS: &[&str] = &[
     "",
     "a",
     "key = \"schlüssel\"",

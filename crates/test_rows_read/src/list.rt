@@ -1,6 +1,6 @@
 //! Questions on arrays and inline tables, and steps that change their decor.
 use crate::answer::Answer;
-use crate::steps::{behind, index, word};
+use crate::steps::{behind, index, is_true, word};
 use crate::tell::tell_found;
 use crate::{key, lines, steps, value};
 use serde_json::Value as Json;
@@ -147,7 +147,7 @@ pub fn change_array(array: &mut Array, words: &[Json], out: &mut Answer) {
                 array.set_trailing(raw);
             }
         }
-        "set_trailing_comma" => array.set_trailing_comma(word(words, 1) == "true"),
+        "set_trailing_comma" => array.set_trailing_comma(is_true(words)),
         call => out.no_such(call),
     }
 }
@@ -161,8 +161,8 @@ pub fn change_inline(table: &mut InlineTable, words: &[Json], out: &mut Answer) 
                 table.set_trailing(raw);
             }
         }
-        "set_trailing_comma" => table.set_trailing_comma(word(words, 1) == "true"),
-        "set_dotted" => table.set_dotted(word(words, 1) == "true"),
+        "set_trailing_comma" => table.set_trailing_comma(is_true(words)),
+        "set_dotted" => table.set_dotted(is_true(words)),
         call => out.no_such(call),
     }
 }

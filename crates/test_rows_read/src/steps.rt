@@ -148,6 +148,11 @@ pub fn word(words: &[Json], at: usize) -> &str {
     row::text_of(words.get(at))
 }
 
+/// Returns `true` if the second word says so.
+pub fn is_true(words: &[Json]) -> bool {
+    word(words, 1) == "true"
+}
+
 /// Returns the place that the second word is, or one that no list reaches.
 pub fn index(words: &[Json]) -> usize {
     word(words, 1).parse::<usize>().unwrap_or(usize::MAX)

@@ -2,7 +2,7 @@
 use crate::program::Tables;
 use crate::{at, indexing, misfit, table};
 use serde_json::Value as Json;
-use test_rows_read::steps::{Asks, Tries, behind, copied, word};
+use test_rows_read::steps::{Asks, Tries, behind, copied, is_true, word};
 use test_rows_read::{Answer, Row, lines, prints, refusal, steps};
 use toml_edit::{
     Document, DocumentMut, Item, Mem, ParseFault, ParseOptions, RawString, SourceText, Table,
@@ -157,11 +157,6 @@ fn ask(document: &DocumentMut, words: &[Json], out: &mut Answer) {
         "first_misfit" => misfit::tell(document.first_misfit(out.alloc), out),
         _ => table::ask(document.as_table(), words, out),
     }
-}
-
-/// Returns `true` if the second word says so.
-fn is_true(words: &[Json]) -> bool {
-    word(words, 1) == "true"
 }
 
 /// Puts a copy of an item into a new document, under the key that the first word is, and answers a

@@ -2,7 +2,7 @@
 use crate::program::Tables;
 use crate::{convert, document, indexing, item, slots, tables};
 use serde_json::Value as Json;
-use test_rows_read::steps::{Asks, Tries, behind, copied, word};
+use test_rows_read::steps::{Asks, Tries, behind, copied, is_true, word};
 use test_rows_read::{Answer, Row, array, key, lines, make, refusal, steps, value};
 use toml_edit::{ArrayOfTables, FromStr, Item, Table, Value};
 
@@ -244,8 +244,8 @@ pub fn change(table: &mut Table, words: &[Json], out: &mut Answer) {
 
 fn change_here(table: &mut Table, words: &[Json], out: &mut Answer) {
     match word(words, 0) {
-        "set_implicit" => table.set_implicit(word(words, 1) == "true"),
-        "set_dotted" => table.set_dotted(word(words, 1) == "true"),
+        "set_implicit" => table.set_implicit(is_true(words)),
+        "set_dotted" => table.set_dotted(is_true(words)),
         "set_position" => table.set_position(word(words, 1).parse::<isize>().ok()),
         "forget_positions" => table.forget_positions(),
         "decor_mut" => value::change_decor(table.decor_mut(), behind(words, 1), out),

@@ -2,35 +2,48 @@
 //! gives, so that `tools/stack.py` can measure the stack.
 #![tactic(auto)]
 
-use anyhow::{Result, bail};
+use anyhow::{Result, ensure};
 use std::alloc::Global;
 use std::fmt::Write;
 use std::{env, io};
 use toml_edit::visit::{Path, Visit, visit_table};
-use toml_edit::{Document, DocumentMut, Item};
+use toml_edit::{Document, DocumentMut, Item, Mem};
 use toml_edit_fmt::{Indentation, Rules, format};
 use toml_edit_script::same_value;
 
-/// Makes a call that takes the document or asks it.
-fn ask(alloc: Global, word: &str, document: DocumentMut) -> Result<()> {
+/// Drops what a call gave.
+fn gave<T: Drop>(given: Mem<T>) -> Mem<bool> {
+    drop(given?);
+    Ok(true)
+}
+
+/// Tells that a call was made.
+fn done(made: Mem<()>) -> Mem<bool> {
+    made?;
+    Ok(true)
+}
+
+/// Makes a call that asks the document. Returns `false` if there is no such call.
+fn ask(alloc: Global, word: &str, document: &DocumentMut) -> Mem<bool> {
     match word {
-        "clone" => drop(document.clone(alloc)?),
-        "debug" => drop(format!(in alloc; "{document:?}")?),
-        "print" => drop(document.print(alloc)?),
-        "fits" => drop(document.fits(alloc)?),
-        "first_misfit" => drop(document.first_misfit(alloc)?),
-        "get_values" => drop(document.as_table().get_values(alloc)?),
-        "into_inline_table" => drop(document.into_table().into_inline_table()),
-        "into_item" => drop(document.into_item()),
-        "format" => drop(format(alloc, document, &all_rules())?),
-        "visit" => drop(visit(alloc, &document)),
-        "same" => {
-            let copy = document.clone(alloc)?;
-            drop(are_same(&document, &copy));
-        }
-        _ => bail!("no such call"),
+        "clone" => gave(document.clone(alloc)),
+        "debug" => gave(format!(in alloc; "{document:?}")),
+        "print" => gave(document.print(alloc)),
+        "display" => display(alloc, document.as_table().get("a")),
+        "fits" => gave(document.fits(alloc)),
+        "first_misfit" => gave(document.first_misfit(alloc)),
+        "get_values" => gave(document.as_table().get_values(alloc)),
+        "visit" => gave(Ok(visit(alloc, document))),
+        "same" => same(document, document.clone(alloc)),
+        _ => Ok(false),
     }
-    Ok(())
+}
+
+fn display(alloc: Global, item: Option<&Item>) -> Mem<bool> {
+    match item {
+        Some(item) => gave(format!(in alloc; "{item}")),
+        None => Ok(true),
+    }
 }
 
 /// Returns rules that ask for all that there is.
@@ -63,6 +76,11 @@ fn visit(alloc: Global, document: &DocumentMut) -> bool {
     visit_table(&mut integers, document.as_table())
 }
 
+/// Compares the first items, as values.
+fn same(document: &DocumentMut, copy: Mem<DocumentMut>) -> Mem<bool> {
+    gave(Ok(are_same(document, &copy?)))
+}
+
 /// Returns whether the first items are equal, as values.
 fn are_same(document: &DocumentMut, copy: &DocumentMut) -> bool {
     match (document.as_table().get("a"), copy.as_table().get("a")) {
@@ -72,29 +90,45 @@ fn are_same(document: &DocumentMut, copy: &DocumentMut) -> bool {
 }
 
 /// Makes a call that changes the document, or one that asks it.
-fn change(alloc: Global, word: &str, mut document: DocumentMut) -> Result<()> {
+fn change(alloc: Global, word: &str, document: &mut DocumentMut) -> Mem<bool> {
+    let root = document.as_table_mut();
     match word {
-        "sort_values" => document.as_table_mut().sort_values()?,
-        "fmt" => document.as_table_mut().fmt(),
-        "forget_positions" => document.as_table_mut().forget_positions(),
-        "display" => {
-            if let Some(item) = document.as_table().get("a") {
-                drop(format!(in alloc; "{item}")?);
-            }
-        }
-        "detach" => {
-            if let Some(mut item) = document.as_table_mut().remove("a") {
-                item.detach(alloc)?;
-            }
-        }
-        "make_value" => {
-            if let Some(item) = document.as_table_mut().get_mut("a") {
-                item.make_value();
-            }
-        }
-        _ => return ask(alloc, word, document),
+        "sort_values" => done(root.sort_values()),
+        "fmt" => done(Ok(root.fmt())),
+        "forget_positions" => done(Ok(root.forget_positions())),
+        "detach" => detach(alloc, root.remove("a")),
+        "make_value" => make_value(root.get_mut("a")),
+        _ => ask(alloc, word, document),
     }
-    Ok(())
+}
+
+fn detach(alloc: Global, item: Option<Item>) -> Mem<bool> {
+    match item {
+        Some(mut item) => done(item.detach(alloc)),
+        None => Ok(true),
+    }
+}
+
+fn make_value(item: Option<&mut Item>) -> Mem<bool> {
+    if let Some(item) = item {
+        item.make_value();
+    }
+    Ok(true)
+}
+
+/// Makes a call that takes the document, or one that only lends it.
+fn take(alloc: Global, word: &str, mut document: DocumentMut) -> Mem<bool> {
+    match word {
+        "into_inline_table" => gave(Ok(document.into_table().into_inline_table())),
+        "into_item" => gave(Ok(document.into_item())),
+        "format" => gave(format(alloc, document, &all_rules())),
+        _ => change(alloc, word, &mut document),
+    }
+}
+
+/// Makes the call of this name on the document, if it is one.
+fn call(alloc: Global, word: &str, document: Mem<DocumentMut>) -> Mem<bool> {
+    take(alloc, word, document?)
 }
 
 fn main(rt: HostRuntime) -> Result<()> {
@@ -103,11 +137,12 @@ fn main(rt: HostRuntime) -> Result<()> {
         word = next;
     }
     let text = io::read_to_string(rt.alloc(), rt.stdin())?;
+    let document = Document::parse(rt.alloc(), text)?;
     if word.as_str() == "parse" {
-        let document = Document::parse(rt.alloc(), text)?;
         drop(document);
         return Ok(());
     }
-    let document = Document::parse(rt.alloc(), text)?.into_mut(rt.alloc())?;
-    change(rt.alloc(), word.as_str(), document)
+    let is_call = call(rt.alloc(), word.as_str(), document.into_mut(rt.alloc()))?;
+    ensure!(is_call, "no such call");
+    Ok(())
 }

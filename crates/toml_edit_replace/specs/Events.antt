@@ -13,7 +13,7 @@ pub data Call : Type 0 where
   locked : Text → Call
   -- the file of this name is not read-only
   writable : Text → Call
-  -- the new files beside the file of this name go that were left by runs which have ended
+  -- the new files that ended runs have left beside the file of this name are removed
   cleared : Text → Call
   -- a file is made, of a name that none had
   made : Text → Call

@@ -1,15 +1,15 @@
 //! Each job of tools for manifests, on documents whose texts before and after are written by hand.
 use crate::guide::{array_mut, done};
-use crate::paths::path;
+use crate::holding::is_text;
+use crate::paths::{path, sets};
 use std::alloc::{AllocError, Global};
-use test_calls::holding::is_text;
 use toml_edit::{Document, DocumentMut, Item, Mem, ParseFault, RawString, Table, Value};
 use toml_edit_recipes::add::add_sorted;
 use toml_edit_recipes::comments::{comment_of, explain};
 use toml_edit_recipes::convert::give_header;
 use toml_edit_recipes::lines::append;
 use toml_edit_recipes::lint::{empty_strings, misfit};
-use toml_edit_recipes::paths::{configure, set_string_at};
+use toml_edit_recipes::paths::configure;
 use toml_edit_recipes::relocate::move_table;
 use toml_edit_recipes::rename::rename;
 
@@ -19,10 +19,8 @@ pub fn table_mut<'a>(root: &'a mut Table, key: &str) -> Option<&'a mut Table> {
 }
 
 fn bump(alloc: Global, document: &mut DocumentMut) -> Mem<()> {
-    let version = path(alloc, "package.version")?;
-    let below = path(alloc, "package.version.x")?;
-    let is_set = set_string_at(alloc, document, &version, "2.0")?;
-    let is_below = set_string_at(alloc, document, &below, "2.0")?;
+    let is_set = sets(alloc, document, "package.version", "2.0")?;
+    let is_below = sets(alloc, document, "package.version.x", "2.0")?;
     done(is_set && !is_below)
 }
 
@@ -57,8 +55,7 @@ fn give_headers(alloc: Global, root: &mut Table) -> Mem<()> {
 }
 
 fn configure_tool(alloc: Global, document: &mut DocumentMut) -> Mem<()> {
-    let path = path(alloc, "tool.x.y")?;
-    done(configure(document, &path, Value::from(1)).is_ok())
+    done(configure(document, &path(alloc, "tool.x.y")?, Value::from(1)).is_ok())
 }
 
 fn explain_port(alloc: Global, root: &mut Table) -> Mem<()> {

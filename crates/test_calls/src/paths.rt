@@ -1,6 +1,7 @@
 //! Calls that only this library has, on documents whose texts before and after are written by hand.
+use crate::holding::is_text;
+use crate::spans::is_done;
 use std::alloc::{AllocError, Global};
-use test_calls::holding::is_text;
 use toml_edit::{DocumentMut, Item, Key, Mem, ParsePath, Value};
 use toml_edit_recipes::paths::{set_string_at, string_at};
 
@@ -15,23 +16,32 @@ pub fn path(alloc: Global, text: &str) -> Mem<Vec<Key>> {
     }
 }
 
+/// Sets a string at a path. Returns `false` if it cannot go there.
+pub fn sets(alloc: Global, document: &mut DocumentMut, at: &str, text: &str) -> Mem<bool> {
+    set_string_at(alloc, document, &path(alloc, at)?, text)
+}
+
+/// Returns `true` if this is the string at a path.
+fn is_string(alloc: Global, document: &DocumentMut, at: &str, wanted: Option<&str>) -> Mem<bool> {
+    Ok(string_at(document, &path(alloc, at)?) == wanted)
+}
+
+/// Removes what is at a path. Returns `false` if nothing is.
+fn removes(alloc: Global, document: &mut DocumentMut, at: &str) -> Mem<bool> {
+    Ok(document.remove_at(&path(alloc, at)?).is_ok())
+}
+
 /// Returns `true` if a string is replaced, one is added, and one is refused below a missing element
 /// and in the place of a table.
-fn sets_strings(alloc: Global, document: &mut DocumentMut) -> Mem<bool> {
-    let version = path(alloc, "package.version")?;
-    let name = path(alloc, "bin.1.name")?;
-    let missing = path(alloc, "bin.2.name")?;
-    let table = path(alloc, "package")?;
-    Ok(
-        set_string_at(alloc, document, &version, "2.0")?
-            && set_string_at(alloc, document, &name, "b")?
-            && !set_string_at(alloc, document, &missing, "c")?
-            && !set_string_at(alloc, document, &table, "d")?
-            && string_at(document, &version) == Some("2.0")
-            && string_at(document, &missing).is_none()
-            && document.remove_at(&table).is_ok()
-            && document.remove_at(&table).is_err(),
-    )
+fn sets_strings(alloc: Global, document: &mut DocumentMut) -> bool {
+    is_done(sets(alloc, document, "package.version", "2.0"))
+        && is_done(sets(alloc, document, "bin.1.name", "b"))
+        && matches!(sets(alloc, document, "bin.2.name", "c"), Ok(false))
+        && matches!(sets(alloc, document, "package", "d"), Ok(false))
+        && is_done(is_string(alloc, document, "package.version", Some("2.0")))
+        && is_done(is_string(alloc, document, "bin.2.name", None))
+        && is_done(removes(alloc, document, "package"))
+        && matches!(removes(alloc, document, "package"), Ok(false))
 }
 
 const BINARIES: &str = "[package]\nversion = '1.0' # kept\n\n[[bin]]\nname = 'a' # a\n\n[[bin]]\n";
@@ -41,7 +51,7 @@ fn sets_and_removes_at_paths(rt: HostRuntime) {
     let wanted = "\n[[bin]]\nname = 'a' # a\n\n[[bin]]\nname = \"b\"\n";
     match DocumentMut::from_str(rt.alloc(), BINARIES) {
         Ok(mut document) => {
-            assert!(rt; matches!(sets_strings(rt.alloc(), &mut document), Ok(true)));
+            assert!(rt; sets_strings(rt.alloc(), &mut document));
             assert!(rt; is_text(document.print(rt.alloc()), wanted));
         }
         Err(_) => assert!(rt; false),
@@ -86,25 +96,22 @@ fn replaces_under_a_comment(rt: HostRuntime) {
     }
 }
 
-/// Returns `true` if lines and tables with headers are set, and a value below a scalar is refused.
-fn sets_with_headers(alloc: Global, document: &mut DocumentMut) -> Mem<bool> {
-    let line = path(alloc, "a.c")?;
-    let table = path(alloc, "a.e.f.g")?;
-    let below = path(alloc, "a.b.x.y")?;
-    let tool = path(alloc, "tool.x.y")?;
+/// Sets a value at a path, with headers above it. Returns `false` if it cannot go there.
+pub fn puts(alloc: Global, document: &mut DocumentMut, at: &str, value: Value) -> Mem<bool> {
     Ok(
         document
-            .set_at_with_headers(&line, Value::from(2024))
-            .is_ok()
-            && document
-                .set_at_with_headers(&table, Value::from(true))
-                .is_ok()
-            && document
-                .set_at_with_headers(&below, Value::from(3))
-                .is_err()
-            && document.set_at_with_headers(&tool, Value::from(1)).is_ok()
-            && document.set_at_with_headers(&tool, Value::from(2)).is_ok(),
+            .set_at_with_headers(&path(alloc, at)?, value)
+            .is_ok(),
     )
+}
+
+/// Returns `true` if lines and tables with headers are set, and a value below a scalar is refused.
+fn sets_with_headers(alloc: Global, document: &mut DocumentMut) -> bool {
+    is_done(puts(alloc, document, "a.c", Value::from(2024)))
+        && is_done(puts(alloc, document, "a.e.f.g", Value::from(true)))
+        && matches!(puts(alloc, document, "a.b.x.y", Value::from(3)), Ok(false))
+        && is_done(puts(alloc, document, "tool.x.y", Value::from(1)))
+        && is_done(puts(alloc, document, "tool.x.y", Value::from(2)))
 }
 
 #[test]
@@ -113,7 +120,7 @@ fn makes_headers(rt: HostRuntime) {
     let wanted = "[a]\nb = '1.0'\nc = 2024\n\n[a.e.f]\ng = true\n\n[d]\n\n[tool.x]\ny = 2\n";
     match DocumentMut::from_str(rt.alloc(), text) {
         Ok(mut document) => {
-            assert!(rt; matches!(sets_with_headers(rt.alloc(), &mut document), Ok(true)));
+            assert!(rt; sets_with_headers(rt.alloc(), &mut document));
             assert!(rt; is_text(document.print(rt.alloc()), wanted));
         }
         Err(_) => assert!(rt; false),
@@ -130,17 +137,17 @@ fn raise(item: &mut Item) -> Option<i64> {
     Some(old)
 }
 
+/// Adds one to the integer at a path, and returns the old one.
+fn raises(alloc: Global, document: &mut DocumentMut, at: &str) -> Mem<Option<Option<i64>>> {
+    Ok(document.change_at(&path(alloc, at)?, |item| raise(item)))
+}
+
 /// Returns `true` if one item is changed, and others are not found.
-fn changes_items(alloc: Global, document: &mut DocumentMut) -> Mem<bool> {
-    let there = path(alloc, "a.1.b")?;
-    let text = path(alloc, "c")?;
-    let missing = path(alloc, "a.2.b")?;
-    Ok(
-        document.change_at(&there, |item| raise(item)) == Some(Some(7))
-            && document.change_at(&text, |item| raise(item)) == Some(None)
-            && document.change_at(&missing, |item| raise(item)).is_none()
-            && document.change_at(&[], |item| raise(item)).is_none(),
-    )
+fn changes_items(alloc: Global, document: &mut DocumentMut) -> bool {
+    matches!(raises(alloc, document, "a.1.b"), Ok(Some(Some(7))))
+        && matches!(raises(alloc, document, "c"), Ok(Some(None)))
+        && matches!(raises(alloc, document, "a.2.b"), Ok(None))
+        && document.change_at(&[], |item| raise(item)).is_none()
 }
 
 #[test]
@@ -148,7 +155,7 @@ fn changes_at_paths(rt: HostRuntime) {
     let text = "a = [1, { b = 7 }] # a\nc = ''\n";
     match DocumentMut::from_str(rt.alloc(), text) {
         Ok(mut document) => {
-            assert!(rt; matches!(changes_items(rt.alloc(), &mut document), Ok(true)));
+            assert!(rt; changes_items(rt.alloc(), &mut document));
             assert!(rt;
                 is_text(
                     document.print(rt.alloc()),

@@ -1,8 +1,8 @@
 //! The functions of the guide on dates, spellings, lists, entries, and tables of either kind.
 use crate::guide::{array_mut, done};
+use crate::holding::is_text;
 use crate::streams::Short;
 use std::alloc::{AllocError, Global};
-use test_calls::holding::is_text;
 use toml_edit::{
     Array, DocumentMut, Entry, InlineEntry, InlineTable, Item, Mem, ParseFault, Table, Value,
     Watched,

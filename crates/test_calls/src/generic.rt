@@ -5,9 +5,9 @@ ghost use Rattle.toml_edit.specs.model.Scalars.{boolean};
 ghost use Rattle.toml_edit.specs.tree.View.{value_view};
 
 use crate::guide::done;
+use crate::holding::is_text;
 use crate::streams::{Drip, Short};
 use std::alloc::{AllocError, Global};
-use test_calls::holding::is_text;
 use toml_edit::{
     Document, DocumentMut, Item, Mem, Printed, Sink, Table, TableLike, Value, Watched,
 };

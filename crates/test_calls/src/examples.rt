@@ -1,8 +1,8 @@
 //! The first example of each type in the documentation of the Rust crate, with the changes that
 //! `docs/MIGRATING.md` lists.
+use crate::holding::{holds_changed, is_text, no_memory};
 use std::alloc::Global;
 use std::mem;
-use test_calls::holding::{holds_changed, is_text, no_memory};
 use toml_edit::{
     Array, Document, DocumentMut, FromStr, IndexFault, InlineTable, Item, Key, Mem, Table, Value,
     value,

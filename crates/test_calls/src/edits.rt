@@ -1,20 +1,9 @@
 //! The guide's edits by paths, on texts that are written by hand.
 use crate::guide::{is_edited, is_missing, is_present, is_refused};
-use std::alloc::{AllocError, Global};
-use toml_edit::{Key, Mem, ParsePath};
+use crate::paths::path;
+use std::alloc::Global;
 use toml_edit_guide::edits::{release, set_two};
 use toml_edit_guide::fault::EditFault;
-
-/// Returns the path that the text spells.
-fn path(alloc: Global, text: &str) -> Mem<Vec<Key>> {
-    match Key::parse(alloc, text) {
-        Ok(path) => Ok(path),
-        Err(fault) => {
-            drop(fault);
-            Err(AllocError)
-        }
-    }
-}
 
 const PACKAGE: &str =
     "# a crate\n[package]\nname = 'x'  # its name\nversion  = '0.1.0' # the first\nold.way = 1 # gone\n\n[[bin]]\n# the program\nname = 'b'\n";

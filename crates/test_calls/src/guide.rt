@@ -1,6 +1,6 @@
 //! Each function of the guide, on documents whose texts before and after are written by hand.
+use crate::holding::is_text;
 use std::alloc::{AllocError, Global};
-use test_calls::holding::is_text;
 use toml_edit::{Array, Document, DocumentMut, Item, Mem, ParseFault, Renamed, Table, Value};
 use toml_edit_guide::adding::{
     add_dependency, add_element, add_table, push_line, set_default, try_insert,

@@ -1,7 +1,7 @@
 //! Each program on a document, with the text that it has to leave.
 use crate::guide::done;
+use crate::holding::is_text;
 use std::alloc::{AllocError, Global};
-use test_calls::holding::is_text;
 use toml_edit::{Document, DocumentMut, Mem, ParseFault};
 use toml_edit_programs::add_member::add_member;
 use toml_edit_programs::bump::bump;

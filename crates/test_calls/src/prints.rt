@@ -1,9 +1,9 @@
 //! Prints to outputs that take little at a time, or fail.
+use crate::holding::{holds_changed, holds_moved};
 use crate::streams::Short;
 use std::alloc::Global;
 use std::io;
 use std::io::Write;
-use test_calls::holding::{holds_changed, holds_moved};
 use toml_edit::{
     Broken, DocumentMut, FromStr, Key, Output, PrintFault, Printed, Value, Watched, print_to,
 };

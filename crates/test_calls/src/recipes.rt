@@ -1,7 +1,9 @@
 //! The tasks of the guide, on documents whose texts before and after are written by hand.
 use crate::guide::{array_mut, done};
+use crate::holding::is_text;
+use crate::paths::{path, puts};
+use crate::spans::is_done;
 use std::alloc::{AllocError, Global};
-use test_calls::holding::is_text;
 use toml_edit::{Document, DocumentMut, FromStr, Mem, ParseFault, Table, Value};
 use toml_edit_recipes::comments::explain_key;
 use toml_edit_recipes::float::float_in;
@@ -168,17 +170,19 @@ fn reads_floats(rt: HostRuntime) {
     assert!(rt; !is_float(rt.alloc(), "1", 1.0));
 }
 
-/// Adds keys and tables at paths that are missing.
-fn add_all(alloc: Global, document: &mut DocumentMut) -> Mem<()> {
-    for path in ["k", "new.table.k", "package.k", "package.deep.k"] {
-        let keys = crate::paths::path(alloc, path)?;
-        done(document.set_at(&keys, Value::from(1)).is_ok())?;
-    }
-    for path in ["tool.fmt.k", "package.sub.k"] {
-        let keys = crate::paths::path(alloc, path)?;
-        done(document.set_at_with_headers(&keys, Value::from(1)).is_ok())?;
-    }
-    Ok(())
+/// Sets the value 1 at a path. Returns `false` if it cannot go there.
+fn adds(alloc: Global, document: &mut DocumentMut, at: &str) -> Mem<bool> {
+    Ok(document.set_at(&path(alloc, at)?, Value::from(1)).is_ok())
+}
+
+/// Returns `true` if keys and tables are added at paths that are missing.
+fn adds_all(alloc: Global, document: &mut DocumentMut) -> bool {
+    is_done(adds(alloc, document, "k"))
+        && is_done(adds(alloc, document, "new.table.k"))
+        && is_done(adds(alloc, document, "package.k"))
+        && is_done(adds(alloc, document, "package.deep.k"))
+        && is_done(puts(alloc, document, "tool.fmt.k", Value::from(1)))
+        && is_done(puts(alloc, document, "package.sub.k", Value::from(1)))
 }
 
 #[test]
@@ -189,7 +193,7 @@ fn lands(rt: HostRuntime) {
         "edition = 1\nk = 1\nnew = { table = { k = 1 } }\n\n# about the package\n[package]\nname = 'x'\nk = 1\ndeep = { k = 1 }\n\n[package.meta]\ny = 2\n\n[package.sub]\nk = 1\n\n[dependencies]\n\n[tool.fmt]\nk = 1\n";
     match DocumentMut::from_str(rt.alloc(), text) {
         Ok(mut document) => {
-            assert!(rt; add_all(rt.alloc(), &mut document).is_ok());
+            assert!(rt; adds_all(rt.alloc(), &mut document));
             assert!(rt; is_text(document.print(rt.alloc()), wanted));
         }
         Err(_) => assert!(rt; false),

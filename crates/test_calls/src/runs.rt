@@ -1,8 +1,8 @@
 //! Runs of the program: what they write, and how they end if they cannot write their messages.
+use crate::holding::holds_moved;
 use crate::streams::Short;
 use std::alloc::Global;
 use std::io::{Read, Write};
-use test_calls::holding::holds_moved;
 use toml_edit::{Mem, Watched};
 use toml_edit_command::{end_without_memory, run};
 
@@ -34,9 +34,8 @@ fn status<R: Read + Drop, W: Write + Drop, E: Write + Drop>(
 /// Returns `true` if a run of no command that cannot say so ends with status 2 and has no output.
 fn passes_over(alloc: Global, rest: &mut &[u8]) -> bool {
     let (mut output, mut held) = (Vec::new(alloc), Vec::new(alloc));
-    let words: [String; 0] = [];
     let full = Short::of(&mut held, 0);
-    let status = status(alloc, &words, rest, &mut output, full);
+    let status = status(alloc, &[], rest, &mut output, full);
     status == 2 && output.is_empty()
 }
 
