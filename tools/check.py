@@ -13,6 +13,7 @@
 - Pages say how many must-fail edits, tests and rows there are, so that none is lost unseen.
 - Each must-fail edit still fits: its file is there, has the old text once, and is changed in one function. So does each bug of tools/bugs.
 - Tables have an index of the kit's `indexmap`, in their source and in crates.txt, and DECISIONS and MIGRATING name it.
+- Help, TOMLFILE, the header of C, the manual page and the completions have the words of edits in the order of the code, with what each takes.
 - The list of files that share code, in DECISIONS between two comments, is that of tools/duplicates.py.
 - Pages are not too large, no sentence is too long, and no word of tools/words.txt is used.
 """
@@ -39,6 +40,16 @@ ALL = 140000
 # References beside code, which are no pages.
 REFERENCES = ("crates/*", "docs/api/*")
 WORDS = 35
+# Where the words of edits stand, each with what it takes, or all their names on a line.
+EDIT_WORDS = {
+    "crates/toml_edit_files/src/help.rt": r"^  ([a-z]+ PATH(?: [A-Z]+)?)  ",
+    "docs/TOMLFILE.md": r"`([a-z]+ PATH(?: [A-Z]+)?)`",
+    "bindings/c/toml_edit.h": r"^ \*     ([a-z]+ PATH(?: [A-Z]+)?)  ",
+    "tools/share/tomlfile.1": r"^([a-z]+ PATH(?: [A-Z]+)?)$",
+    "tools/share/tomlfile.bash": r"-W '(set [a-z ]+)'",
+    "tools/share/_tomlfile": r"\((set [a-z ]+)\)",
+    "tools/share/tomlfile.fish": r"\"(set [a-z ]+)\"",
+}
 ROWS = ("test_rows", "test_rows_tables", "test_rows_values")
 # Of what some page says how many there are.
 SAID = ("edits", "tests", "rows", *("rows of " + program for program in ROWS))
@@ -308,6 +319,18 @@ class Check:
                 if not any(file in pair and set(pair) <= set(files) for pair in found):
                     self.fault(page, at, "%s is listed, and shares nothing with the others" % file)
 
+    def edit_words(self):
+        """Where users read the words of edits, they are those of the code, in its order and with what each takes."""
+        code = read(TOP + "/crates/toml_edit_edits/src/verb.rt")
+        names = dict(re.findall(r'(Verb::[\w:()]+) => "([a-z]+)"', code))
+        operands = dict(re.findall(r'Verb::(\w+)(?:\(_\))? => "(PATH[A-Z ]*)"', code))
+        verbs = re.findall(r"^    (Verb::[\w:()]+),$", code, re.M)
+        wanted = ["%s %s" % (names[verb], operands[re.match(r"Verb::(\w+)", verb)[1]]) for verb in verbs]
+        for file, line in EDIT_WORDS.items():
+            found = re.findall(line, re.sub(r"\\f[BIRP]", "", read(TOP + "/" + file)), re.M)
+            if found != wanted and [words.split() for words in found] != [[words.split()[0] for words in wanted]]:
+                self.fault(file, 1, "has other words of edits than the code: %s" % ", ".join(found))
+
     def sizes(self):
         """Pages are not too large."""
         for names, most in SIZES.items():
@@ -473,7 +496,7 @@ def main():
         for word, number in check.numbers().items():
             print("%s<!-- %s -->" % (format(number, ","), word))
         return 0
-    for part in (check.reference, check.shown, check.examples, check.links, check.mentions, check.counts, check.index, check.edits, check.twice, check.sizes, check.sentences, check.words):
+    for part in (check.reference, check.shown, check.examples, check.links, check.mentions, check.counts, check.index, check.edits, check.edit_words, check.twice, check.sizes, check.sentences, check.words):
         part()
     for fault in check.faults:
         print(fault)

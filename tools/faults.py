@@ -15,7 +15,7 @@ import tempfile
 
 from sources import TOP
 
-NEEDED = ("*.md", "crates.txt", "docs", "tools", "bench", ".ci")
+NEEDED = ("*.md", "crates.txt", "docs", "tools", "bench", "bindings/c/toml_edit.h", ".ci")
 KEPT = re.compile(r".*/(src|specs|wrong)(/.*)?|.*/toml_edit_(guide|recipes|programs|example)/proofs|.*/(stdin|stdout|args|WORDS\.md)")
 
 
@@ -26,7 +26,8 @@ class Copy:
         self.top = folder
         for pattern in NEEDED:
             for path in glob.glob(TOP + "/" + pattern):
-                target = folder + "/" + os.path.basename(path)
+                target = folder + path[len(TOP) :]
+                os.makedirs(os.path.dirname(target), exist_ok=True)
                 if os.path.isdir(path):
                     shutil.copytree(path, target, ignore=shutil.ignore_patterns("__pycache__", "target"))
                 else:
@@ -181,6 +182,11 @@ def lost_edit(copy):
     copy.forget(copy.names("crates/toml_edit_key/wrong/*.edit")[0])
 
 
+def missing_edit(copy):
+    """A page lacks a word of edits."""
+    copy.replace(["docs/TOMLFILE.md"], r"`sort PATH`", "`order PATH`")
+
+
 def lost_test(copy):
     """A test is no test any more."""
     copy.replace(copy.names("crates/test_calls/src/*.rt"), r"#\[test\]\n", "")
@@ -217,6 +223,7 @@ FAULTS = {
     dropped_import: "is not in crates/",
     dead_edit: "its text 1 is in",
     edit_of_two: "make it two edits",
+    missing_edit: "has other words of edits",
     edit_of_a_constant: "changes no function",
     lost_edit: "is said of edits",
     lost_test: "is said of tests",

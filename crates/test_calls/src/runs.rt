@@ -4,7 +4,7 @@ use crate::streams::Short;
 use std::alloc::Global;
 use std::io::{Read, Write};
 use toml_edit::{Mem, Watched};
-use toml_edit_command::{end_without_memory, run};
+use toml_edit_command::{Ending, end_without_memory, run};
 
 const TEXT: &str = "# a\nk = [1]  # b\n";
 
@@ -24,6 +24,7 @@ fn status<R: Read + Drop, W: Write + Drop, E: Write + Drop>(
 ) -> u8 {
     run(
         alloc,
+        Ending::Call,
         words,
         &mut Watched::new(reader),
         &mut Watched::new(output),

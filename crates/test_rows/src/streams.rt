@@ -3,7 +3,7 @@ use std::alloc::{AllocError, Global};
 use std::io;
 use std::io::{ErrorKind, Read, Write};
 use toml_edit::{Mem, Watched};
-use toml_edit_command::run;
+use toml_edit_command::{Ending, run};
 
 /// A reader that gives one byte at a time, and fails at one of its calls.
 #[derive(Drop)]
@@ -85,6 +85,7 @@ pub fn run_whole(alloc: Global, words: &[String], input: &[u8]) -> Mem<Ended> {
     let mut errors = Vec::with_capacity(alloc, ROOM)?;
     let status = run(
         alloc,
+        Ending::Call,
         words,
         &mut Watched::new(input),
         &mut Watched::new(&mut output),
@@ -119,6 +120,7 @@ fn run_within(alloc: Global, words: &[String], input: &[u8], limits: Limits) -> 
     let mut errors = Vec::with_capacity(alloc, ROOM)?;
     let status = run(
         alloc,
+        Ending::Call,
         words,
         &mut Watched::new(Drip {
             rest: input,

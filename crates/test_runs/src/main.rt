@@ -3,17 +3,16 @@
 //! A line `get a.toml b` is a run of `tomlfile` with these words, over the files of the folder, and
 //! `tomled get b` one of `tomled`. Words are apart by spaces, and stand between single quotes where
 //! they have some. With `< FILE` at the end, the file is the run's standard input. What a run writes
-//! is shown below its line, and its status if that is not 0. A line `put FILE TEXT` makes a file,
-//! and `cat FILE` shows one: a carriage return as `<CR>`, a line feed in TEXT as `<LF>`, a byte order
-//! mark as `<BOM>`, and `<END>` where no newline ends it. Empty lines and lines that begin with `#`
-//! are shown alone.
+//! is shown below its line, and its status if that is not 0. A line `put FILE TEXT` makes a file, and `cat FILE` shows one: a
+//! carriage return as `<CR>`, a line feed in TEXT as `<LF>`, a byte order mark as `<BOM>`, and
+//! `<END>` where no newline ends it. Empty lines and lines that begin with `#` are shown alone.
 #![tactic(auto)]
 
+use file_replace::Host;
 use std::alloc::Global;
 use std::io::{BufRead, BufReader};
 use std::{fs, io, process};
 use toml_edit_io::Watched;
-use toml_edit_replace::Host;
 
 fn main(rt: HostRuntime) -> io::Result<()> {
     let reader = BufReader::new(rt.alloc(), rt.stdin())?;
@@ -59,7 +58,15 @@ fn status_of(rt: &HostRuntime, words: &[String], input: &[u8]) -> u8 {
     let mut errors = Watched::new(rt.stdout());
     match words {
         [name, words @ ..] if name.as_str() == "tomled" => {
-            toml_edit_command::run(rt.alloc(), words, &mut input, &mut output, &mut errors)
+            let ending = toml_edit_command::Ending::Call;
+            toml_edit_command::run(
+                rt.alloc(),
+                ending,
+                words,
+                &mut input,
+                &mut output,
+                &mut errors,
+            )
         }
         _ => toml_edit_files::run(
             rt.alloc(),

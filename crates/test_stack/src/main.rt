@@ -8,8 +8,8 @@ use std::fmt::Write;
 use std::{env, io};
 use toml_edit::visit::{Path, Visit, visit_table};
 use toml_edit::{Document, DocumentMut, Item, Mem};
+use toml_edit_edits::same_value;
 use toml_edit_fmt::{Indentation, Rules, format};
-use toml_edit_script::same_value;
 
 /// Drops what a call gave.
 fn gave<T: Drop>(given: Mem<T>) -> Mem<bool> {

@@ -19,14 +19,14 @@ use anyhow::{Result, bail};
 use kept::text_of_kept;
 use layout::formatted;
 use meaning::meaning_of;
-use process_words::words_of;
 use shared::edited_by_turns;
 use std::io::{BufRead, BufReader, ErrorKind};
 use std::process::ExitCode;
 use std::{fs, io};
+use toml_edit_words::arguments;
 
 fn main(rt: HostRuntime) -> ExitCode {
-    let Ok(words) = words_of(&rt) else {
+    let Ok(words) = arguments(&rt) else {
         return ExitCode::from(2);
     };
     if words.is_empty() {

@@ -23,7 +23,7 @@ pub fn meaning_of(alloc: Global, text: &str, strict: bool) -> Mem<Option<String>
     match DocumentMut::from_str_with(alloc, text, options) {
         Ok(document) => {
             let meaning = Meaning::of(alloc, document.as_table());
-            // The process ends soon, which frees the document in one step.
+            // The process ends after this, which frees the document in one step.
             mem::forget(document);
             Ok(Some(meaning?))
         }

@@ -22,7 +22,7 @@ fn moved(alloc: Global, text: &str) -> Result<(DocumentMut, DocumentMut)> {
 }
 
 /// Puts the two documents of a text in place of these, and returns `false` if that fails.
-fn split(alloc: Global, text: &str, first: &mut DocumentMut, second: &mut DocumentMut) -> bool {
+pub fn split(alloc: Global, text: &str, first: &mut DocumentMut, second: &mut DocumentMut) -> bool {
     match moved(alloc, text) {
         Ok((one, other)) => {
             *first = one;
@@ -108,12 +108,12 @@ fn change(alloc: Global, document: &mut DocumentMut, round: usize) -> Result<()>
 }
 
 /// Makes the edit of a round, and returns `false` if that fails.
-fn edit(alloc: Global, document: &mut DocumentMut, round: usize) -> bool {
+pub fn edit(alloc: Global, document: &mut DocumentMut, round: usize) -> bool {
     change(alloc, document, round).is_ok()
 }
 
 /// Returns `true` if a document prints as this text.
-fn prints(alloc: Global, document: &DocumentMut, text: &str) -> bool {
+pub fn prints(alloc: Global, document: &DocumentMut, text: &str) -> bool {
     match document.print(alloc) {
         Ok(printed) => printed.as_str() == text,
         Err(_) => false,

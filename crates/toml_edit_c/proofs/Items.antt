@@ -3,7 +3,7 @@ use Rattle.std.proofs.Common.{◌≡◌, ◌==◌, refl, ap, ◌∙◌, Bool, fa
 use Rattle.toml_edit_model.specs.Text.{Text}
 use Rattle.toml_edit_model.specs.Tree.{Node, Tree}
 use Rattle.toml_edit_edit_laws.specs.Commands.{item_at}
-use Rattle.toml_edit_command.specs.Words.{SpellsPath}
+use Rattle.toml_edit_words.specs.Spelled.{SpellsPath}
 use Rattle.toml_edit_c.specs.Json.{IsItemAt, StopsItem}
 use Rattle.toml_edit_c.specs.Made.{MayStopPath}
 use Rattle.toml_edit_c.specs.declared.stop.Stop.{Stop}

@@ -6,12 +6,12 @@ use Rattle.toml_edit_model.specs.Text.{Text}
 use Rattle.toml_edit_model.specs.Version.{Version}
 use Rattle.toml_edit_model.specs.Fits.{FitsIn}
 use Rattle.toml_edit_model.specs.Tree.{Tree}
-use Rattle.toml_edit_script.specs.Lists.{applied}
-use Rattle.toml_edit_script.specs.declared.edit.Edit.{Edit}
+use Rattle.toml_edit_edits.specs.Lists.{applied}
+use Rattle.toml_edit_edits.specs.declared.edit.Edit.{Edit}
 use Rattle.toml_edit_command.specs.Words.{Action, Request, Says}
 use Rattle.toml_edit_command.specs.Written.{Changes, Held, IsHeldOf, IsPrintFor, IsPrintOf, Makes}
 use Rattle.toml_edit_command.proofs.Local.{made-written}
-use Rattle.toml_edit_c.specs.Answers.{Gives, Holds, IsAtFront, IsTooLong, IsUnanswered}
+use Rattle.toml_edit_c.specs.Answers.{Answers, Gives, Holds, IsAtFront, IsTooLong, IsUnanswered}
 use Rattle.toml_edit_c.specs.Made.{IsMade, MakesOf, StopsAction, StopsCall, StopsMaking, StopsPrinting}
 use Rattle.toml_edit_c.specs.Scripts.{StopsEditing}
 use Rattle.toml_edit_c.specs.Statuses.{of_none, status_of}
@@ -106,22 +106,32 @@ held-or-long x answer old new holds = elim holds.1 [ inl front ↦ inl front.1 |
 
 module _ (answer : Answer) (old new : List ℕ) where
   -- what the answer says of what was made
-  pub given : (r : Result (String Global) Stop) (Is : Text → Type 0) → IfOk r (λ s. Is (string_bytes s))
+  given : (r : Result (String Global) Stop) (Is : Text → Type 0) → IfOk r (λ s. Is (string_bytes s))
       → IfOk r (λ s. Holds (string_bytes s) answer old new) → IfErr r (λ stop. answer.status ≡ status_of stop)
       → answer.status ≤ 1 → Gives Is answer old new
   given (Ok s) Is is holds status under = (string_bytes s, is, holds)
   given (Err stop) Is is holds status under = absurd (omega (arith, high stop, status, under))
 
-  pub stopped : (r : Result (String Global) Stop) (Stops : Stop → Type 0) → IfErr r Stops
+  stopped : (r : Result (String Global) Stop) (Stops : Stop → Type 0) → IfErr r Stops
       → IfOk r (λ s. Holds (string_bytes s) answer old new) → IfErr r (λ stop. answer.status ≡ status_of stop)
       → 1 < answer.status → (stop : Stop) × (answer.status ≡ status_of stop) × Stops stop
   stopped (Ok s) Stops stops holds status over = absurd (omega (arith, low (string_bytes s) answer old new holds, over))
   stopped (Err stop) Stops stops holds status over = (stop, status, stops)
 
-  pub unanswered : (r : Result (String Global) Stop) → IfOk r (λ s. Holds (string_bytes s) answer old new)
+  unanswered : (r : Result (String Global) Stop) → IfOk r (λ s. Holds (string_bytes s) answer old new)
       → IfErr r (λ stop. IsUnanswered answer old new) → 1 < answer.status → IsUnanswered answer old new
   unanswered (Ok s) holds none over = absurd (omega (arith, low (string_bytes s) answer old new holds, over))
   unanswered (Err stop) holds none over = none
+
+  pub answers : (r : Result (String Global) Stop) (Is : Text → Type 0) (Stops : Stop → Type 0) → IfOk r (λ s. Is (string_bytes s)) → IfErr r Stops
+      → IfOk r (λ s. Holds (string_bytes s) answer old new) → IfErr r (λ stop. answer.status ≡ status_of stop)
+      → IfErr r (λ stop. IsUnanswered answer old new)
+      → Answers Is (λ status. (stop : Stop) × (status ≡ status_of stop) × Stops stop) answer old new
+  answers r Is Stops is stops holds status none = record {
+    given = given r Is is holds status;
+    stopped = stopped r Stops stops holds status;
+    unanswered = unanswered r holds none;
+  }
 
   -- so it is with what a script made, and with the number of the edit that is refused
   pub edited : (r : Result (String Global) EditStop) (Is : Text → Type 0) → IfOk r (λ s. Is (string_bytes s))

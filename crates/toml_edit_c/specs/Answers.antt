@@ -26,3 +26,10 @@ Gives Is answer old new = (text : Text) × Is text × Holds text answer old new
 -- there is no text, and the room is as it was
 abbrev pub IsUnanswered : Answer → List ℕ → List ℕ → Type 0
 IsUnanswered answer old new = (answer.needed ≡ 0) × (new ≡ old)
+
+-- Where the status is at most 1 it is with such a text. Else there is none, and it is a status of this
+-- property.
+pub record Answers (Is : Text → Type 0) (Stops : ℕ → Type 0) (answer : Answer) (old new : List ℕ) : Type 0 where
+  pub given : answer.status ≤ 1 → Gives Is answer old new
+  pub stopped : 1 < answer.status → Stops answer.status
+  pub unanswered : 1 < answer.status → IsUnanswered answer old new

@@ -5,7 +5,7 @@ use Rattle.toml_edit_model.specs.Text.{Text}
 use Rattle.toml_edit_model.specs.Tree.{Node, Tree}
 use Rattle.toml_edit_model.specs.Version.{Version}
 use Rattle.toml_edit_edit_laws.specs.Commands.{item_at, root_item}
-use Rattle.toml_edit_command.specs.Words.{SpellsPath}
+use Rattle.toml_edit_words.specs.Spelled.{SpellsPath}
 use Rattle.toml_edit_command.specs.Written.{Held, IsHeldOf}
 use Rattle.toml_edit_json.specs.Values.{json_text}
 use Rattle.toml_edit_c.specs.Asks.{options_by}

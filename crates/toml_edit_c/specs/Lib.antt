@@ -7,8 +7,5 @@ pub mod Checks
 pub mod Json
 pub mod Formats
 pub mod Split
-pub mod Verbs
 pub mod Scripts
 pub mod Runs
--- Cited inside this crate alone.
-pub mod Commands

@@ -6,7 +6,8 @@ use Rattle.toml_edit_model.specs.Version.{Version}
 use Rattle.toml_edit_model.specs.Syntax.{Document}
 use Rattle.toml_edit_model.specs.Tree.{Tree}
 use Rattle.toml_edit_model.specs.Fits.{FitsIn}
-use Rattle.toml_edit_command.specs.Words.{Action, Request, IsNoPath, IsNoValue, IsSet, Says, SpellsPath, TakesPath}
+use Rattle.toml_edit_command.specs.Words.{Action, Request, IsSet, Says, TakesPath}
+use Rattle.toml_edit_words.specs.Spelled.{IsNoPath, IsNoValue, SpellsPath}
 use Rattle.toml_edit_command.specs.Written.{Held, IsHeldOf, IsReadAs, Makes, Writes}
 use Rattle.toml_edit_command.specs.Mistakes.{InTree}
 use Rattle.toml_edit_command.specs.Run.{IsRefused}

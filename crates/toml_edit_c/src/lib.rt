@@ -15,7 +15,7 @@
 #![tactic(auto)]
 
 ghost use Rattle.std.specs.Prelude.{◌≡◌, ◌≤◌, ◌<◌};
-ghost use Rattle.toml_edit_c.specs.Answers.{Gives, IsUnanswered};
+ghost use Rattle.toml_edit_c.specs.Answers.{Answers, Gives};
 ghost use Rattle.toml_edit_c.specs.Asks.{ask, get_words, print_words, remove_words, set_words};
 ghost use Rattle.toml_edit_c.specs.Formats.{IsFormattedBy, StopsFormatWith};
 ghost use Rattle.toml_edit_c.specs.Json.{IsJsonBy, StopsJsonWith};
@@ -32,12 +32,10 @@ mod format;
 mod get;
 mod json;
 mod read;
-mod read_edit;
 pub mod run;
 mod script;
 mod split;
 mod stop;
-mod verb;
 mod words;
 
 pub use answer::Answer;
@@ -49,10 +47,8 @@ use std::alloc::Global;
 /// It is what `tomled print` writes. For the flags and the statuses see `bindings/c/toml_edit.h`.
 #[unsafe(no_mangle)]
 pub extern "C" fn toml_edit_print(alloc: Global, flags: u32, text: &[u8], room: &mut [u8]) -> Answer
-    ensures given { result.status ≤ 1
-        → Gives (IsMadeBy (ask flags print_words) text.now) result room.old room.new }
-    ensures stopped { 1 < result.status → StopsWith (ask flags print_words) text.now result.status }
-    ensures unanswered { 1 < result.status → IsUnanswered result room.old room.new }
+    ensures { Answers (IsMadeBy (ask flags print_words) text.now)
+        (StopsWith (ask flags print_words) text.now) result room.old room.new }
 {
     give(calls::print(alloc, flags, text), room)
 }
@@ -69,11 +65,8 @@ pub extern "C" fn toml_edit_get(
     path: &[u8],
     room: &mut [u8],
 ) -> Answer
-    ensures given { result.status ≤ 1
-        → Gives (IsMadeBy (ask flags (get_words path.now)) text.now) result room.old room.new }
-    ensures stopped { 1 < result.status
-        → StopsWith (ask flags (get_words path.now)) text.now result.status }
-    ensures unanswered { 1 < result.status → IsUnanswered result room.old room.new }
+    ensures { Answers (IsMadeBy (ask flags (get_words path.now)) text.now)
+        (StopsWith (ask flags (get_words path.now)) text.now) result room.old room.new }
 {
     give(calls::get(alloc, flags, text, path), room)
 }
@@ -90,12 +83,8 @@ pub extern "C" fn toml_edit_set(
     value: &[u8],
     room: &mut [u8],
 ) -> Answer
-    ensures given { result.status ≤ 1
-        → Gives (IsMadeBy (ask flags (set_words path.now value.now)) text.now) result room.old
-        room.new }
-    ensures stopped { 1 < result.status
-        → StopsWith (ask flags (set_words path.now value.now)) text.now result.status }
-    ensures unanswered { 1 < result.status → IsUnanswered result room.old room.new }
+    ensures { Answers (IsMadeBy (ask flags (set_words path.now value.now)) text.now)
+        (StopsWith (ask flags (set_words path.now value.now)) text.now) result room.old room.new }
 {
     give(calls::set(alloc, flags, text, path, value), room)
 }
@@ -111,11 +100,8 @@ pub extern "C" fn toml_edit_remove(
     path: &[u8],
     room: &mut [u8],
 ) -> Answer
-    ensures given { result.status ≤ 1
-        → Gives (IsMadeBy (ask flags (remove_words path.now)) text.now) result room.old room.new }
-    ensures stopped { 1 < result.status
-        → StopsWith (ask flags (remove_words path.now)) text.now result.status }
-    ensures unanswered { 1 < result.status → IsUnanswered result room.old room.new }
+    ensures { Answers (IsMadeBy (ask flags (remove_words path.now)) text.now)
+        (StopsWith (ask flags (remove_words path.now)) text.now) result room.old room.new }
 {
     give(calls::remove(alloc, flags, text, path), room)
 }
@@ -129,10 +115,8 @@ pub extern "C" fn toml_edit_json(
     path: &[u8],
     room: &mut [u8],
 ) -> Answer
-    ensures given { result.status ≤ 1
-        → Gives (IsJsonBy flags text.now path.now) result room.old room.new }
-    ensures stopped { 1 < result.status → StopsJsonWith flags text.now path.now result.status }
-    ensures unanswered { 1 < result.status → IsUnanswered result room.old room.new }
+    ensures { Answers (IsJsonBy flags text.now path.now)
+        (StopsJsonWith flags text.now path.now) result room.old room.new }
 {
     give(json::json(alloc, flags, text, path), room)
 }
@@ -148,10 +132,8 @@ pub extern "C" fn toml_edit_format(
     text: &[u8],
     room: &mut [u8],
 ) -> Answer
-    ensures given { result.status ≤ 1
-        → Gives (IsFormattedBy flags text.now) result room.old room.new }
-    ensures stopped { 1 < result.status → StopsFormatWith flags text.now result.status }
-    ensures unanswered { 1 < result.status → IsUnanswered result room.old room.new }
+    ensures { Answers (IsFormattedBy flags text.now)
+        (StopsFormatWith flags text.now) result room.old room.new }
 {
     give(format::format(alloc, flags, text), room)
 }

@@ -5,7 +5,6 @@ ghost use Rattle.toml_edit_c.specs.Runs.{AreGiven, AreTooLong, AreUntouched, End
 
 use crate::command::ended_on;
 use std::alloc::Global;
-use std::str;
 
 /// How many bytes the texts of a run have.
 #[repr(C)]
@@ -61,14 +60,14 @@ pub extern "C" fn toml_edit_run(
 {
     match ended_on(alloc, words, input) {
         Some(ended) => {
-            let out = ended.output.as_bytes();
-            let err = ended.errors.as_bytes();
+            let out = ended.output.as_slice();
+            let err = ended.errors.as_slice();
             *sizes = Sizes {
                 output: out.len(),
                 errors: err.len(),
             };
             if give_both(out, err, output, errors) {
-                ended.status
+                u32::from(ended.status)
             } else {
                 SHORT
             }

@@ -1,20 +1,20 @@
 //! Making the edits of a script.
-ghost use Rattle.std.specs.Prelude.{◌≡◌, IfErr, IfOk, string_bytes};
+ghost use Rattle.std.specs.Prelude.{◌≡◌, IfErr, IfOk, map, string_bytes};
 ghost use Rattle.toml_edit_command.specs.Written.{held};
 ghost use Rattle.toml_edit_parser.specs.Options.{mode_of, version_of};
-ghost use Rattle.toml_edit_c.specs.Scripts.{IsEdited, IsEditedBy, IsEditedOf, SaysEdits, StopsEditBy, StopsEditOf, StopsEditing, StopsScript, stop_of_edit};
+ghost use Rattle.toml_edit_edits.specs.Said.{SaysEdits};
+ghost use Rattle.toml_edit_c.specs.Scripts.{IsEdited, IsEditedBy, IsEditedOf, StopsEditBy, StopsEditOf, StopsEditing, StopsScript, StopsWords, stop_of_edit, stop_of_word};
 ghost use Rattle.toml_edit_c.specs.Split.{words_in};
 
 use crate::edit::print_fitting;
 use crate::flags::options_of;
 use crate::read::read;
-use crate::read_edit::edits_of;
 use crate::split::split;
 use crate::stop::{EditStop, Stop};
 use std::alloc::Global;
 use std::str;
 use toml_edit::{DocumentMut, ParseOptions};
-use toml_edit_script::{Edit, EditFault, apply};
+use toml_edit_edits::{Edit, EditFault, WordFault, apply, edits_of};
 
 /// Returns the text with the edits of the script.
 pub fn edit(alloc: Global, flags: u32, text: &[u8], script: &[u8]) -> Result<String, EditStop>
@@ -60,10 +60,35 @@ fn edits_in(alloc: Global, options: ParseOptions, script: &[u8]) -> Result<Vec<E
 {
     match str::from_utf8(script) {
         Ok(script) => match split(alloc, script) {
-            Ok(words) => edits_of(alloc, options, words.as_slice()),
+            Ok(words) => edits_by(alloc, options, words.as_slice()),
             Err(_) => Err(EditStop::of_none(Stop::Memory)),
         },
         Err(_) => Err(EditStop::of_none(Stop::Script)),
+    }
+}
+
+/// Reads the edits that the words say.
+fn edits_by(alloc: Global, options: ParseOptions, words: &[&str]) -> Result<Vec<Edit>, EditStop>
+    ensures said { IfOk result (λ edits. SaysEdits (version_of options)
+        (map (λ w. w.now) words.now) edits.items) }
+    ensures stops { IfErr result
+        (StopsWords (version_of options) (map (λ w. w.now) words.now)) }
+{
+    match edits_of(alloc, options, words) {
+        Ok(edits) => Ok(edits),
+        Err(refused) => { Err(EditStop::of_edit(stop_of_word(&refused.fault), refused.number)) }
+    }
+}
+
+/// Returns why a call stops of which words are no edit.
+fn stop_of_word(fault: &WordFault) -> Stop
+    ensures { result ≡ stop_of_word fault.now }
+{
+    match fault {
+        WordFault::Name | WordFault::Operands(_) => Stop::Script,
+        WordFault::Path(_) | WordFault::To(_) | WordFault::Key(_) => Stop::Path,
+        WordFault::Value(_) => Stop::Value,
+        WordFault::Memory => Stop::Memory,
     }
 }
 

@@ -1,17 +1,16 @@
 //! Reading paths and values.
-ghost use Rattle.std.specs.Prelude.{◌≡◌, ◌⊎◌, IfErr, IfOk, List};
-ghost use Rattle.toml_edit_command.specs.Words.{IsNoPath, IsNoValue, SpellsPath, SpellsValue};
+ghost use Rattle.std.specs.Prelude.{◌≡◌, ◌⊎◌, IfErr, IfOk};
 ghost use Rattle.toml_edit_c.specs.Made.{MayStopPath, MayStopValue};
 ghost use Rattle.toml_edit_c.specs.declared.stop.Stop.TheVariants as stops;
 ghost use Rattle.toml_edit_model.specs.Keys.{names};
-ghost use Rattle.toml_edit_model.specs.Text.{Text};
 ghost use Rattle.toml_edit_parser.specs.Options.{version_of};
 ghost use Rattle.toml_edit_tree.specs.View.{value_view};
+ghost use Rattle.toml_edit_words.specs.Spelled.{IsNoPath, IsNoValue, SpellsPath, SpellsValue};
 
 use crate::stop::Stop;
 use std::alloc::Global;
 use std::str;
-use toml_edit::{FromStrWith, Key, ParseFault, ParseOptions, ParsePath, Value};
+use toml_edit::{Key, ParseFault, ParseOptions, Value};
 
 /// Parses a path.
 pub fn path_of(alloc: Global, path: &[u8]) -> Result<Vec<Key>, Stop>
@@ -25,14 +24,12 @@ pub fn path_of(alloc: Global, path: &[u8]) -> Result<Vec<Key>, Stop>
 }
 
 /// Parses a path of characters.
-pub fn path_in(alloc: Global, path: &str) -> Result<Vec<Key>, Stop>
+fn path_in(alloc: Global, path: &str) -> Result<Vec<Key>, Stop>
     ensures spelled { IfOk result (λ keys. SpellsPath path.now (names keys.items)) }
-    ensures only { (ks : List Text) → SpellsPath path.now ks
-        → IfOk result (λ keys. names keys.items ≡ ks) }
     ensures stops { IfErr result
         (λ stop. (stop ≡ stops.Memory) ⊎ ((stop ≡ stops.Path) × IsNoPath path.now)) }
 {
-    match Key::parse(alloc, path) {
+    match toml_edit_words::path_in(alloc, path) {
         Ok(keys) => Ok(keys),
         Err(ParseFault::Toml(_)) => Err(Stop::Path),
         Err(ParseFault::Memory) => Err(Stop::Memory),
@@ -52,14 +49,14 @@ pub fn value_of(alloc: Global, value: &[u8], options: ParseOptions) -> Result<Va
 }
 
 /// Parses a value of characters by these options.
-pub fn value_in(alloc: Global, value: &str, options: ParseOptions) -> Result<Value, Stop>
+fn value_in(alloc: Global, value: &str, options: ParseOptions) -> Result<Value, Stop>
     ensures spelled { IfOk result
         (λ read. SpellsValue (version_of options) value.now (value_view read)) }
     ensures stops { IfErr result
         (λ stop. (stop ≡ stops.Memory)
         ⊎ ((stop ≡ stops.Value) × IsNoValue (version_of options) value.now)) }
 {
-    match <Value as FromStrWith>::from_str_with(alloc, value, options) {
+    match toml_edit_words::value_in(alloc, value, options) {
         Ok(read) => Ok(read),
         Err(ParseFault::Toml(_)) => Err(Stop::Value),
         Err(ParseFault::Memory) => Err(Stop::Memory),

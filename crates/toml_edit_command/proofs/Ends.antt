@@ -13,8 +13,8 @@ use Rattle.toml_edit_command.specs.Mistakes.{InRead, InTree, InWords, IsMisworde
 use Rattle.toml_edit_command.specs.Run.{Begins, BeginsAction, Does, DoesAction, IsNotAccepted, OutputChange, Tells, TellsFault}
 use Rattle.toml_edit_command.specs.Run.{TellsMistake, TellsRefusal}
 use Rattle.toml_edit_command.specs.Steps.{BeganToWrite, HasReadAll, StopsActing, StopsDoing, StopsInWords, TellsError, WroteRead, status_of}
-use Rattle.toml_edit_command.specs.Words.{Action, printing, getting, setting, removing, Request, IsCommand, IsSet, Says, SpellsPath}
-use Rattle.toml_edit_command.specs.Words.{SpellsValue, TakesPath}
+use Rattle.toml_edit_command.specs.Words.{Action, printing, getting, setting, removing, Request, IsCommand, IsSet, Says, TakesPath}
+use Rattle.toml_edit_words.specs.Spelled.{SpellsPath, SpellsValue}
 use Rattle.toml_edit_command.specs.Written.{Held, IsHeldAs, IsHeldOf, IsReadOf}
 use Rattle.toml_edit_command.specs.declared.error.CommandError.{CommandError}
 use Rattle.toml_edit_command.specs.declared.error.CommandError.TheVariants as mistakes

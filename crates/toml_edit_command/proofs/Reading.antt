@@ -11,7 +11,8 @@ use Rattle.toml_edit_laws.proofs.versions.EarlyPrints.{normal_texts_stay}
 use Rattle.toml_edit.specs.Documents.{IsOwnedTreeWith, IsReadingIn}
 use Rattle.toml_edit_command.specs.Forms.{MayStopPath, MayStopValue}
 use Rattle.toml_edit_command.specs.Steps.{StopsInWords}
-use Rattle.toml_edit_command.specs.Words.{Request, IsSet, SpellsPath, TakesPath}
+use Rattle.toml_edit_command.specs.Words.{Request, IsSet, TakesPath}
+use Rattle.toml_edit_words.specs.Spelled.{SpellsPath}
 use Rattle.toml_edit_command.specs.Written.{Held, IsHeldOf}
 use Rattle.toml_edit_command.specs.declared.error.RunError.{RunError}
 

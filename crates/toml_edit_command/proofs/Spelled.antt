@@ -1,21 +1,14 @@
--- What PATH and VALUE are read as.
-use Rattle.std.proofs.Common.{◌≡◌, refl, ap, ◌∙◌, true, List, [], ◌∷◌, map}
+-- What VALUE is read as.
+use Rattle.std.proofs.Common.{◌≡◌, refl, ap, ◌∙◌, true, []}
 use Rattle.std.specs.Prelude.{not, ℕ}
 use Rattle.toml_edit_model.specs.Text.{Text}
 use Rattle.toml_edit_model.specs.Version.{Version}
-use Rattle.toml_edit_model.specs.Syntax.{Segment, Value, scalar, array, inline_table}
+use Rattle.toml_edit_model.specs.Syntax.{Value, scalar, array, inline_table}
 use Rattle.toml_edit_model.specs.Tree.{Node, nothing, leaf, list, inline, table, tables, unset}
 use Rattle.toml_edit_model.specs.TreeOf.{owned_form, IsValueNode}
 use Rattle.toml_edit_model.specs.Conversions.{with_decor}
-use Rattle.toml_edit_model.specs.Lone.{lone_keys}
 use Rattle.toml_edit_laws.specs.Locality.{is_plain_value}
-use Rattle.toml_edit_command.specs.Words.{SpellsValue}
-
--- the keys of a lone path have the texts of its segments
-pub lone-names : (before : Text) (p : List Segment) (after : Text) → map (λ k. k.name) (lone_keys before p after) ≡ map (λ s. s.key) p
-lone-names before [] after = refl
-lone-names before (s ∷ []) after = refl
-lone-names before (s ∷ r ∷ rest) after = ap (λ xs. s.key ∷ xs) (lone-names before (r ∷ rest) after)
+use Rattle.toml_edit_words.specs.Spelled.{SpellsValue}
 
 -- the item of a value is no dotted inline table
 plain-item : (v : Value) (i : ℕ) (before after : Text) (m : Node) → IsValueNode owned_form v i before after m

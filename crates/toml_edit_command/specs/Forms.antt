@@ -4,7 +4,8 @@ use Rattle.std.specs.Prelude.{◌≡◌, ◌⊎◌, List, Option, Some, None, ma
 use Rattle.std.specs.Global.{Global}
 use Rattle.toml_edit_model.specs.Text.{Text}
 use Rattle.toml_edit_model.specs.Version.{Version}
-use Rattle.toml_edit_command.specs.Words.{Request, IsPrint, IsGet, IsSet, IsRemove, IsCommand, IsNoPath, IsNoValue}
+use Rattle.toml_edit_command.specs.Words.{Request, IsPrint, IsGet, IsSet, IsRemove, IsCommand}
+use Rattle.toml_edit_words.specs.Spelled.{IsNoPath, IsNoValue}
 use Rattle.toml_edit_parser.specs.Options.{mode_of, version_of}
 use Rattle.toml_edit_parser.specs.declared.options.ParseOptions.{ParseOptions}
 use Rattle.toml_edit_command.specs.declared.words.CommandForm.{CommandForm}

@@ -6,7 +6,8 @@ use Rattle.toml_edit_model.specs.Version.{Version}
 use Rattle.toml_edit_model.specs.Fits.{FitsIn}
 use Rattle.toml_edit_model.specs.Tree.{Tree}
 use Rattle.toml_edit_edit_laws.specs.Commands.{no_such_path, wrong_kind}
-use Rattle.toml_edit_command.specs.Words.{Action, Request, TakesPath, IsCommand, IsSet, IsNoPath, IsNoValue, Says, SpellsPath}
+use Rattle.toml_edit_command.specs.Words.{Action, Request, TakesPath, IsCommand, IsSet, Says}
+use Rattle.toml_edit_words.specs.Spelled.{IsNoPath, IsNoValue, SpellsPath}
 use Rattle.toml_edit_command.specs.Written.{IsReadOf, Changes, Refuses}
 use Rattle.toml_edit_command.specs.declared.error.CommandError.{CommandError}
 use Rattle.toml_edit_command.specs.declared.error.CommandError.TheVariants.{Words, Path, Value, NoSuchPath, WrongKind, Unfit}

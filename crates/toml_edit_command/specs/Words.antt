@@ -1,12 +1,11 @@
 -- What the words of a command say.
-use Rattle.std.specs.Prelude.{◌≡◌, ◌⊎◌, true, if◌then◌else◌, List, [], ◌∷◌, map, codes, String, string_bytes}
+use Rattle.std.specs.Prelude.{◌≡◌, ◌⊎◌, if◌then◌else◌, List, [], ◌∷◌, map, codes, String, string_bytes}
 use Rattle.std.specs.Global.{Global}
 use Rattle.toml_edit_model.specs.Text.{Text, same_text}
 use Rattle.toml_edit_model.specs.Mode.{Mode, plain, exact}
-use Rattle.toml_edit_model.specs.Syntax.{Segment, Value}
 use Rattle.toml_edit_model.specs.Version.{Version, v1_0, v1_1}
 use Rattle.toml_edit_model.specs.Tree.{Node}
-use Rattle.toml_edit_model.specs.Lone.{IsLonePath, IsLoneValue, IsLoneItem, is_accepted_value_in}
+use Rattle.toml_edit_words.specs.Spelled.{SpellsPath, SpellsValue}
 
 -- what is done to a document that is read; a path is a list of the texts of its keys
 pub data Action : Type 0 where
@@ -63,23 +62,6 @@ abbrev pub IsCommand : List Text → Type 0
 IsCommand ws = IsPrint ws ⊎ ((path : Text) × TakesPath ws path)
 
 -- ---- what they say
-
--- the text is a lone path, and these are the texts of its keys
-abbrev pub SpellsPath : Text → List Text → Type 0
-SpellsPath t names =
-    (before : Text) × (p : List Segment) × (after : Text) × IsLonePath t before p after
-    × (names ≡ map (λ s. s.key) p)
-
-abbrev pub IsNoPath : Text → Type 0
-IsNoPath t = (names : List Text) → SpellsPath t names → ⊥
-
--- the text is a lone value of the version, within limits and ranges, and this is its item
-abbrev pub SpellsValue : Version → Text → Node → Type 0
-SpellsValue version t n =
-    (v : Value) × IsLoneValue t v × (is_accepted_value_in version v ≡ true) × IsLoneItem v n
-
-abbrev pub IsNoValue : Version → Text → Type 0
-IsNoValue version t = (n : Node) → SpellsValue version t n → ⊥
 
 abbrev pub Says : Request → Action → Type 0
 Says q printing = IsPrint q.command

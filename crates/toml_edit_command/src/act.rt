@@ -17,10 +17,19 @@ use std::mem;
 use toml_edit::{DocumentMut, ParseOptions, PrintFault};
 use toml_edit_io::{Input, Output};
 
-/// Reads the document from the input, by these options, and runs the command on it. The memory of
-/// the document is not given back.
+/// What becomes of the memory of the document at the end of a run.
+#[derive(Clone, Copy, Debug, PartialEq, Eq)]
+pub enum Ending {
+    /// The process is to end, which gives it back in one step.
+    Process,
+    /// It is given back.
+    Call,
+}
+
+/// Reads the document from the input, by these options, and runs the command on it.
 pub fn perform<I: Input, O: Output>(
     alloc: Global,
+    ending: Ending,
     command: Command,
     options: ParseOptions,
     input: &mut I,
@@ -43,14 +52,21 @@ pub fn perform<I: Input, O: Output>(
     match read_document(alloc, input, options) {
         Ok(mut document) => {
             let done = act(alloc, command, &mut document, output);
-            // The process ends after this, which frees the document in one step.
-            mem::forget(document);
+            end(document, ending);
             done
         }
         Err(error) => {
             drop(command);
             Err(error)
         }
+    }
+}
+
+/// Gives the memory of the document back, unless the process does.
+fn end(document: DocumentMut, ending: Ending) {
+    match ending {
+        Ending::Process => mem::forget(document),
+        Ending::Call => drop(document),
     }
 }
 

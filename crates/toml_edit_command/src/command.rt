@@ -5,7 +5,7 @@ ghost use Rattle.toml_edit_command.specs.Mistakes.{IsMisworded, memory_line, rea
 ghost use Rattle.toml_edit_command.specs.Run.{Begins, Does, IsUnwritten, Tells, TellsMistake, TellsRefusal, written};
 ghost use Rattle.toml_edit_command.specs.Words.{IsCommand, IsPrint, SaysAction, request};
 
-use crate::act::perform;
+use crate::act::{Ending, perform};
 use crate::error::RunError;
 use crate::tell::report_error;
 use crate::words::Command;
@@ -16,7 +16,7 @@ use toml_edit_io::{Input, Output};
 const DONE: u8 = 0;
 
 /// Runs the command that the words say, which are the arguments after the program's name, and
-/// returns the exit status. The memory of the document is not given back: the process is to end.
+/// returns the exit status.
 ///
 /// Each command reads the input to its end:
 ///
@@ -51,6 +51,7 @@ const DONE: u8 = 0;
 /// path in it, whether it fits, writing. A fault in writing to `errors` is ignored.
 pub fn run<I: Input, O: Output, E: Output>(
     alloc: Global,
+    ending: Ending,
     words: &[String],
     input: &mut I,
     output: &mut O,
@@ -110,7 +111,7 @@ pub fn run<I: Input, O: Output, E: Output>(
         Ok(read) => read,
         Err(error) => return report_error(&error, errors),
     };
-    match perform(alloc, command, options, input, output) {
+    match perform(alloc, ending, command, options, input, output) {
         Ok(()) => DONE,
         Err(error) => report_error(&error, errors),
     }

@@ -10,4 +10,5 @@ mod read;
 mod tell;
 mod words;
 
+pub use act::Ending;
 pub use command::{end_without_memory, run};

@@ -3,14 +3,16 @@ ghost use Rattle.std.specs.Prelude.{◌≡◌, [], ◌∷◌, IfErr, IfOk, map, 
 ghost use Rattle.toml_edit_model.specs.Mode as model;
 ghost use Rattle.toml_edit_model.specs.Keys.{names};
 ghost use Rattle.toml_edit_command.specs.Steps.{StopsInWords, action_of};
-ghost use Rattle.toml_edit_command.specs.Words.{Says, SpellsPath, SpellsValue, asked_in, request};
+ghost use Rattle.toml_edit_command.specs.Words.{Says, asked_in, request};
+ghost use Rattle.toml_edit_words.specs.Spelled.{SpellsPath, SpellsValue};
 ghost use Rattle.toml_edit_command.specs.Forms.{IsForm, MayStopPath, MayStopValue, request_by};
 ghost use Rattle.toml_edit_parser.specs.Options.{mode_of, version_of};
 ghost use Rattle.toml_edit_tree.specs.View.{value_view};
 
 use crate::error::{CommandError, RunError};
 use std::alloc::Global;
-use toml_edit::{FromStrWith, Key, ParseFault, ParseOptions, ParsePath, Value, Version};
+use toml_edit::{Key, ParseFault, ParseOptions, Value, Version};
+use toml_edit_words::{path_in, value_in};
 
 /// What is done to the document that is read.
 #[derive(Drop)]
@@ -136,7 +138,7 @@ fn path_of(alloc: Global, text: &str) -> Result<Vec<Key>, RunError>
     ensures spelled { IfOk result (λ keys. SpellsPath text.now (names keys.items)) }
     ensures stops { IfErr result (MayStopPath text.now) }
 {
-    match Key::parse(alloc, text) {
+    match path_in(alloc, text) {
         Ok(keys) => Ok(keys),
         Err(ParseFault::Toml(_)) => Err(RunError::Mistaken(CommandError::Path)),
         Err(ParseFault::Memory) => Err(RunError::Memory),
@@ -149,7 +151,7 @@ fn value_of(alloc: Global, text: &str, options: ParseOptions) -> Result<Value, R
         (λ value. SpellsValue (version_of options) text.now (value_view value)) }
     ensures stops { IfErr result (MayStopValue (version_of options) text.now) }
 {
-    match <Value as FromStrWith>::from_str_with(alloc, text, options) {
+    match value_in(alloc, text, options) {
         Ok(value) => Ok(value),
         Err(ParseFault::Toml(_)) => Err(RunError::Mistaken(CommandError::Value)),
         Err(ParseFault::Memory) => Err(RunError::Memory),

@@ -12,11 +12,11 @@ use Rattle.toml_edit_model.specs.Version.{v1_0}
 use Rattle.toml_edit.specs.DocumentView.{mode_owned, open_owned, print_of, tree_owned}
 use Rattle.toml_edit.specs.Documents.{MeansWhatIsShown}
 use Rattle.toml_edit.specs.declared.document.DocumentMut.{DocumentMut}
-use Rattle.toml_edit_script.specs.Lists.{applied, effect}
-use Rattle.toml_edit_script.specs.Outcomes.{and_then}
-use Rattle.toml_edit_script.specs.declared.edit.Edit.{Edit}
-use Rattle.toml_edit_script.specs.declared.fault.EditFault.{EditFault}
-use Rattle.toml_edit_script.specs.declared.fault.EditFault.TheVariants as faults
+use Rattle.toml_edit_edits.specs.Lists.{applied, effect}
+use Rattle.toml_edit_edits.specs.Outcomes.{and_then}
+use Rattle.toml_edit_edits.specs.declared.edit.Edit.{Edit}
+use Rattle.toml_edit_edits.specs.declared.fault.EditFault.{EditFault}
+use Rattle.toml_edit_edits.specs.declared.fault.EditFault.TheVariants as faults
 use Rattle.toml_edit_files.specs.Edited.{IsAccepted, IsInForm, IsLeft, IsNotEdited, IsNotInForm, IsNotMade, IsNotRead, IsNotWritten, IsRead, IsWritten, mark_of, mode_by, unmarked, version_by}
 use Rattle.toml_edit_files.specs.Stops.{reason_for}
 use Rattle.toml_edit_files.specs.declared.stop.Reason.{Reason}

@@ -3,8 +3,8 @@ use Rattle.std.proofs.Common.{◌≡◌, Bool, true, List, [], ◌∷◌, ◌++�
 use Rattle.std.specs.Prelude.{Option, Some, None, Result, Ok, Err}
 use Rattle.std.specs.List.{list_all}
 use Rattle.std.proofs.lemmas.List.Folds.{list_all-append}
-use Rattle.toml_edit_replace.specs.Events.{Text, Event, NotesFound, done, failed, found, leads_to, locked, more}
-use Rattle.toml_edit_replace.specs.Replacing.{ReadsLocked}
+use Rattle.file_replace.specs.Events.{Text, Event, NotesFound, done, failed, found, leads_to, locked, more}
+use Rattle.file_replace.specs.Replacing.{ReadsLocked}
 use Rattle.toml_edit_files.specs.Folders.{IsHeld, MayBegin, OnlyLooks, Stops, StopsPutting, leads, looks_at}
 use Rattle.toml_edit_files.specs.Stops.{IsFor}
 use Rattle.toml_edit_files.specs.declared.stop.Reason.{Reason}

@@ -14,16 +14,17 @@ use Rattle.toml_edit_model.specs.Print.{print_in}
 use Rattle.toml_edit_model.specs.Shown.{shown_meaning}
 use Rattle.toml_edit_model.specs.Syntax.{Document}
 use Rattle.toml_edit_model.specs.Tree.{Tree}
-use Rattle.toml_edit_replace.specs.Events.{Text}
-use Rattle.toml_edit_script.specs.Lists.{effect}
-use Rattle.toml_edit_script.specs.Outcomes.{and_then}
-use Rattle.toml_edit_script.specs.declared.edit.Edit.{Edit}
-use Rattle.toml_edit_script.specs.declared.fault.EditFault.{EditFault}
-use Rattle.toml_edit_script.specs.declared.fault.EditFault.TheVariants.{Memory, NoSuchPath, WrongKind, NoSuchElement, Taken, BadComment}
-use Rattle.toml_edit_files.proofs.EditLaws.{left}
-use Rattle.toml_edit_files.specs.Edited.{IsLeft, IsNotWritten, IsRead, IsWritten, mark_of, mode_by}
-use Rattle.toml_edit_files.specs.FormatFiles.{IsFormatted, IsFormattedOnly, passing_over, formatted_by, rules_by, sorted_by}
-use Rattle.toml_edit_files.specs.Stops.{reason_for}
+use Rattle.file_replace.specs.Events.{Text, Event}
+use Rattle.toml_edit_edits.specs.Lists.{effect}
+use Rattle.toml_edit_edits.specs.Outcomes.{and_then}
+use Rattle.toml_edit_edits.specs.declared.edit.Edit.{Edit}
+use Rattle.toml_edit_edits.specs.declared.fault.EditFault.{EditFault}
+use Rattle.toml_edit_edits.specs.declared.fault.EditFault.TheVariants.{Memory, NoSuchPath, WrongKind, NoSuchElement, Taken, BadComment}
+use Rattle.toml_edit_files.proofs.EditLaws.{left, none_written}
+use Rattle.toml_edit_files.specs.Edited.{IsLeft, IsNotRead, IsNotWritten, IsRead, IsWritten, mark_of, mode_by, version_by}
+use Rattle.toml_edit_files.specs.FormatFiles.{IsFormatted, IsFormattedOnly, IsLaidOut, IsNotFormatted, IsNotSorted, IsUnformatted, passing_over, formatted_by, rules_by, sorted_by}
+use Rattle.toml_edit_files.specs.Folders.{IsNoHeldText, IsNoTextOf, IsReadOf}
+use Rattle.toml_edit_files.specs.Stops.{IsFor, IsUnread, reason_for}
 use Rattle.toml_edit_files.specs.declared.stop.Reason.{Reason}
 use Rattle.toml_edit_files.specs.declared.stop.Reason.TheVariants.{No, Mistaken, Failed, Refused}
 use Rattle.toml_edit_files.specs.declared.words.Reading.{Reading}
@@ -52,6 +53,65 @@ sort_turn es i e x y all below is so makes =
 abbrev tree_of : Tree → Result Tree EditFault → Tree
 tree_of t (Ok x) = x
 tree_of t (Err f) = t
+
+-- a sort that is refused leaves nothing
+none_made : (f : EditFault) (y : Tree) (r : Result Tree EditFault) → r ≡ Err f → r ≡ Ok y → ⊥
+none_made f y r is made = cc
+
+pub not_sorted : (x : Tree) (r : Result Tree EditFault) (f : EditFault) → f ≢ NoSuchPath → (f ≡ Memory) ⊎ (r ≡ Err f)
+    → IsNotSorted (passing_over x r) (reason_for f)
+not_sorted x r Memory other why = tt
+not_sorted x r NoSuchPath other why = absurd (other refl)
+not_sorted x r WrongKind other (inl is) = absurd (let no : WrongKind ≡ Memory = is in cc)
+not_sorted x r WrongKind other (inr is) = λ y made. none_made WrongKind y (passing_over x r) (ap (passing_over x) is) made
+not_sorted x r NoSuchElement other (inl is) = absurd (let no : NoSuchElement ≡ Memory = is in cc)
+not_sorted x r NoSuchElement other (inr is) = λ y made. none_made NoSuchElement y (passing_over x r) (ap (passing_over x) is) made
+not_sorted x r Taken other (inl is) = absurd (let no : Taken ≡ Memory = is in cc)
+not_sorted x r Taken other (inr is) = λ y made. none_made Taken y (passing_over x r) (ap (passing_over x) is) made
+not_sorted x r BadComment other (inl is) = absurd (let no : BadComment ≡ Memory = is in cc)
+not_sorted x r BadComment other (inr is) = λ y made. none_made BadComment y (passing_over x r) (ap (passing_over x) is) made
+
+-- nor do sorts of which the next is refused
+then_none : (es : List Edit) (r : Result Tree EditFault) → ((y : Tree) → r ≢ Ok y) → (y : Tree) → and_then (sorted_by es) r ≢ Ok y
+then_none es (Ok x) none y made = none x refl
+then_none es (Err f) none y made = none_made f y (Err f) refl made
+
+pub sort_wrong : (es : List Edit) (i : ℕ) (e : Edit) (x : Tree) (all : Result Tree EditFault) → i < length es → e ≡ get_or es i e
+    → sorted_by (drop i es) x ≡ all → (why : Option Reason) → IsNotSorted (passing_over x (effect e x)) why → IsNotSorted all why
+sort_wrong es i e x all below is so why none =
+    let rest = drop (i + 1) es in
+    let here : drop i es ≡ e ∷ rest = drop_more es i e below ∙ ap (λ (d : Edit). d ∷ rest) (sym is) in
+    let at : and_then (sorted_by rest) (passing_over x (effect e x)) ≡ all = sym (ap (λ (ds : List Edit). sorted_by ds x) here) ∙ so in
+    by why none at
+  where
+    by : (why : Option Reason) → IsNotSorted (passing_over x (effect e x)) why
+        → and_then (sorted_by (drop (i + 1) es)) (passing_over x (effect e x)) ≡ all → IsNotSorted all why
+    by None h at = tt
+    by (Some No) h at = λ y made. then_none (drop (i + 1) es) (passing_over x (effect e x)) h y (at ∙ made)
+    by (Some Mistaken) h at = λ y made. then_none (drop (i + 1) es) (passing_over x (effect e x)) h y (at ∙ made)
+    by (Some Failed) h at = h
+    by (Some Refused) h at = h
+
+same_sorted : (x y : Tree) (r : Result Tree EditFault) → r ≡ Ok x → r ≡ Ok y → x ≡ y
+same_sorted x y r is at = ap (tree_of x) (sym is ∙ at)
+
+-- so no text is formatted
+not_formatted : (reading : Reading) (style : Style) (before : Text) (x : Tree) (is_open : Bool) (why : Option Reason) → IsRead reading before x is_open
+    → ((r : Reason) → why ≡ Some r → (r ≢ Failed) × (r ≢ Refused) × ((s : Text) → IsLaidOut reading style x is_open before s → ⊥))
+    → IsNotFormatted reading style before why
+not_formatted reading style before x is_open None read none = tt
+not_formatted reading style before x is_open (Some No) read none = (x, is_open, read, (none No refl).2)
+not_formatted reading style before x is_open (Some Mistaken) read none = (x, is_open, read, (none Mistaken refl).2)
+not_formatted reading style before x is_open (Some Failed) read none = (none Failed refl).0 refl
+not_formatted reading style before x is_open (Some Refused) read none = absurd ((none Refused refl).1 refl)
+
+pub unsorted_none : (reading : Reading) (style : Style) (before : Text) (x : Tree) (is_open : Bool) (why : Option Reason) → IsRead reading before x is_open
+    → IsNotSorted (sorted_by style.sorts.items x) why → IsNotFormatted reading style before why
+unsorted_none reading style before x is_open None read none = tt
+unsorted_none reading style before x is_open (Some No) read none = (x, is_open, read, λ s f. none f.left f.sorted)
+unsorted_none reading style before x is_open (Some Mistaken) read none = (x, is_open, read, λ s f. none f.left f.sorted)
+unsorted_none reading style before x is_open (Some Failed) read none = none
+unsorted_none reading style before x is_open (Some Refused) read none = absurd none
 
 -- no sort changes nothing
 unsorted : (sorts : List Edit) (x y : Tree) → sorts ≡ [] → sorted_by sorts x ≡ Ok y → y ≡ x
@@ -96,34 +156,70 @@ module _ (reading : Reading) (style : Style) (before : Text) (x : Tree) (is_open
       )
 
   pub formats : (s : Text) → IsWritten reading before d s → IsFormatted reading style before s
-  formats s w = record {
-    tree = x;
-    is_open = is_open;
-    left = y;
-    read = read;
-    sorted = sorted;
-    shows = ap shown_meaning (sym laid) ∙ means;
-    written = subst (λ (t : Tree). IsLeft reading [] t is_open before s) laid
-        (left reading [] (tree_owned d) is_open before d refl by_mode same_end s w);
-    unsorted = only s w;
-  }
+  formats s w = (
+    x,
+    is_open,
+    read,
+    record {
+      left = y;
+      sorted = sorted;
+      shows = ap shown_meaning (sym laid) ∙ means;
+      written = subst (λ (t : Tree). IsLeft reading [] t is_open before s) laid
+          (left reading [] (tree_owned d) is_open before d refl by_mode same_end s w);
+      unsorted = only s w;
+    },
+  )
 
--- ---- reasons
+  -- where nothing is written, no text is formatted
+  pub formats-none : (why : Option Reason) → IsNotWritten reading d why → IsNotFormatted reading style before why
+  formats-none why none =
+      not_formatted reading style before x is_open why read
+      (λ r is. let h = none_written reading [] (tree_owned d) is_open before d refl by_mode same_end why none r is in (
+        h.0,
+        h.1,
+        λ s f. h.2 s (subst (λ (t : Tree). IsLeft reading [] t is_open before s)
+            (ap (formatted_by reading style.keys before) (same_sorted f.left y (sorted_by style.sorts.items x) f.sorted sorted) ∙ sym laid) f.written),
+      ))
 
--- no sort is refused as a file is
-pub unread_fault : (f : EditFault) → reason_for f ≢ Some Refused
-unread_fault Memory is = let no : None ≡ Some Refused = is in cc
-unread_fault NoSuchPath is = let no : Some No ≡ Some Refused = is in cc
-unread_fault NoSuchElement is = let no : Some No ≡ Some Refused = is in cc
-unread_fault WrongKind is = let no : Some Mistaken ≡ Some Refused = is in cc
-unread_fault Taken is = let no : Some Mistaken ≡ Some Refused = is in cc
-unread_fault BadComment is = let no : Some Mistaken ≡ Some Refused = is in cc
+-- ---- files that are not formatted
 
--- nor what is written
-pub unread_written : (reading : Reading) (d : DocumentMut) (why : Option Reason) → IsNotWritten reading d why → why ≢ Some Refused
-unread_written reading d None h is = let no : None ≡ Some Refused = is in cc
-unread_written reading d (Some No) h is = let no : Some No ≡ Some Refused = is in cc
-unread_written reading d (Some Mistaken) h is = let no : Some Mistaken ≡ Some Refused = is in cc
-unread_written reading d (Some Failed) h is = let no : Some Failed ≡ Some Refused = is in cc
-unread_written reading d (Some Refused) (inl h) is = h
-unread_written reading d (Some Refused) (inr h) is = h.1
+pub not_parsed : (reading : Reading) (style : Style) (t : Text) (why : Option Reason) → IsNotRead (version_by reading) t why
+    → IsNotFormatted reading style t why
+not_parsed reading style t None h = tt
+not_parsed reading style t (Some No) h = absurd h
+not_parsed reading style t (Some Mistaken) h = absurd h
+not_parsed reading style t (Some Failed) h = h
+not_parsed reading style t (Some Refused) h = h
+
+module _ (reading : Reading) (style : Style) (file : Text) (old new : Option (List Event)) (left : Option Text) where
+  pub no-text-read : (why : Option Reason) → IsUnread (IsNoTextOf file old new left) why → IsUnformatted reading style file old new left why
+  no-text-read None h = tt
+  no-text-read (Some Failed) h = tt
+  no-text-read (Some Refused) (bytes, read, bad) = (bytes, read, inl bad)
+  no-text-read (Some No) h = absurd h
+  no-text-read (Some Mistaken) h = absurd h
+
+  pub no-text-held : (why : Option Reason) → IsUnread (IsNoHeldText file old new) why → IsUnformatted reading style file old new left why
+  no-text-held None h = tt
+  no-text-held (Some Failed) h = tt
+  no-text-held (Some Refused) (bytes, held, bad) = (bytes, inr held, inl bad)
+  no-text-held (Some No) h = absurd h
+  no-text-held (Some Mistaken) h = absurd h
+
+  pub none-formatted : (t : Text) (why : Option Reason) → IsReadOf file old new left t → IsNotFormatted reading style t why
+      → IsUnformatted reading style file old new left why
+  none-formatted t None read h = tt
+  none-formatted t (Some Failed) read h = tt
+  none-formatted t (Some Refused) read h = (t, read, inr h)
+  none-formatted t (Some No) read h = (t, read, h)
+  none-formatted t (Some Mistaken) read h = (t, read, h)
+
+  pub not-put : (why : Option Reason) → IsFor Failed why → IsUnformatted reading style file old new left why
+  not-put None is = tt
+  not-put (Some Failed) is = tt
+  not-put (Some No) (inl is) = absurd (let no : Some No ≡ None = is in cc)
+  not-put (Some No) (inr is) = absurd (let no : Some No ≡ Some Failed = is in cc)
+  not-put (Some Mistaken) (inl is) = absurd (let no : Some Mistaken ≡ None = is in cc)
+  not-put (Some Mistaken) (inr is) = absurd (let no : Some Mistaken ≡ Some Failed = is in cc)
+  not-put (Some Refused) (inl is) = absurd (let no : Some Refused ≡ None = is in cc)
+  not-put (Some Refused) (inr is) = absurd (let no : Some Refused ≡ Some Failed = is in cc)

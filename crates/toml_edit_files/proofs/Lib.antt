@@ -6,3 +6,9 @@ pub mod OutcomeLaws
 pub mod StopLaws
 pub mod FormatLaws
 pub mod RunLaws
+pub mod LineLaws
+pub mod ApartLaws
+pub mod UnmadeLaws
+pub mod RequestLaws
+pub mod SplitLaws
+pub mod OperandLaws

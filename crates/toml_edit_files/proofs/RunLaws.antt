@@ -1,54 +1,116 @@
 -- How commands end.
-use Rattle.std.proofs.Common.{◌≡◌, false, true, Bool, List, [], ℕ, ◌++◌, ◌∙◌, append-nil, refl, subst, sym, inl, inr, Bor}
-use Rattle.std.specs.Prelude.{◌⊎◌, ◌&&◌, ◌||◌, not, if◌then◌else◌, bytes_eq, codes, is_none, unwrap_or, Option, Some, None, Result, Ok, Err, IfOk, IfErr, MatchBool, string_bytes}
+use Rattle.std.proofs.Common.{◌≡◌, ◌≤◌, ◌+◌, false, true, Bool, List, [], ◌∷◌, ℕ, suc, ◌++◌, ◌∙◌, ap, length, length-append, take, arith, refl, subst, sym, inl, inr, Bor}
+use Rattle.std.specs.Prelude.{◌⊎◌, ◌&&◌, ◌||◌, not, ◌==◌, if◌then◌else◌, bytes_eq, codes, is_none, unwrap_or, Option, Some, None, Result, Ok, Err, IfOk, IfErr, MatchBool, Vec, string_bytes}
+use Rattle.std.specs.declared.alloc.Global.{Global}
 use Rattle.std.specs.Option.{option_copied}
+use Rattle.std.proofs.KnownBytes.{Appends-trans}
+use Rattle.std.proofs.lemmas.List.{take-append-le, take_all}
 use Rattle.std.specs.Io.KnownBytes.{Appends}
 use Rattle.toml_edit_io.specs.Streams.{AppendsBeginning}
-use Rattle.toml_edit_replace.specs.Events.{Text, Event}
+use Rattle.toml_edit_model.specs.Tree.{Tree}
+use Rattle.file_replace.specs.Events.{Text, Event}
 use Rattle.toml_edit_files.proofs.FolderLaws.{stops_looking}
+use Rattle.toml_edit_files.specs.Answers.{HasNoAnswer, file_of}
 use Rattle.toml_edit_files.specs.Checks.{IsReadAsRefused}
-use Rattle.toml_edit_files.specs.EditFiles.{EditsFile, is_in_place, is_shown, target_of}
-use Rattle.toml_edit_files.specs.Edited.{version_by}
+use Rattle.toml_edit_files.specs.EditFiles.{EditsFile, HasNoEdits, is_in_place, is_shown, target_of}
+use Rattle.toml_edit_files.specs.Edited.{IsReadFrom, version_by}
 use Rattle.toml_edit_files.specs.Folders.{IsTextOf, OnlyLooks, Stops, is_stream}
-use Rattle.toml_edit_files.specs.FormatFiles.{FormatsDone, FormatsElsewhere, FormatsFile, FormatsInPlace, IsFormatted}
-use Rattle.toml_edit_files.specs.Outcomes.{TellsOf, TellsWhy}
-use Rattle.toml_edit_files.specs.Runs.{AnswersQuestion, Ends, Writes}
-use Rattle.toml_edit_files.specs.Stops.{reason_of}
+use Rattle.toml_edit_files.specs.FormatFiles.{FormatsDone, FormatsElsewhere, FormatsFile, FormatsInPlace, IsFormatted, IsUnformatted}
+use Rattle.toml_edit_files.specs.Outcomes.{Tells, TellsOf, TellsOfFile, TellsWhy}
+use Rattle.toml_edit_files.specs.Requests.{IsNoRequest}
+use Rattle.toml_edit_files.specs.Runs.{Adds, AnswersQuestion, Ends, EndsCommand, HasNone, Writes, memory_line, write_line}
+use Rattle.toml_edit_files.specs.Stops.{IsMistaken, IsUnread, reason_of}
+use Rattle.toml_edit_files.specs.declared.stop.Reason.{Reason}
+use Rattle.toml_edit_files.specs.declared.stop.Reason.TheVariants as reasons
+use Rattle.toml_edit_files.specs.declared.stop.Stop.TheVariants as stops
+use Rattle.toml_edit_files.specs.declared.words.Command.TheVariants as commands
+use Rattle.toml_edit_files.specs.declared.words.Question.{Question}
+use Rattle.toml_edit_files.specs.declared.words.Question.TheVariants as questions
 use Rattle.toml_edit_files.specs.declared.outcome.Done.{Done}
 use Rattle.toml_edit_files.specs.declared.stop.Stop.{Stop}
-use Rattle.toml_edit_script.specs.declared.edit.Edit.{Edit}
+use Rattle.toml_edit_edits.specs.declared.edit.Edit.{Edit}
 use Rattle.toml_edit_files.specs.declared.told.Told.{Told}
 use Rattle.toml_edit_files.specs.declared.words.EditCommand.{EditCommand}
 use Rattle.toml_edit_files.specs.declared.words.Fmt.{Fmt}
 use Rattle.toml_edit_files.specs.declared.words.Reading.{Reading}
 
--- a file that is refused
-pub refused_file : (reading : Reading) (c : Fmt) (file : Text) (told : Told) (old new : Option (List Event)) → is_stream file ≡ false
-    → IsReadAsRefused (version_by reading) file old new → OnlyLooks old new → (told.status ≡ 1) ⊎ TellsWhy None told
-    → FormatsFile reading c file told old new
-refused_file reading c file told old new other bad looks (inl is) = inr (inl (is, other, bad))
-refused_file reading c file told old new other bad looks (inr tells) = inr (inr (None, stops_looking file old new None looks, tells))
+-- standard input that is formatted, or where that stops
+pub formatted_input : (reading : Reading) (c : Fmt) (file : Text) (told : Told) (old new : Option (List Event)) (left : Option Text)
+    (r : Result Done Stop) → is_stream file ≡ true → IfOk r (λ d. FormatsDone reading c file d.yes (string_bytes d.output) old new left)
+    → IfErr r (λ s. Stops file old new (reason_of s)) → IfErr r (λ s. IsUnformatted reading c.style file old new left (reason_of s))
+    → TellsOf r told → FormatsFile reading c file told old new left
+formatted_input reading c file told old new left (Ok d) stream done stop unmade tells = inl (d.yes, string_bytes d.output, done, tells)
+formatted_input reading c file told old new left (Err s) stream done stop unmade tells =
+    inr (inr (reason_of s, stop, (λ other. absurd (let e : true ≡ false = sym stream ∙ other in cc)), unmade, tells))
 
--- a file that is formatted, or where that stops
-pub formatted_file : (reading : Reading) (c : Fmt) (file : Text) (told : Told) (old new : Option (List Event)) (r : Result Done Stop)
-    → IfOk r (λ d. FormatsDone reading c file d.yes (string_bytes d.output) old new) → IfErr r (λ s. Stops file old new (reason_of s)) → TellsOf r told
-    → FormatsFile reading c file told old new
-formatted_file reading c file told old new (Ok d) done stops tells = inl (d.yes, string_bytes d.output, done, tells)
-formatted_file reading c file told old new (Err s) done stops tells = inr (inr (reason_of s, stops, tells))
+-- so is a file, which may be refused
+pub formatted_file : (reading : Reading) (c : Fmt) (file : Text) (told : Told) (old new : Option (List Event)) (left : Option Text)
+    (r : Result Done Stop) → is_stream file ≡ false → IfOk r (λ d. FormatsDone reading c file d.yes (string_bytes d.output) old new left)
+    → IfErr r (λ s. Stops file old new (reason_of s)) → IfErr r (λ s. IsUnformatted reading c.style file old new left (reason_of s))
+    → TellsOfFile r told → FormatsFile reading c file told old new left
+formatted_file reading c file told old new left (Ok d) other done stop unmade tells = inl (d.yes, string_bytes d.output, done, tells)
+formatted_file reading c file told old new left (Err stops.Memory) other done stop unmade tells =
+    inr (inr (None, stop, (λ named is. let e : None ≡ Some reasons.Refused = is in absurd cc), unmade, tells))
+formatted_file reading c file told old new left (Err (stops.Message reasons.Refused t)) other done stop unmade (inl is) =
+    inr (inl (is, other, unmade))
+formatted_file reading c file told old new left (Err (stops.Message reasons.Refused t)) other done stop unmade (inr tells) =
+    inr (inr (None, stops_looking file old new None stop, (λ named is. let e : None ≡ Some reasons.Refused = is in absurd cc), tt, tells))
+formatted_file reading c file told old new left (Err (stops.Message reasons.No t)) other done stop unmade tells =
+    inr (inr (Some reasons.No, stop, (λ named is. let e : Some reasons.No ≡ Some reasons.Refused = is in absurd cc), unmade, tells))
+formatted_file reading c file told old new left (Err (stops.Message reasons.Mistaken t)) other done stop unmade tells =
+    inr (inr (Some reasons.Mistaken, stop, (λ named is. let e : Some reasons.Mistaken ≡ Some reasons.Refused = is in absurd cc), unmade, tells))
+formatted_file reading c file told old new left (Err (stops.Message reasons.Failed t)) other done stop unmade tells =
+    inr (inr (Some reasons.Failed, stop, (λ named is. let e : Some reasons.Failed ≡ Some reasons.Refused = is in absurd cc), unmade, tells))
 
 -- ---- commands on one file
 
-module _ (old new : Option (List Event)) (left : Option Text) (told : Told) where
-  pub asked : (r : Result Done Stop) → IfOk r (λ d. AnswersQuestion old new left d.yes (string_bytes d.output)) → OnlyLooks old new → TellsOf r told
-      → Ends old new left told
-  asked (Ok d) answer looks tells = inl (d.yes, string_bytes d.output, inl answer, tells)
-  asked (Err s) answer looks tells = inr (inl (reason_of s, [], stops_looking [] old new (reason_of s) looks, tells))
+module _ (old new : Option (List Event)) (left : Option Text) (told : Told) (reading : Reading) where
+  pub asked : (q : Question) (r : Result Done Stop) → IfOk r (λ d. AnswersQuestion old new left reading q d.yes (string_bytes d.output))
+      → IfErr r (λ s. HasNone old new left reading q (reason_of s)) → OnlyLooks old new → TellsOf r told
+      → EndsCommand old new left reading (commands.Ask q) told
+  asked q (Ok d) answer none looks tells = inl (d.yes, string_bytes d.output, answer, tells)
+  asked q (Err s) answer none looks tells = inr (reason_of s, looks, none, tells)
 
-  pub edited : (reading : Reading) (c : EditCommand) (edits : List Edit) (r : Result Done Stop)
-      → IfOk r (λ d. EditsFile reading c edits old new (string_bytes d.output)) → IfOk r (λ d. d.yes ≡ true)
-      → IfErr r (λ s. Stops (target_of c) old new (reason_of s)) → TellsOf r told → Ends old new left told
-  edited reading c edits (Ok d) done said stops tells = inl (d.yes, string_bytes d.output, inr (inl (said, c, edits, reading, done)), tells)
-  edited reading c edits (Err s) done said stops tells = inr (inl (reason_of s, target_of c, stops, tells))
+  pub edited : (c : EditCommand) (edits : Vec Edit Global) (r : Result Done Stop)
+      → IfOk r (λ d. EditsFile reading c edits.items old new left (string_bytes d.output)) → IfOk r (λ d. d.yes ≡ true)
+      → IfErr r (λ s. Stops (target_of c) old new (reason_of s)) → IfErr r (λ s. HasNoEdits reading c edits.items old new left (reason_of s))
+      → TellsOf r told → EndsCommand old new left reading (commands.Edit c edits) told
+  edited c edits (Ok d) done said stops why tells =
+      inl (string_bytes d.output, done, subst (λ (b : Bool). Tells (if b then 0 else 1) (string_bytes d.output) told) said tells)
+  edited c edits (Err s) done said stops why tells = inr (reason_of s, stops, why, tells)
+
+-- no answer is refused as a file is
+not-refused : (q : Question) (x : Tree) → HasNoAnswer q x (Some reasons.Refused) → ⊥
+not-refused (questions.Get c) x (k, o, within, at, none) = none
+not-refused (questions.Has c) x none = none
+not-refused (questions.Keys c) x none = none
+not-refused (questions.Json c) x none = none
+
+-- why a question has no answer
+module _ (old new : Option (List Event)) (left : Option Text) (reading : Reading) (q : Question) where
+  pub unread-file : (why : Option Reason) → IsUnread (IsReadAsRefused (version_by reading) (file_of q) old new left) why → HasNone old new left reading q why
+  unread-file None h = tt
+  unread-file (Some reasons.Failed) h = tt
+  unread-file (Some reasons.Refused) h = h
+  unread-file (Some reasons.No) h = absurd h
+  unread-file (Some reasons.Mistaken) h = absurd h
+
+  pub unanswered : (x : Tree) (why : Option Reason) → IsReadFrom reading (file_of q) old new left x → HasNoAnswer q x why
+      → HasNone old new left reading q why
+  unanswered x None read none = tt
+  unanswered x (Some reasons.Failed) read none = tt
+  unanswered x (Some reasons.Refused) read none = absurd (not-refused q x none)
+  unanswered x (Some reasons.No) read none = (x, read, none)
+  unanswered x (Some reasons.Mistaken) read none = (x, read, none)
+
+-- words that ask for nothing
+pub misworded : (old : Option (List Event)) (left : Option Text) (words : List Text) (told : Told) (stop : Stop)
+    → IsMistaken (IsNoRequest words) (reason_of stop) → TellsOf (Err stop) told → Ends old old left words told
+misworded old left words told (stops.Message reasons.Mistaken text) none tells = inr (inl (none, refl, tells))
+misworded old left words told (stops.Message reasons.No text) none tells = absurd none
+misworded old left words told (stops.Message reasons.Failed text) none tells = absurd none
+misworded old left words told (stops.Message reasons.Refused text) none tells = absurd none
+misworded old left words told stops.Memory none tells = inr (inr (refl, tells))
 
 -- ---- where an edited text goes
 
@@ -87,28 +149,26 @@ stream_so file other ne is = not_false (is_stream file) (sym ne ∙ is)
 
 module _ (reading : Reading) (c : Fmt) (file before text : Text) (old new : Option (List Event)) (left : Option Text)
     (read : IsTextOf file old new left before) (laid : IsFormatted reading c.style before text) (yes : Bool) (output : Text) where
-  pub formats_out : c.check ≡ false → is_stream file ≡ true → yes ≡ true → output ≡ text → FormatsDone reading c file yes output old new
+  pub formats_out : c.check ≡ false → is_stream file ≡ true → yes ≡ true → output ≡ text → FormatsDone reading c file yes output old new left
   formats_out unchecked stream is_yes is =
-      chosen (FormatsElsewhere reading c file yes output old new) (FormatsInPlace reading c file yes output old new) (c.check || is_stream file)
+      chosen (FormatsElsewhere reading c file yes output old new left) (FormatsInPlace reading c file yes output old new) (c.check || is_stream file)
       (or_right c.check (is_stream file) stream)
       (record {
         before = before;
         text = text;
-        left = left;
         read = read;
         formatted = laid;
         answer = chosen_not _ _ c.check unchecked (is_yes, is);
       })
 
   pub formats_not : c.check ≡ true → yes ≡ bytes_eq text before
-      → output ≡ (if bytes_eq text before then [] else file ++ codes ": not formatted\n") → FormatsDone reading c file yes output old new
+      → output ≡ (if bytes_eq text before then [] else file ++ codes ": not formatted\n") → FormatsDone reading c file yes output old new left
   formats_not checked is_yes is =
-      chosen (FormatsElsewhere reading c file yes output old new) (FormatsInPlace reading c file yes output old new) (c.check || is_stream file)
+      chosen (FormatsElsewhere reading c file yes output old new left) (FormatsInPlace reading c file yes output old new) (c.check || is_stream file)
       (or_left c.check (is_stream file) checked)
       (record {
         before = before;
         text = text;
-        left = left;
         read = read;
         formatted = laid;
         answer = chosen _ _ c.check checked (is_yes, is);
@@ -126,23 +186,48 @@ target_in_place c is = named_so (is_shown c) c.output c.file.now is
 
 -- ---- no output
 
-pub appends_nothing : (o : Option (List ℕ)) → Appends o o []
-appends_nothing None = tt
-appends_nothing (Some xs) = sym (append-nil xs)
-
 module _ {O : Type 0} (contents : O → Option (List ℕ)) (old new : O) (status : ℕ) (output s : Text) (same : s ≡ output) (r : Bool)
     (made : MatchBool r (Appends (contents old) (contents new) s) (AppendsBeginning (contents old) (contents new) s))
     (none : s ≡ [] → (new ≡ old) × (r ≡ true)) where
-  pub written : r ≡ true → Writes contents old new status output status
+  pub written : r ≡ true → Writes contents old new status output status (if status == 3 then memory_line else [])
   written is =
       let m : Appends (contents old) (contents new) s = subst (λ (b : Bool). MatchBool b (Appends (contents old) (contents new) s)
       (AppendsBeginning (contents old) (contents new) s)) is made in
-      (λ e. ((none (same ∙ e)).0, refl), inl (refl, subst (λ (t : Text). Appends (contents old) (contents new) t) same m))
+      (λ e. ((none (same ∙ e)).0, refl), inl (refl, subst (λ (t : Text). Appends (contents old) (contents new) t) same m, refl))
 
-  pub unwritten : r ≡ false → Writes contents old new status output 4
+  pub unwritten : r ≡ false → Writes contents old new status output 4 write_line
   unwritten is =
       let m : AppendsBeginning (contents old) (contents new) s = subst (λ (b : Bool). MatchBool b (Appends (contents old) (contents new) s)
       (AppendsBeginning (contents old) (contents new) s)) is made in (
         λ e. absurd (let no : false ≡ true = sym is ∙ (none (same ∙ e)).1 in cc),
-        inr (refl, subst (λ (t : Text). AppendsBeginning (contents old) (contents new) t) same m),
+        inr (refl, subst (λ (t : Text). AppendsBeginning (contents old) (contents new) t) same m, refl),
       )
+
+-- ---- what is added to the errors
+
+take-both : (n : ℕ) (a b : List ℕ) → take (length a + n) (a ++ b) ≡ a ++ take n b
+take-both n [] b = ap (λ k. take k b) (let e : 0 + n ≡ n = omega arith in e)
+take-both n (x ∷ a) b =
+    let e : length (x ∷ a) + n ≡ suc (length a + n) = omega arith in
+    ap (λ k. take k (x ∷ (a ++ b))) e ∙ ap (λ l. x ∷ l) (take-both n a b)
+
+-- the first text fails, or the second may
+pub adds-begun : (old new : Option (List ℕ)) (failed : Bool) (a b : List ℕ) → AppendsBeginning old new a → failed ≡ true → Adds old new failed (a ++ b)
+adds-begun old new failed a b (n, within, appends) is = (
+  (n, (let long = length-append a b in omega (arith, within, long)), subst (Appends old new) (sym (take-append-le n a b within)) appends),
+  (λ works. absurd (let no : false ≡ true = sym works ∙ is in cc)),
+)
+
+pub adds-both : (old mid new : Option (List ℕ)) (failed : Bool) (a b : List ℕ) (r : Bool) → Appends old mid a
+    → MatchBool r (Appends mid new b) (AppendsBeginning mid new b) → (r ≡ false → failed ≡ true) → Adds old new failed (a ++ b)
+adds-both old mid new failed a b true p q fails =
+    let all = Appends-trans old mid new a b p q in
+    ((length (a ++ b), omega arith, subst (Appends old new) (sym (take_all (length (a ++ b)) (a ++ b) (omega arith))) all), (λ works. all))
+adds-both old mid new failed a b false p (n, within, q) fails = (
+  (
+    length a + n,
+    (let long = length-append a b in omega (arith, within, long)),
+    subst (Appends old new) (sym (take-both n a b)) (Appends-trans old mid new a (take n b) p q),
+  ),
+  (λ works. absurd (let no : false ≡ true = sym works ∙ fails refl in cc)),
+)

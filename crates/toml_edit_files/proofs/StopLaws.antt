@@ -3,7 +3,7 @@ use Rattle.std.proofs.Common.{◌≡◌, subst, sym, inl, inr}
 use Rattle.std.specs.Prelude.{Option, Some, None, Result, Ok, Err, IfErr, IsErrAnd, OnErr}
 use Rattle.std.proofs.lemmas.Result.{err_from_is_err_and}
 use Rattle.toml_edit_model.specs.Version.{Version}
-use Rattle.toml_edit_replace.specs.Events.{Text}
+use Rattle.file_replace.specs.Events.{Text}
 use Rattle.toml_edit_files.specs.Edited.{IsAccepted, IsNotRead}
 use Rattle.toml_edit_files.specs.Stops.{IsFor, IsUnread, reason_of}
 use Rattle.toml_edit_files.specs.declared.stop.Reason.{Reason}

@@ -1,17 +1,24 @@
 -- What `edit` does with files.
-use Rattle.std.specs.Prelude.{◌≡◌, Bool, not, ◌&&◌, ◌||◌, MatchBool, List, [], ◌++◌, Option, Some, None, is_none, unwrap_or}
+use Rattle.std.specs.Prelude.{◌≡◌, ◌⊎◌, Bool, not, ◌&&◌, ◌||◌, IsTrue, MatchBool, List, [], ◌++◌, Option, Some, None, is_none, unwrap_or}
 use Rattle.std.specs.Option.{option_copied}
-use Rattle.toml_edit_replace.specs.Events.{Text, Event}
-use Rattle.toml_edit_script.specs.declared.edit.Edit.{Edit}
-use Rattle.toml_edit_files.specs.Edited.{IsEdited}
-use Rattle.toml_edit_files.specs.Folders.{IsHeld, IsPut, IsPutAt, IsTextOf, OnlyLooks, is_stream}
+use Rattle.std.specs.Str.{IsUtf8}
+use Rattle.file_replace.specs.Events.{Text, Event}
+use Rattle.toml_edit_edits.specs.declared.edit.Edit.{Edit}
+use Rattle.toml_edit_files.specs.Edited.{IsEdited, IsInForm, IsNotEdited, version_by}
+use Rattle.toml_edit_files.specs.Folders.{IsHeld, IsNoTextOf, IsPut, IsPutAt, IsReadOf, IsTextOf, LeavesInput, OnlyLooks, is_stream}
+use Rattle.toml_edit_files.specs.Lines.{SaysScript}
+use Rattle.toml_edit_files.specs.declared.stop.Reason.{Reason}
+use Rattle.toml_edit_files.specs.declared.stop.Reason.TheVariants.{Mistaken, Failed, Refused}
 use Rattle.toml_edit_files.specs.declared.words.EditCommand.{EditCommand}
 use Rattle.toml_edit_files.specs.declared.words.Reading.{Reading}
 
--- the edits of a script, if there is one, are before those of the words
-abbrev pub ScriptedFirst : Option Text → List Edit → List Edit → Type 0
-ScriptedFirst None edits all = all ≡ edits
-ScriptedFirst (Some script) edits all = (scripted : List Edit) × (all ≡ scripted ++ edits)
+-- The edits that a script says, if there is one, are before those of the words.
+abbrev pub ScriptedFirst : Reading → Option Text → Option (List Event) → Option (List Event)
+    → Option Text → Option Text → List Edit → List Edit → Type 0
+ScriptedFirst reading None old new left rest edits all = (new ≡ old) × (rest ≡ left) × (all ≡ edits)
+ScriptedFirst reading (Some script) old new left rest edits all =
+    (t : Text) × (scripted : List Edit) × IsTextOf script old new left t
+    × LeavesInput script left rest × SaysScript (version_by reading) t scripted × (all ≡ scripted ++ edits)
 
 -- ---- where the text goes
 
@@ -24,35 +31,69 @@ is_shown c = c.dry_run || is_stream (target_of c)
 abbrev pub is_in_place : EditCommand → Bool
 is_in_place c = not (is_shown c) && is_none c.output
 
-module _ (reading : Reading) (c : EditCommand) (all : List Edit) (old new : Option (List Event)) (output : Text) where
+module _ (reading : Reading) (c : EditCommand) (all : List Edit) (old new : Option (List Event)) where
   -- What the edits leave of the text of the file replaces it, unless it is the same, or the file holds
-  -- another text by then.
-  pub record EditsInPlace : Type 0 where
+  -- another text by then. One that is locked is in its normal form.
+  pub record EditsInPlace (output : Text) : Type 0 where
     pub name : Text
     pub before : Text
     pub text : Text
     pub read : Option (List Event)
     pub held : IsHeld c.file.now name old read before
+    pub locked : IsTrue c.locked → IsInForm reading before
     pub edited : IsEdited reading all before text
     pub puts : IsPut c.force name before text read new
     pub silent : output ≡ []
 
   -- It goes to standard output, or replaces another file.
-  pub record EditsElsewhere : Type 0 where
+  pub record EditsElsewhere (left : Option Text) (output : Text) : Type 0 where
     pub before : Text
     pub text : Text
     pub read : Option (List Event)
-    pub left : Option Text
     pub file : IsTextOf c.file.now old read left before
+    pub locked : IsTrue c.locked → IsInForm reading before
     pub edited : IsEdited reading all before text
     pub puts : MatchBool (is_shown c) ((output ≡ text) × (new ≡ read))
         ((output ≡ []) × IsPutAt c.force (target_of c) text read new)
 
 -- the file is edited once the script is read
 abbrev pub EditsFile : Reading → EditCommand → List Edit → Option (List Event) → Option (List Event)
-    → Text → Type 0
-EditsFile reading c edits old new output =
-    (all : List Edit) × (scripted : Option (List Event)) × OnlyLooks old scripted
-    × ScriptedFirst (option_copied c.script) edits all
+    → Option Text → Text → Type 0
+EditsFile reading c edits old new left output =
+    (all : List Edit) × (scripted : Option (List Event)) × (rest : Option Text)
+    × OnlyLooks old scripted
+    × ScriptedFirst reading (option_copied c.script) old scripted left rest edits all
     × MatchBool (is_in_place c) (EditsInPlace reading c all scripted new output)
-    (EditsElsewhere reading c all scripted new output)
+    (EditsElsewhere reading c all scripted new rest output)
+
+-- ---- why it is not
+
+-- Where memory has not run out and no call has failed, the text of the file is not UTF-8, or the edits
+-- leave nothing of it that is written.
+abbrev pub IsUnmade : Reading → EditCommand → List Edit → Option (List Event) → Option (List Event)
+    → Option Text → Option Reason → Type 0
+IsUnmade reading c all old new left None = Unit {0}
+IsUnmade reading c all old new left (Some Failed) = Unit {0}
+IsUnmade reading c all old new left (Some why) =
+    (t : Text) × IsReadOf c.file.now old new left t
+    × (((why ≡ Refused) × ¬ (IsUtf8 t)) ⊎ IsNotEdited reading c.locked all t (Some why))
+
+-- so the script is not UTF-8, or says no edits
+abbrev pub HasNoScript : Reading → Option Text → Option (List Event) → Option (List Event)
+    → Option Text → Option Reason → Type 0
+HasNoScript reading script old new left None = Unit {0}
+HasNoScript reading script old new left (Some Failed) = Unit {0}
+HasNoScript reading (Some script) old new left (Some Refused) = IsNoTextOf script old new left
+HasNoScript reading (Some script) old new left (Some Mistaken) =
+    (t : Text) × IsTextOf script old new left t
+    × ((es : List Edit) → SaysScript (version_by reading) t es → ⊥)
+HasNoScript reading script old new left (Some _) = ⊥
+
+abbrev pub HasNoEdits : Reading → EditCommand → List Edit → Option (List Event) → Option (List Event)
+    → Option Text → Option Reason → Type 0
+HasNoEdits reading c edits old new left why =
+    HasNoScript reading (option_copied c.script) old new left why
+    ⊎ ((all : List Edit) × (scripted : Option (List Event)) × (rest : Option Text)
+    × OnlyLooks old scripted
+    × ScriptedFirst reading (option_copied c.script) old scripted left rest edits all
+    × IsUnmade reading c all scripted new rest why)

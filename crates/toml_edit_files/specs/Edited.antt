@@ -13,10 +13,10 @@ use Rattle.toml_edit_model.specs.Version.{Version, v1_0, v1_1}
 use Rattle.toml_edit.specs.DocumentView.{mode_owned, open_owned, print_of, tree_owned}
 use Rattle.toml_edit.specs.Documents.{IsOwnedReadingIn, MeansWhatIsShown}
 use Rattle.toml_edit.specs.declared.document.DocumentMut.{DocumentMut}
-use Rattle.toml_edit_replace.specs.Events.{Event}
+use Rattle.file_replace.specs.Events.{Event}
 use Rattle.toml_edit_files.specs.Folders.{IsTextOf}
-use Rattle.toml_edit_script.specs.Lists.{applied}
-use Rattle.toml_edit_script.specs.declared.edit.Edit.{Edit}
+use Rattle.toml_edit_edits.specs.Lists.{applied}
+use Rattle.toml_edit_edits.specs.declared.edit.Edit.{Edit}
 use Rattle.toml_edit_files.specs.declared.stop.Reason.{Reason}
 use Rattle.toml_edit_files.specs.declared.stop.Reason.TheVariants.{No, Mistaken, Failed, Refused}
 use Rattle.toml_edit_files.specs.declared.words.Reading.{Reading}

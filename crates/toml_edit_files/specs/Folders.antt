@@ -2,8 +2,8 @@
 use Rattle.std.specs.Prelude.{◌≡◌, ◌⊎◌, Bool, true, false, MatchBool, List, [], ◌∷◌, Option, Some, None, IfSome, bytes_eq, codes}
 use Rattle.std.specs.Str.{IsUtf8}
 use Rattle.std.specs.List.{list_all}
-use Rattle.toml_edit_replace.specs.Events.{Text, Call, Event, found, leads_to, locked, writable, done, more}
-use Rattle.toml_edit_replace.specs.Replacing.{Asked, IsReplaced, StopsReplacing}
+use Rattle.file_replace.specs.Events.{Text, Call, Event, found, leads_to, locked, writable, done, more}
+use Rattle.file_replace.specs.Replacing.{Asked, IsReplaced, StopsReplacing}
 use Rattle.toml_edit_files.specs.declared.stop.Reason.{Reason}
 use Rattle.toml_edit_files.specs.declared.stop.Reason.TheVariants.{Failed}
 
@@ -30,6 +30,10 @@ IsTextOf name old new left s =
     MatchBool (is_stream name) ((new ≡ old) × IfSome left (λ bytes. s ≡ bytes))
     (new ≡ more (done (found name s) ∷ []) old)
 
+-- what is left of the input, unless the file is the input
+abbrev pub LeavesInput : Text → Option Text → Option Text → Type 0
+LeavesInput name left rest = is_stream name ≡ false → rest ≡ left
+
 abbrev pub leads : Text → Text → Option (List Event) → Option (List Event)
 leads file name old = more (done (leads_to file name) ∷ []) old
 
@@ -39,14 +43,20 @@ IsHeld file name old new s =
     new ≡ more (done (locked name) ∷ done (found name s) ∷ []) (leads file name old)
 
 -- the bytes are read of the file, in one of these ways
-abbrev pub IsReadOf : Text → Option (List Event) → Option (List Event) → Text → Type 0
-IsReadOf file old new bytes =
-    ((left : Option Text) × IsTextOf file old new left bytes)
+abbrev pub IsReadOf : Text → Option (List Event) → Option (List Event) → Option Text → Text → Type 0
+IsReadOf file old new left bytes =
+    IsTextOf file old new left bytes
     ⊎ ((name : Text) × IsHeld file name old new bytes)
 
--- what it holds is not UTF-8
-abbrev pub IsNoTextOf : Text → Option (List Event) → Option (List Event) → Type 0
-IsNoTextOf file old new = (bytes : Text) × IsReadOf file old new bytes × ¬ (IsUtf8 bytes)
+-- what it holds is not UTF-8, in the second way
+abbrev pub IsNoHeldText : Text → Option (List Event) → Option (List Event) → Type 0
+IsNoHeldText file old new =
+    (bytes : Text) × ((name : Text) × IsHeld file name old new bytes) × ¬ (IsUtf8 bytes)
+
+-- in one of them
+abbrev pub IsNoTextOf : Text → Option (List Event) → Option (List Event) → Option Text → Type 0
+IsNoTextOf file old new left =
+    (bytes : Text) × IsReadOf file old new left bytes × ¬ (IsUtf8 bytes)
 
 -- ---- replacements
 

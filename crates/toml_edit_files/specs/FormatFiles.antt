@@ -1,5 +1,5 @@
 -- What `fmt` does with files.
-use Rattle.std.specs.Prelude.{◌≡◌, ◌⊎◌, Bool, true, false, not, ◌||◌, if◌then◌else◌, MatchBool, List, [], ◌∷◌, ◌++◌, Option, Result, Ok, Err, bytes_eq, codes}
+use Rattle.std.specs.Prelude.{◌≡◌, ◌≢◌, ◌⊎◌, Bool, true, false, not, ◌||◌, if◌then◌else◌, MatchBool, List, [], ◌∷◌, ◌++◌, Option, Some, None, Result, Ok, Err, bytes_eq, codes}
 use Rattle.toml_edit_model.specs.Accepted.{AcceptedAs}
 use Rattle.toml_edit_model.specs.Shown.{shown_meaning}
 use Rattle.toml_edit_model.specs.Syntax.{Document}
@@ -9,18 +9,19 @@ use Rattle.toml_edit_fmt_laws.specs.BareKeys.{bared}
 use Rattle.toml_edit_fmt_laws.specs.FormattedTree.{formatted}
 use Rattle.toml_edit_fmt_laws.specs.Rules.{Rules}
 use Rattle.toml_edit_fmt_laws.specs.TreeLaws.{PrintsFormattedText, formatted_text}
-use Rattle.toml_edit_replace.specs.Events.{Text, Event}
-use Rattle.toml_edit_script.specs.Lists.{effect}
-use Rattle.toml_edit_script.specs.Outcomes.{and_then}
-use Rattle.toml_edit_script.specs.declared.edit.Edit.{Edit}
-use Rattle.toml_edit_script.specs.declared.fault.EditFault.{EditFault}
-use Rattle.toml_edit_script.specs.declared.fault.EditFault.TheVariants.{NoSuchPath}
+use Rattle.file_replace.specs.Events.{Text, Event}
+use Rattle.toml_edit_edits.specs.Lists.{effect}
+use Rattle.toml_edit_edits.specs.Outcomes.{and_then}
+use Rattle.toml_edit_edits.specs.declared.edit.Edit.{Edit}
+use Rattle.toml_edit_edits.specs.declared.fault.EditFault.{EditFault}
+use Rattle.toml_edit_edits.specs.declared.fault.EditFault.TheVariants.{NoSuchPath}
 use Rattle.toml_edit_files.specs.Checks.{IsReadAsRefused}
-use Rattle.toml_edit_files.specs.Edited.{IsLeft, IsRead, mark_of, mode_by, version_by}
-use Rattle.toml_edit_files.specs.Folders.{IsHeld, IsPut, IsTextOf, Stops, is_stream}
+use Rattle.toml_edit_files.specs.Edited.{IsAccepted, IsLeft, IsRead, mark_of, mode_by, version_by}
+use Rattle.toml_edit_files.specs.Folders.{IsHeld, IsPut, IsReadOf, IsTextOf, Stops, is_stream}
 use Rattle.toml_edit_files.specs.Outcomes.{Tells, TellsWhy}
 use Rattle.toml_edit_files.specs.declared.told.Told.{Told}
 use Rattle.toml_edit_files.specs.declared.stop.Reason.{Reason}
+use Rattle.toml_edit_files.specs.declared.stop.Reason.TheVariants.{No, Mistaken, Failed, Refused}
 use Rattle.toml_edit_files.specs.declared.words.Fmt.{Fmt}
 use Rattle.toml_edit_files.specs.declared.words.Reading.{Reading}
 use Rattle.toml_edit_files.specs.declared.words.Style.{Style}
@@ -54,17 +55,48 @@ IsFormattedOnly reading before x s =
     × (s ≡ mark_of reading.normal before
     ++ formatted_text (mode_by reading) (rules_by reading before) d x)
 
--- The text before is read. What the sorts leave of its tree is formatted, which shows the same, and
--- written with no edit more.
-pub record IsFormatted (reading : Reading) (style : Style) (before s : Text) : Type 0 where
-  pub tree : Tree
-  pub is_open : Bool
+-- What the sorts leave of the tree is formatted, which shows the same, and written with no edit more.
+pub record IsLaidOut (reading : Reading) (style : Style) (tree : Tree) (is_open : Bool)
+    (before s : Text) : Type 0 where
   pub left : Tree
-  pub read : IsRead reading before tree is_open
   pub sorted : sorted_by style.sorts.items tree ≡ Ok left
   pub shows : shown_meaning (formatted_by reading style.keys before left) ≡ shown_meaning left
   pub written : IsLeft reading [] (formatted_by reading style.keys before left) is_open before s
   pub unsorted : style.sorts.items ≡ [] → style.keys ≡ false → IsFormattedOnly reading before tree s
+
+-- the text before is read, and so is its tree written
+abbrev pub IsFormatted : Reading → Style → Text → Text → Type 0
+IsFormatted reading style before s =
+    (tree : Tree) × (is_open : Bool) × IsRead reading before tree is_open
+    × IsLaidOut reading style tree is_open before s
+
+-- ---- refusals
+
+-- why sorts are not made, where memory has not run out
+abbrev pub IsNotSorted : Result Tree EditFault → Option Reason → Type 0
+IsNotSorted made None = Unit {0}
+IsNotSorted made (Some No) = (x : Tree) → made ≢ Ok x
+IsNotSorted made (Some Mistaken) = (x : Tree) → made ≢ Ok x
+IsNotSorted made (Some _) = ⊥
+
+-- why a text is not formatted: it is not read; or it is, and no text is its formatted one
+abbrev pub IsNotFormatted : Reading → Style → Text → Option Reason → Type 0
+IsNotFormatted reading style t None = Unit {0}
+IsNotFormatted reading style t (Some Failed) = ⊥
+IsNotFormatted reading style t (Some Refused) = ¬ (IsAccepted (version_by reading) t)
+IsNotFormatted reading style t (Some _) =
+    (x : Tree) × (is_open : Bool) × IsRead reading t x is_open
+    × ((s : Text) → ¬ (IsLaidOut reading style x is_open t s))
+
+-- Where memory has not run out and no call has failed, the file is refused, or has no formatted text.
+abbrev pub IsUnformatted : Reading → Style → Text → Option (List Event) → Option (List Event)
+    → Option Text → Option Reason → Type 0
+IsUnformatted reading style file old new left None = Unit {0}
+IsUnformatted reading style file old new left (Some Failed) = Unit {0}
+IsUnformatted reading style file old new left (Some Refused) =
+    IsReadAsRefused (version_by reading) file old new left
+IsUnformatted reading style file old new left (Some why) =
+    (t : Text) × IsReadOf file old new left t × IsNotFormatted reading style t (Some why)
 
 -- ---- what becomes of a file
 
@@ -83,24 +115,27 @@ module _ (reading : Reading) (c : Fmt) (file : Text) (is_yes : Bool) (output : T
     pub answer : (is_yes ≡ true) × (output ≡ [])
 
   -- Under `--check` it is asked whether they are the same, and else the text is written.
-  pub record FormatsElsewhere : Type 0 where
+  pub record FormatsElsewhere (left : Option Text) : Type 0 where
     pub before : Text
     pub text : Text
-    pub left : Option Text
     pub read : IsTextOf file old new left before
     pub formatted : IsFormatted reading c.style before text
     pub answer : MatchBool c.check ((is_yes ≡ bytes_eq text before)
         × (output ≡ (if bytes_eq text before then [] else file ++ codes ": not formatted\n")))
         ((is_yes ≡ true) × (output ≡ text))
 
-  abbrev pub FormatsDone : Type 0
-  FormatsDone = MatchBool (c.check || is_stream file) FormatsElsewhere FormatsInPlace
+  abbrev pub FormatsDone : Option Text → Type 0
+  FormatsDone left = MatchBool (c.check || is_stream file) (FormatsElsewhere left) FormatsInPlace
 
 -- It is formatted; it is refused, which is written, but of standard input never, whose text is to be
--- there; or it is not done.
-abbrev pub FormatsFile : Reading → Fmt → Text → Told → Option (List Event) → Option (List Event) → Type 0
-FormatsFile reading c file told old new =
-    ((is_yes : Bool) × (output : Text) × FormatsDone reading c file is_yes output old new
+-- there; or it is not done, for another reason, that is so.
+abbrev pub FormatsFile : Reading → Fmt → Text → Told → Option (List Event) → Option (List Event)
+    → Option Text → Type 0
+FormatsFile reading c file told old new left =
+    ((is_yes : Bool) × (output : Text) × FormatsDone reading c file is_yes output old new left
     × Tells (if is_yes then 0 else 1) output told)
-    ⊎ ((told.status ≡ 1) × (is_stream file ≡ false) × IsReadAsRefused (version_by reading) file old new)
-    ⊎ ((why : Option Reason) × Stops file old new why × TellsWhy why told)
+    ⊎ ((told.status ≡ 1) × (is_stream file ≡ false)
+    × IsReadAsRefused (version_by reading) file old new left)
+    ⊎ ((why : Option Reason) × Stops file old new why
+    × (is_stream file ≡ false → why ≢ Some Refused)
+    × IsUnformatted reading c.style file old new left why × TellsWhy why told)

@@ -1,11 +1,14 @@
 -- What commands come to, on one file and on several.
-use Rattle.std.specs.Prelude.{◌≡◌, ◌≢◌, ◌<◌, ◌⊎◌, ℕ, max, if◌then◌else◌, List, [], ◌∷◌, length, map, flat_map, Option, Result, Ok, Err, string_bytes}
-use Rattle.toml_edit_replace.specs.Events.{Text, Event}
+use Rattle.std.specs.Prelude.{◌≡◌, ◌≢◌, ◌<◌, ◌⊎◌, ℕ, max, if◌then◌else◌, List, [], ◌∷◌, length, map, flat_map, None, Option, Result, Ok, Err, string_bytes}
+use Rattle.file_replace.specs.Events.{Text, Event}
+use Rattle.toml_edit_files.specs.Folders.{LeavesInput}
 use Rattle.toml_edit_files.specs.Stops.{reason_of, status_of}
 use Rattle.toml_edit_files.specs.declared.outcome.Done.{Done}
 use Rattle.toml_edit_files.specs.declared.told.Told.{Told}
 use Rattle.toml_edit_files.specs.declared.stop.Reason.{Reason}
+use Rattle.toml_edit_files.specs.declared.stop.Reason.TheVariants.{Refused}
 use Rattle.toml_edit_files.specs.declared.stop.Stop.{Stop}
+use Rattle.toml_edit_files.specs.declared.stop.Stop.TheVariants.{Message}
 
 -- the status and the output of a command
 abbrev pub Tells : ℕ → Text → Told → Type 0
@@ -19,6 +22,11 @@ abbrev pub TellsOf : Result Done Stop → Told → Type 0
 TellsOf (Ok done) told = Tells (if done.yes then 0 else 1) (string_bytes done.output) told
 TellsOf (Err stop) told = TellsWhy (reason_of stop) told
 
+-- those of a file, of which a refusal is an answer that is no
+abbrev pub TellsOfFile : Result Done Stop → Told → Type 0
+TellsOfFile (Err (Message Refused text)) told = (told.status ≡ 1) ⊎ TellsWhy None told
+TellsOfFile outcome told = TellsOf outcome told
+
 -- ---- several files
 
 -- the worst status, which is the greatest
@@ -26,21 +34,23 @@ abbrev pub worst : List ℕ → ℕ
 worst [] = 0
 worst (status ∷ statuses) = max status (worst statuses)
 
-module _ (Does : Text → Told → Option (List Event) → Option (List Event) → Type 0) where
+module _ (Does : Text → Told → Option (List Event) → Option (List Event) → Option Text → Type 0) where
   -- Each file is done, one after another, and has its outcome. Where memory runs out at one, it has
   -- none, and the files after it are not touched.
-  abbrev pub AreDone : List Text → List Told → Option (List Event) → Option (List Event) → Type 0
-  AreDone [] [] old new = new ≡ old
-  AreDone [] (told ∷ more) old new = ⊥
-  AreDone (name ∷ names) [] old new = (told : Told) × Does name told old new
-  AreDone (name ∷ names) (told ∷ more) old new =
-      (next : Option (List Event)) × Does name told old next × (told.status ≢ 3)
-      × AreDone names more next new
+  abbrev pub AreDone : List Text → List Told → Option (List Event) → Option (List Event) → Option Text
+      → Type 0
+  AreDone [] [] old new left = new ≡ old
+  AreDone [] (told ∷ more) old new left = ⊥
+  AreDone (name ∷ names) [] old new left = (told : Told) × Does name told old new left
+  AreDone (name ∷ names) (told ∷ more) old new left =
+      (next : Option (List Event)) × (rest : Option Text) × Does name told old next left
+      × LeavesInput name left rest × (told.status ≢ 3) × AreDone names more next new rest
 
   -- the worst status of them, and their output, one after another
-  pub record DoesAll (names : List Text) (old new : Option (List Event)) (all : Told) : Type 0 where
+  pub record DoesAll (names : List Text) (old new : Option (List Event)) (left : Option Text)
+      (all : Told) : Type 0 where
     pub told : List Told
-    pub done : AreDone names told old new
+    pub done : AreDone names told old new left
     pub status : ((length told ≡ length names) × (all.status ≡ worst (map (λ t. t.status) told)))
         ⊎ ((length told < length names) × (all.status ≡ 3))
     pub output : string_bytes all.output ≡ flat_map (λ t. string_bytes t.output) told

@@ -1,54 +1,84 @@
 -- What a run has done.
-use Rattle.std.specs.Prelude.{◌≡◌, ◌⊎◌, ℕ, Bool, true, if◌then◌else◌, List, [], map, Option}
+use Rattle.std.specs.Prelude.{◌≡◌, ◌⊎◌, ℕ, Bool, true, false, ◌==◌, if◌then◌else◌, List, [], ◌++◌, map, Option, Some, None, codes, string_bytes}
 use Rattle.std.specs.Io.KnownBytes.{Appends}
 use Rattle.toml_edit_io.specs.Streams.{AppendsBeginning}
+use Rattle.toml_edit_model.specs.Text.{newline}
 use Rattle.toml_edit_model.specs.Tree.{Tree}
-use Rattle.toml_edit_model.specs.Version.{Version}
-use Rattle.toml_edit_replace.specs.Events.{Text, Event}
-use Rattle.toml_edit_script.specs.declared.edit.Edit.{Edit}
-use Rattle.toml_edit_files.specs.Answers.{IsAnswer, file_of}
-use Rattle.toml_edit_files.specs.Checks.{ChecksFile}
-use Rattle.toml_edit_files.specs.EditFiles.{EditsFile}
-use Rattle.toml_edit_files.specs.Edited.{IsReadFrom}
-use Rattle.toml_edit_files.specs.Folders.{Stops}
+use Rattle.file_replace.specs.Events.{Text, Event}
+use Rattle.toml_edit_files.specs.Answers.{HasNoAnswer, IsAnswer, file_of}
+use Rattle.toml_edit_files.specs.Checks.{ChecksFile, IsReadAsRefused}
+use Rattle.toml_edit_files.specs.EditFiles.{EditsFile, HasNoEdits, target_of}
+use Rattle.toml_edit_files.specs.Edited.{IsReadFrom, version_by}
+use Rattle.toml_edit_files.specs.Folders.{OnlyLooks, Stops}
 use Rattle.toml_edit_files.specs.FormatFiles.{FormatsFile}
 use Rattle.toml_edit_files.specs.Outcomes.{DoesAll, Tells, TellsWhy}
+use Rattle.toml_edit_files.specs.Requests.{IsNoRequest, SaysRequest}
 use Rattle.toml_edit_files.specs.declared.told.Told.{Told}
 use Rattle.toml_edit_files.specs.declared.stop.Reason.{Reason}
-use Rattle.toml_edit_files.specs.declared.words.EditCommand.{EditCommand}
-use Rattle.toml_edit_files.specs.declared.words.Fmt.{Fmt}
+use Rattle.toml_edit_files.specs.declared.stop.Reason.TheVariants.{Failed, Refused}
+use Rattle.toml_edit_files.specs.declared.words.Command.{Command}
+use Rattle.toml_edit_files.specs.declared.words.Command.TheVariants.{Show, Ask, Edit, Check, Fmt}
 use Rattle.toml_edit_files.specs.declared.words.Question.{Question}
 use Rattle.toml_edit_files.specs.declared.words.Reading.{Reading}
+use Rattle.toml_edit_files.specs.declared.words.Request.{Request}
 
 module _ (old new : Option (List Event)) (left : Option Text) where
-  -- the output is the answer to a question about a file
-  abbrev pub AnswersQuestion : Bool → Text → Type 0
-  AnswersQuestion is_yes output =
-      (q : Question) × (reading : Reading) × (x : Tree)
-      × IsReadFrom reading (file_of q) old new left x × IsAnswer q x is_yes output
+  -- the output is the answer to the question about its file
+  abbrev pub AnswersQuestion : Reading → Question → Bool → Text → Type 0
+  AnswersQuestion reading q is_yes output =
+      (x : Tree) × IsReadFrom reading (file_of q) old new left x × IsAnswer q x is_yes output
 
-  -- a command on one file, or of help, is done, and this is its answer and its output
-  abbrev pub IsDone : Bool → Text → Type 0
-  IsDone is_yes output =
-      AnswersQuestion is_yes output
-      ⊎ ((is_yes ≡ true) × (c : EditCommand) × (edits : List Edit) × (reading : Reading)
-      × EditsFile reading c edits old new output)
-      ⊎ ((is_yes ≡ true) × (new ≡ old))
+  -- Why it has none: memory ran out or a call failed, its file is refused, or what that holds is read
+  -- and has no answer.
+  abbrev pub HasNone : Reading → Question → Option Reason → Type 0
+  HasNone reading q None = Unit {0}
+  HasNone reading q (Some Failed) = Unit {0}
+  HasNone reading q (Some Refused) = IsReadAsRefused (version_by reading) (file_of q) old new left
+  HasNone reading q (Some why) =
+      (x : Tree) × IsReadFrom reading (file_of q) old new left x × HasNoAnswer q x (Some why)
 
-  -- The command is done; it stops, and has no output; or it goes over files, and is done with each.
-  abbrev pub Ends : Told → Type 0
-  Ends told =
-      ((is_yes : Bool) × (output : Text) × IsDone is_yes output
+  -- The command is done; or it stops, and has no output. One on several files is done with each.
+  abbrev pub EndsCommand : Reading → Command → Told → Type 0
+  EndsCommand reading (Show text) told = (new ≡ old) × Tells 0 (string_bytes text) told
+  EndsCommand reading (Ask q) told =
+      ((is_yes : Bool) × (output : Text) × AnswersQuestion reading q is_yes output
       × Tells (if is_yes then 0 else 1) output told)
-      ⊎ ((why : Option Reason) × (file : Text) × Stops file old new why × TellsWhy why told)
-      ⊎ ((version : Version) × (names : List Text) × DoesAll (ChecksFile version) names old new told)
-      ⊎ ((reading : Reading) × (c : Fmt)
-      × DoesAll (FormatsFile reading c) (map (λ f. f.now) c.files.items) old new told)
+      ⊎ ((why : Option Reason) × OnlyLooks old new × HasNone reading q why × TellsWhy why told)
+  EndsCommand reading (Edit c edits) told =
+      ((output : Text) × EditsFile reading c edits.items old new left output × Tells 0 output told)
+      ⊎ ((why : Option Reason) × Stops (target_of c) old new why
+      × HasNoEdits reading c edits.items old new left why × TellsWhy why told)
+  EndsCommand reading (Check files) told =
+      DoesAll (ChecksFile (version_by reading)) (map (λ f. f.now) files.items) old new left told
+  EndsCommand reading (Fmt c) told =
+      DoesAll (FormatsFile reading c) (map (λ f. f.now) c.files.items) old new left told
+
+  -- The words ask for a command, and so it ends; they ask for none, which has status 2; or memory runs
+  -- out. Of the last two no file is read.
+  abbrev pub Ends : List Text → Told → Type 0
+  Ends words told =
+      ((q : Request) × SaysRequest words q × EndsCommand q.reading q.command told)
+      ⊎ (IsNoRequest words × (new ≡ old) × Tells 2 [] told)
+      ⊎ ((new ≡ old) × TellsWhy None told)
+
+-- ---- what is written
+
+abbrev pub memory_line : Text
+memory_line = codes "tomlfile: out of memory" ++ newline
+
+abbrev pub write_line : Text
+write_line = codes "tomlfile: write failed" ++ newline
 
 -- The output is written and the status is this one. If the output fails, it is 4. Where there is none,
--- nothing is written.
-abbrev pub Writes : {O : Type 0} → (O → Option Text) → O → O → ℕ → Text → ℕ → Type 0
-Writes contents old new status output result =
+-- nothing is written. The line is the last one of the errors.
+abbrev pub Writes : {O : Type 0} → (O → Option Text) → O → O → ℕ → Text → ℕ → Text → Type 0
+Writes contents old new status output result line =
     (output ≡ [] → (new ≡ old) × (result ≡ status))
-    × (((result ≡ status) × Appends (contents old) (contents new) output)
-    ⊎ ((result ≡ 4) × AppendsBeginning (contents old) (contents new) output))
+    × (((result ≡ status) × Appends (contents old) (contents new) output
+    × (line ≡ (if status == 3 then memory_line else [])))
+    ⊎ ((result ≡ 4) × AppendsBeginning (contents old) (contents new) output × (line ≡ write_line)))
+
+-- The text is added to what is held. If the output fails, a beginning of it may be.
+abbrev pub Adds : Option Text → Option Text → Bool → Text → Type 0
+Adds old new failed text =
+    AppendsBeginning old new text × (failed ≡ false → Appends old new text)

@@ -1,8 +1,8 @@
 -- Why a run ends before it is done.
 use Rattle.std.specs.Prelude.{◌≡◌, ◌⊎◌, ℕ, Option, Some, None}
 use Rattle.toml_edit_files.specs.declared.stop.Reason.{Reason}
-use Rattle.toml_edit_script.specs.declared.fault.EditFault.{EditFault}
-use Rattle.toml_edit_script.specs.declared.fault.EditFault.TheVariants as faults
+use Rattle.toml_edit_edits.specs.declared.fault.EditFault.{EditFault}
+use Rattle.toml_edit_edits.specs.declared.fault.EditFault.TheVariants as faults
 use Rattle.toml_edit_files.specs.declared.stop.Reason.TheVariants.{No, Mistaken, Failed, Refused}
 use Rattle.toml_edit_files.specs.declared.stop.Stop.{Stop}
 use Rattle.toml_edit_files.specs.declared.stop.Stop.TheVariants.{Message, Memory}
@@ -22,6 +22,12 @@ IsUnread Why None = Unit {0}
 IsUnread Why (Some Failed) = Unit {0}
 IsUnread Why (Some Refused) = Why
 IsUnread Why (Some _) = ⊥
+
+-- memory ran out, or the words are mistaken for this reason
+abbrev pub IsMistaken : Type 0 → Option Reason → Type 0
+IsMistaken Why None = Unit {0}
+IsMistaken Why (Some Mistaken) = Why
+IsMistaken Why (Some _) = ⊥
 
 -- the reason where an edit is refused: the answer is no where nothing is at the path, or no element is
 -- equal

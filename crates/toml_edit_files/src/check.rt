@@ -2,7 +2,7 @@
 ghost use Rattle.std.specs.Prelude.{IfErr, OnOk, map};
 ghost use Rattle.toml_edit_files.specs.Checks.{ChecksFile, IsReadAsAccepted, IsReadAsRefused};
 ghost use Rattle.toml_edit_files.specs.Edited.{IsAccepted, IsNotRead, version_by};
-ghost use Rattle.toml_edit_files.specs.Folders.{OnlyLooks};
+ghost use Rattle.toml_edit_files.specs.Folders.{LeavesInput, OnlyLooks};
 ghost use Rattle.toml_edit_files.specs.Outcomes.{DoesAll};
 ghost use Rattle.toml_edit_files.specs.Stops.{IsUnread, reason_of};
 
@@ -12,10 +12,10 @@ use crate::read::text_of;
 use crate::stop::{DONE, Reason, Stop};
 use crate::told::Told;
 use crate::words::Reading;
+use file_replace::Folder;
 use std::alloc::Global;
 use toml_edit::{Document, ParseFault};
 use toml_edit_io::Input;
-use toml_edit_replace::Folder;
 
 /// Reads files, and tells which of them are refused: `FILE:LINE:COLUMN: MESSAGE`.
 pub fn check<F: Folder, I: Input>(
@@ -26,7 +26,7 @@ pub fn check<F: Folder, I: Input>(
     reading: Reading,
 ) -> Told
     ensures { DoesAll (ChecksFile (version_by reading)) (map (λ file. file.now) files.now)
-        (F.history folder.old) (F.history folder.new) result }
+        (F.history folder.old) (F.history folder.new) (I.remaining input.old) result }
 {
     let mut told = Told::new(alloc, DONE);
     'files: for file in files {
@@ -46,8 +46,9 @@ fn check_file<F: Folder, I: Input>(
     file: &str,
     reading: Reading,
 ) -> Told
-    ensures { ChecksFile (version_by reading) file.now result (F.history folder.old)
-        (F.history folder.new) }
+    ensures checks { ChecksFile (version_by reading) file.now result (F.history folder.old)
+        (F.history folder.new) (I.remaining input.old) }
+    ensures rest { LeavesInput file.now (I.remaining input.old) (I.remaining input.new) }
 {
     match read_accepted(alloc, folder, input, file, reading) {
         Ok(()) => Told::new(alloc, DONE),
@@ -65,10 +66,11 @@ fn read_accepted<F: Folder, I: Input>(
     reading: Reading,
 ) -> Result<(), Stop>
     ensures accepted { OnOk result (IsReadAsAccepted (version_by reading) file.now
-        (F.history folder.old) (F.history folder.new)) }
+        (F.history folder.old) (F.history folder.new) (I.remaining input.old)) }
     ensures refused { IfErr result (λ stop. IsUnread (IsReadAsRefused (version_by reading) file.now
-        (F.history folder.old) (F.history folder.new)) (reason_of stop)) }
+        (F.history folder.old) (F.history folder.new) (I.remaining input.old)) (reason_of stop)) }
     ensures looks { OnlyLooks (F.history folder.old) (F.history folder.new) }
+    ensures rest { LeavesInput file.now (I.remaining input.old) (I.remaining input.new) }
 {
     let text = text_of(alloc, folder, input, file)?;
     accept(alloc, file, text.as_str(), reading)

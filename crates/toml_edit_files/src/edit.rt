@@ -1,14 +1,15 @@
 //! The command `edit`: the text of a file after its edits, and where it goes.
-ghost use Rattle.std.specs.Prelude.{◌≡◌, ◌++◌, IfErr, IfOk, IsTrue, None, Ok, OnOk, Some, string_bytes, true};
+ghost use Rattle.std.specs.Prelude.{◌≡◌, ◌++◌, IfErr, IfOk, IsTrue, None, Ok, OnOk, Option, Some, string_bytes, true};
 ghost use Rattle.std.specs.Option.{option_copied};
 ghost use Rattle.toml_edit.specs.DocumentView.{IsPrintedAs, tree_owned};
-ghost use Rattle.toml_edit_files.specs.EditFiles.{EditsElsewhere, EditsFile, EditsInPlace, ScriptedFirst, is_in_place, is_shown, target_of};
+ghost use Rattle.toml_edit_files.specs.EditFiles.{EditsElsewhere, EditsFile, EditsInPlace, HasNoEdits, HasNoScript, IsUnmade, ScriptedFirst, is_in_place, is_shown, target_of};
 ghost use Rattle.toml_edit_files.specs.Edited.{IsAccepted, IsEdited, IsFittingPrint, IsInForm, IsMisfit, IsNotEdited, IsNotMade, IsNotWritten, IsTooNew, IsWritten, mark_of};
 ghost use Rattle.toml_edit_files.specs.Folders.{OnlyLooks, Stops};
 ghost use Rattle.toml_edit_files.specs.Stops.{reason_of};
 ghost use Rattle.toml_edit_files.specs.declared.stop.Reason.TheVariants.{Mistaken};
+ghost use Rattle.toml_edit_model.specs.Text.{Text};
 ghost use Rattle.toml_edit_model.specs.Version.{v1_0};
-ghost use Rattle.toml_edit_script.specs.Lists.{applied};
+ghost use Rattle.toml_edit_edits.specs.Lists.{applied};
 
 use crate::edits::edits_of_script;
 use crate::form::{MARK, check_form};
@@ -19,11 +20,11 @@ use crate::put::{held_of, put, put_at};
 use crate::read::{STREAM, document_of, text_of};
 use crate::stop::{Reason, Stop};
 use crate::words::{EditCommand, Reading};
+use file_replace::Folder;
 use std::alloc::Global;
 use toml_edit::{Document, DocumentMut, Mem, ParseFault, ParseOptions, Version};
+use toml_edit_edits::{Edit, apply};
 use toml_edit_io::Input;
-use toml_edit_replace::Folder;
-use toml_edit_script::{Edit, apply};
 
 /// Makes the edits in a file, or in standard input for `-`.
 pub fn edit<F: Folder, I: Input>(
@@ -35,10 +36,13 @@ pub fn edit<F: Folder, I: Input>(
     reading: Reading,
 ) -> Result<Done, Stop>
     ensures edits { IfOk result (λ done. EditsFile reading command.now edits.items
-        (F.history folder.old) (F.history folder.new) (string_bytes done.output)) }
+        (F.history folder.old) (F.history folder.new) (I.remaining input.old)
+        (string_bytes done.output)) }
     ensures yes { IfOk result (λ done. done.yes ≡ true) }
     ensures stops { IfErr result (λ stop. Stops (target_of command.now) (F.history folder.old)
         (F.history folder.new) (reason_of stop)) }
+    ensures unmade { IfErr result (λ stop. HasNoEdits reading command.now edits.items
+        (F.history folder.old) (F.history folder.new) (I.remaining input.old) (reason_of stop)) }
 {
     let edits = all_edits(alloc, folder, input, command.script, edits, reading)?;
     let edits = edits.as_slice();
@@ -62,6 +66,8 @@ fn edit_in_place<F: Folder>(
     ensures yes { IfOk result (λ done. done.yes ≡ true) }
     ensures stops { IfErr result (λ stop. Stops command.now.file.now (F.history folder.old)
         (F.history folder.new) (reason_of stop)) }
+    ensures unmade { IfErr result (λ stop. (left : Option Text) → IsUnmade reading command.now
+        edits.now (F.history folder.old) (F.history folder.new) left (reason_of stop)) }
 {
     let held = held_of(alloc, folder, command.file)?;
     let edited = edited_text(alloc, command, held.text.as_str(), edits, reading)?;
@@ -90,10 +96,13 @@ fn edit_elsewhere<F: Folder, I: Input>(
     reading: Reading,
 ) -> Result<Done, Stop>
     ensures edits { IfOk result (λ done. EditsElsewhere reading command.now edits.now
-        (F.history folder.old) (F.history folder.new) (string_bytes done.output)) }
+        (F.history folder.old) (F.history folder.new) (I.remaining input.old)
+        (string_bytes done.output)) }
     ensures yes { IfOk result (λ done. done.yes ≡ true) }
     ensures stops { IfErr result (λ stop. Stops (target_of command.now) (F.history folder.old)
         (F.history folder.new) (reason_of stop)) }
+    ensures unmade { IfErr result (λ stop. IsUnmade reading command.now edits.now
+        (F.history folder.old) (F.history folder.new) (I.remaining input.old) (reason_of stop)) }
 {
     let text = text_of(alloc, folder, input, command.file)?;
     let edited = edited_text(alloc, command, text.as_str(), edits, reading)?;
@@ -118,16 +127,18 @@ fn all_edits<F: Folder, I: Input>(
     mut edits: Vec<Edit>,
     reading: Reading,
 ) -> Result<Vec<Edit>, Stop>
-    ensures edits { IfOk result (λ all. ScriptedFirst (option_copied script.entry) edits.items
-        all.items) }
+    ensures edits { IfOk result (λ all. ScriptedFirst reading (option_copied script.entry)
+        (F.history folder.old) (F.history folder.new) (I.remaining input.old)
+        (I.remaining input.new) edits.items all.items) }
+    ensures stops { IfErr result (λ stop. HasNoScript reading (option_copied script.entry)
+        (F.history folder.old) (F.history folder.new) (I.remaining input.old) (reason_of stop)) }
     ensures looks { OnlyLooks (F.history folder.old) (F.history folder.new) }
 {
     let Some(script) = script else {
         return Ok(edits);
     };
     let text = text_of(alloc, folder, input, script)?;
-    let mut all = Vec::new(alloc);
-    edits_of_script(alloc, script, text.as_str(), &mut all, reading)?;
+    let mut all = edits_of_script(alloc, script, text.as_str(), reading)?;
     all.append(&mut edits)?;
     Ok(all)
 }

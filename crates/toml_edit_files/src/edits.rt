@@ -1,63 +1,42 @@
-//! The words of edits, on a command line and in the lines of a script.
-use crate::help::Topic;
+//! The edits of a command line and those of a script.
+ghost use Rattle.std.specs.Prelude.{◌≡◌, IfErr, IfOk, List, MatchBool, None, OnOk, map};
+ghost use Rattle.toml_edit_files.specs.Edited.{version_by};
+ghost use Rattle.toml_edit_files.specs.Lines.{AddsEdit, AddsLine, BeginsNoEdit, SaysScript, is_memory, is_passed};
+ghost use Rattle.toml_edit_files.specs.Stops.{IsFor, IsMistaken, reason_of};
+ghost use Rattle.toml_edit_files.specs.declared.stop.Reason.TheVariants.{Mistaken};
+ghost use Rattle.toml_edit_edits.specs.declared.edit.Edit.{Edit};
+
+use crate::line::words_of;
 use crate::messages::mistaken;
-use crate::paths::{near, path_of, sort_path_of, value_of};
-use crate::stop::{Reason, Stop};
-use crate::words::{Reading, wrong_words};
+use crate::paths::{near, why_of};
+use crate::stop::Stop;
+use crate::words::Reading;
 use std::alloc::Global;
-use toml_edit::{Key, Mem, Value};
-use toml_edit_paths::reset_keys;
-use toml_edit_script::{Edit, comment_text};
-
-/// The names of edits, and their operands.
-const EDITS: &[(&str, &str)] = &[
-    ("set", "PATH VALUE"),
-    ("string", "PATH TEXT"),
-    ("header", "PATH VALUE"),
-    ("table", "PATH VALUE"),
-    ("remove", "PATH"),
-    ("append", "PATH VALUE"),
-    ("insert", "PATH VALUE"),
-    ("take", "PATH VALUE"),
-    ("rename", "PATH KEY"),
-    ("move", "PATH PATH"),
-    ("sort", "PATH"),
-    ("comment", "PATH TEXT"),
-];
-
-/// Returns the operands of an edit of this name, or `None` if there is none.
-fn operands_of(name: &str) -> Option<&'static str> {
-    for edit in EDITS {
-        let (other, operands) = *edit;
-        if other == name {
-            return Some(operands);
-        }
-    }
-    None
-}
+use toml_edit::Mem;
+use toml_edit_edits::{Edit, VERBS, ValueVerb, Verb, WordFault, next_edit};
 
 /// Reads the edit that the words begin with, and returns the words after it. The file is the one that
 /// messages name.
-pub fn next_edit<'w>(
+pub fn edit_at<'w, 't>(
     alloc: Global,
     edits: &mut Vec<Edit>,
     file: &str,
-    words: &'w [String],
+    words: &'w [&'t str],
     reading: Reading,
-) -> Result<&'w [String], Stop> {
-    let [name, operands @ ..] = words else {
-        return Err(wrong_words(alloc, Topic::Edit));
+) -> Result<&'w [&'t str], Stop>
+    ensures adds { IfOk result (λ rest. AddsEdit (version_by reading)
+        (map (λ w. w.now) words.now) (map (λ w. w.now) rest.now) edits.old.items edits.new.items) }
+    ensures stops { IfErr result (λ stop. IsMistaken (BeginsNoEdit (version_by reading)
+        (map (λ w. w.now) words.now)) (reason_of stop)) }
+{
+    let count = match next_edit(alloc, reading.options(), words) {
+        Ok((edit, count)) => match edits.push(edit) {
+            Ok(()) => count,
+            Err(_) => return Err(Stop::Memory),
+        },
+        Err(fault) => return Err(no_edit(alloc, file, edits.len() + 1, words, fault)),
     };
-    let name = name.as_str();
-    let number = edits.len() + 1;
-    let (path, operand, rest) = match (operands_of(name), operands) {
-        (Some("PATH"), [path, rest @ ..]) => (path.as_str(), "", rest),
-        (Some(_), [path, operand, rest @ ..]) => (path.as_str(), operand.as_str(), rest),
-        (Some(wanted), _) => return Err(missing_operand(alloc, file, number, name, wanted)),
-        (None, _) => return Err(no_edit(alloc, file, number, name)),
-    };
-    edits.push(edit_of(alloc, file, number, (name, path, operand), reading)?)?;
-    Ok(rest)
+    Ok(&words[count..])
 }
 
 /// Reads the edits of a script: one a line, as `set PATH VALUE`. Empty lines, and lines that begin
@@ -66,149 +45,115 @@ pub fn edits_of_script(
     alloc: Global,
     script: &str,
     text: &str,
-    edits: &mut Vec<Edit>,
     reading: Reading,
-) -> Result<(), Stop> {
+) -> Result<Vec<Edit>, Stop>
+    ensures said { IfOk result
+        (λ edits. SaysScript (version_by reading) text.now edits.items) }
+    ensures stops { IfErr result (λ stop. IsMistaken ((edits : List Edit)
+        → SaysScript (version_by reading) text.now edits → ⊥) (reason_of stop)) }
+{
+    let mut edits = Vec::new(alloc);
     for line in text.lines() {
-        let line = line.trim_start();
-        if !line.is_empty() && !line.starts_with('#') {
-            let number = edits.len() + 1;
-            edits.push(edit_of_line(alloc, script, number, line, reading)?)?;
-        }
+        add_line(alloc, &mut edits, script, line.trim_start(), reading)?;
     }
+    Ok(edits)
+}
+
+/// Reads the edit of a line, if it has one.
+fn add_line(
+    alloc: Global,
+    edits: &mut Vec<Edit>,
+    script: &str,
+    line: &str,
+    reading: Reading,
+) -> Result<(), Stop>
+    ensures adds { OnOk result
+        (AddsLine (version_by reading) line.now edits.old.items edits.new.items) }
+    ensures stops { IfErr result (λ stop. IsMistaken ((old new : List Edit)
+        → AddsLine (version_by reading) line.now old new → ⊥) (reason_of stop)) }
+{
+    if is_passed(line) {
+        return Ok(());
+    }
+    let words = words_of(alloc, line)?;
+    edit_at(alloc, edits, script, words.as_slice(), reading)?;
     Ok(())
 }
 
-/// Reads the edit of a line.
-fn edit_of_line(
-    alloc: Global,
-    script: &str,
-    number: usize,
-    line: &str,
-    reading: Reading,
-) -> Result<Edit, Stop> {
-    let (name, rest) = split_word(line, false);
-    let (path, operand) = split_word(rest, true);
-    match operands_of(name) {
-        Some("PATH") if operand.is_empty() && (!path.is_empty() || name == "sort") => {}
-        Some(wanted)
-            if wanted != "PATH" && !path.is_empty() && (!operand.is_empty() || takes_empty(name)) =>
-            {}
-        Some(wanted) => return Err(missing_operand(alloc, script, number, name, wanted)),
-        None => return Err(no_edit(alloc, script, number, name)),
-    }
-    edit_of(alloc, script, number, (name, path, operand), reading)
-}
-
-/// Returns `true` if the text that an edit of this name takes may be empty.
-fn takes_empty(name: &str) -> bool {
-    name == "string" || name == "comment"
-}
-
-/// Splits off the first word of a line, and the white space after it. A word may have quotes with
-/// white space between them if `quoted` is set.
-fn split_word(line: &str, quoted: bool) -> (&str, &str) {
-    let mut quote = None;
-    let mut escaped = false;
-    for (at, c) in line.char_indices() {
-        match quote {
-            None => match c {
-                ' ' | '\t' => {
-                    if let Some((word, rest)) = line.split_at_checked(at) {
-                        return (word, rest.trim_start());
-                    }
-                }
-                '"' | '\'' if quoted => quote = Some(c),
-                _ => {}
-            },
-            Some(open) => {
-                if escaped {
-                    escaped = false;
-                } else if c == '\\' && open == '"' {
-                    escaped = true;
-                } else if c == open {
-                    quote = None;
-                }
-            }
-        }
-    }
-    (line, "")
-}
-
-/// Returns that an edit of this name lacks an operand.
-fn missing_operand(alloc: Global, file: &str, number: usize, name: &str, wanted: &str) -> Stop {
-    mistaken(format!(in alloc; "tomlfile: {file}: edit {number}: usage: {name} {wanted}\n"))
-}
-
-/// Returns that there is no edit of this name.
-fn no_edit(alloc: Global, file: &str, number: usize, name: &str) -> Stop {
-    match nearest_edit(alloc, name) {
-        Ok(near) => {
-            let near = near.as_str();
-            mistaken(format!(in alloc; "tomlfile: {file}: edit {number}: no edit {name}{near}\n"))
-        }
-        Err(_) => Stop::Memory,
+/// Returns `true` if a line is empty, or a comment.
+fn is_passed(line: &str) -> bool
+    ensures { result ≡ is_passed line.now }
+{
+    match line.as_bytes() {
+        [] => true,
+        [first, ..] => *first == b'#',
     }
 }
 
-/// Returns the hint at the nearest name of an edit.
-fn nearest_edit(alloc: Global, name: &str) -> Mem<String> {
-    let mut names = Vec::new(alloc);
-    for edit in EDITS {
-        names.push(edit.0)?;
+/// Returns that words are no edit of this number, and why.
+fn no_edit(alloc: Global, file: &str, number: usize, words: &[&str], fault: WordFault) -> Stop
+    ensures { MatchBool (is_memory fault) (reason_of result ≡ None)
+        (IsFor Mistaken (reason_of result)) }
+{
+    match fault {
+        WordFault::Memory => Stop::Memory,
+        fault => mistaken(no_edit_text(alloc, file, number, words, fault)),
     }
-    near(alloc, name, names.as_slice())
 }
 
-/// Reads an edit of its name, its path and its other operand.
-fn edit_of(
+/// Returns the message that words are no edit of this number.
+fn no_edit_text(
     alloc: Global,
     file: &str,
     number: usize,
-    words: (&str, &str, &str),
-    reading: Reading,
-) -> Result<Edit, Stop> {
-    let (name, path, operand) = words;
-    let place = format!(in alloc; "{file}: edit {number} ({name} {path})")?;
-    let place = place.as_str();
-    if name == "sort" {
-        return Ok(Edit::Sort(sort_path_of(alloc, place, path)?));
-    }
-    let path = new_path_of(alloc, place, path)?;
-    match name {
-        "string" => Ok(Edit::Set(path, Value::string(alloc, operand)?)),
-        "comment" => Ok(Edit::Comment(path, comment_text(alloc, operand)?)),
-        "rename" => Ok(Edit::Rename(path, new_name(alloc, place, operand)?)),
-        "move" => Ok(Edit::Move(path, new_path_of(alloc, place, operand)?)),
-        "remove" => Ok(Edit::Remove(path)),
-        _ => value_edit_of(alloc, place, name, path, operand, reading),
+    words: &[&str],
+    fault: WordFault,
+) -> Mem<String> {
+    let (name, path, operand) = parts_of(words);
+    let (word, error) = match &fault {
+        WordFault::Operands(verb) => {
+            let wanted = verb.usage();
+            return format!(in alloc; "tomlfile: {file}: edit {number}: usage: {name} {wanted}\n");
+        }
+        WordFault::Path(error) => (path, Some(error)),
+        WordFault::To(error) => (operand, Some(error)),
+        WordFault::Value(error) => (operand, Some(error)),
+        WordFault::Key(error) => (operand, error.as_ref()),
+        WordFault::Name | WordFault::Memory => return no_name(alloc, file, number, name),
+    };
+    let why = match error {
+        Some(error) => why_of(alloc, error)?,
+        None => String::new(alloc),
+    };
+    let why = why.as_str();
+    let (what, hint) = match &fault {
+        WordFault::Value(_) => ("value", hint_of(name, operand)),
+        _ => ("path", ""),
+    };
+    format!(in alloc;
+        "tomlfile: {file}: edit {number} ({name} {path}): bad {what} {word}{why}{hint}\n"
+    )
+}
+
+/// Returns the words of an edit, which are empty where they are missing.
+fn parts_of<'w>(words: &[&'w str]) -> (&'w str, &'w str, &'w str) {
+    match words {
+        [name, path, operand, ..] => (*name, *path, *operand),
+        [name, path] => (*name, *path, ""),
+        [name] => (*name, "", ""),
+        [] => ("", "", ""),
     }
 }
 
-/// Reads an edit that takes a value.
-fn value_edit_of(
-    alloc: Global,
-    place: &str,
-    name: &str,
-    path: Vec<Key>,
-    operand: &str,
-    reading: Reading,
-) -> Result<Edit, Stop> {
-    let value = value_of(
-        alloc,
-        place,
-        operand,
-        hint_of(name, operand),
-        reading.options(),
-    )?;
-    Ok(match name {
-        "header" => Edit::Header(path, value),
-        "append" => Edit::Append(path, value),
-        "insert" => Edit::Insert(path, value),
-        "take" => Edit::Take(path, value),
-        "table" => Edit::Table(path, value),
-        _ => Edit::Set(path, value),
-    })
+/// Returns the message that no edit has this name, with the nearest one that an edit has.
+fn no_name(alloc: Global, file: &str, number: usize, name: &str) -> Mem<String> {
+    let mut names = Vec::new(alloc);
+    for verb in VERBS {
+        names.push(verb.name())?;
+    }
+    let near = near(alloc, name, names.as_slice())?;
+    let near = near.as_str();
+    format!(in alloc; "tomlfile: {file}: edit {number}: no edit {name}{near}\n")
 }
 
 /// Returns the hint at how a string is written as the value of an edit of this name, if a bare word
@@ -218,28 +163,9 @@ fn hint_of(name: &str, text: &str) -> &'static str {
         [first, ..] if first.is_ascii_alphanumeric() => {}
         _ => return "",
     }
-    if name == "set" {
+    if Verb::named(name) == Some(Verb::Value(ValueVerb::Set)) {
         " (to set a string, write string in place of set)"
     } else {
         " (a string has quotes of its own, as '\"TEXT\"')"
-    }
-}
-
-/// Parses a path, whose keys get their default spelling.
-fn new_path_of(alloc: Global, place: &str, text: &str) -> Result<Vec<Key>, Stop> {
-    let mut path = path_of(alloc, place, text)?;
-    reset_keys(path.as_mut_slice());
-    Ok(path)
-}
-
-/// Parses the new name of a key.
-fn new_name(alloc: Global, place: &str, text: &str) -> Result<String, Stop> {
-    let keys = path_of(alloc, place, text)?;
-    match keys.as_slice() {
-        [key] => Ok(String::from_str(alloc, key.get())?),
-        _ => Err(Stop::Message(
-            Reason::Mistaken,
-            format!(in alloc; "tomlfile: {place}: bad path {text}\n")?,
-        )),
     }
 }

@@ -1,31 +1,30 @@
 //! The command `fmt`: files in the layout of the formatter.
-ghost use Rattle.std.specs.Prelude.{◌≡◌, ◌≢◌, ◌++◌, IfErr, IfOk, Ok, OnOk, Some, codes, map, string_bytes};
+ghost use Rattle.std.specs.Prelude.{◌≡◌, ◌++◌, IfErr, IfOk, Ok, OnOk, Option, codes, map, string_bytes};
 ghost use Rattle.toml_edit.specs.DocumentView.{IsPrintedAs, mode_owned, open_owned, tree_owned};
-ghost use Rattle.toml_edit_files.specs.Checks.{IsReadAsRefused};
-ghost use Rattle.toml_edit_files.specs.Edited.{IsAccepted, IsRead, mode_by, version_by};
-ghost use Rattle.toml_edit_files.specs.Folders.{Stops};
-ghost use Rattle.toml_edit_files.specs.FormatFiles.{FormatsDone, FormatsFile, FormatsInPlace, IsFormatted, passing_over, rules_by, sorted_by};
+ghost use Rattle.toml_edit_files.specs.Edited.{IsRead, mode_by};
+ghost use Rattle.toml_edit_files.specs.Folders.{LeavesInput, Stops};
+ghost use Rattle.toml_edit_files.specs.FormatFiles.{FormatsDone, FormatsFile, FormatsInPlace, IsFormatted, IsNotFormatted, IsNotSorted, IsUnformatted, passing_over, rules_by, sorted_by};
 ghost use Rattle.toml_edit_files.specs.Outcomes.{DoesAll};
 ghost use Rattle.toml_edit_files.specs.Stops.{reason_of};
-ghost use Rattle.toml_edit_files.specs.declared.stop.Reason.TheVariants.{Refused};
-ghost use Rattle.toml_edit_script.specs.Lists.{effect};
+ghost use Rattle.toml_edit_edits.specs.Lists.{effect};
 ghost use Rattle.toml_edit_fmt.specs.RulesView.{rules_of};
+ghost use Rattle.toml_edit_model.specs.Text.{Text};
 
 use crate::edit::text_after;
 use crate::messages::refused_edit;
-use crate::outcome::{Done, told_of, told_of_refused};
+use crate::outcome::{Done, told_of, told_of_file};
 use crate::put::{held_of, put};
 use crate::read::{STREAM, document_of, text_of};
-use crate::stop::{DONE, Reason, Stop};
+use crate::stop::{DONE, Stop};
 use crate::told::Told;
 use crate::words::{Fmt, Reading, Style};
+use file_replace::Folder;
 use std::alloc::Global;
 use toml_edit::{DocumentMut, Mem};
+use toml_edit_edits::{Edit, EditFault, apply_edit};
 use toml_edit_fmt::{Rules, format};
 use toml_edit_fmt_laws::{formatted_reads, formatted_trees};
 use toml_edit_io::Input;
-use toml_edit_replace::Folder;
-use toml_edit_script::{Edit, EditFault, apply_edit};
 
 /// Formats each file in place, one after another, and standard input for `-`. Under `--check` those
 /// are named that would change, and none does.
@@ -38,7 +37,7 @@ pub fn fmt<F: Folder, I: Input>(
 ) -> Told
     ensures { DoesAll (FormatsFile reading command.now)
         (map (λ file. file.now) command.now.files.items) (F.history folder.old)
-        (F.history folder.new) result }
+        (F.history folder.new) (I.remaining input.old) result }
 {
     let mut told = Told::new(alloc, DONE);
     let files = command.files.as_slice();
@@ -60,17 +59,15 @@ fn fmt_file<F: Folder, I: Input>(
     file: &str,
     reading: Reading,
 ) -> Told
-    ensures { FormatsFile reading command.now file.now result (F.history folder.old)
-        (F.history folder.new) }
+    ensures formats { FormatsFile reading command.now file.now result (F.history folder.old)
+        (F.history folder.new) (I.remaining input.old) }
+    ensures rest { LeavesInput file.now (I.remaining input.old) (I.remaining input.new) }
 {
     let done = done_of(alloc, folder, input, command, file, reading);
     if file == STREAM {
         return told_of(alloc, done);
     }
-    match done {
-        Err(Stop::Message(Reason::Refused, message)) => told_of_refused(alloc, message),
-        done => told_of(alloc, done),
-    }
+    told_of_file(alloc, done)
 }
 
 /// Formats a file that is not refused.
@@ -83,12 +80,13 @@ fn done_of<F: Folder, I: Input>(
     reading: Reading,
 ) -> Result<Done, Stop>
     ensures done { IfOk result (λ done. FormatsDone reading command.now file.now done.yes
-        (string_bytes done.output) (F.history folder.old) (F.history folder.new)) }
-    ensures refused { IfErr result (λ stop. reason_of stop ≡ Some Refused
-        → IsReadAsRefused (version_by reading) file.now (F.history folder.old)
-        (F.history folder.new)) }
+        (string_bytes done.output) (F.history folder.old) (F.history folder.new)
+        (I.remaining input.old)) }
+    ensures unmade { IfErr result (λ stop. IsUnformatted reading command.now.style file.now
+        (F.history folder.old) (F.history folder.new) (I.remaining input.old) (reason_of stop)) }
     ensures stops { IfErr result (λ stop. Stops file.now (F.history folder.old)
         (F.history folder.new) (reason_of stop)) }
+    ensures rest { LeavesInput file.now (I.remaining input.old) (I.remaining input.new) }
 {
     if !command.check && file != STREAM {
         return in_place(alloc, folder, command, file, reading);
@@ -124,9 +122,9 @@ fn in_place<F: Folder>(
 ) -> Result<Done, Stop>
     ensures done { IfOk result (λ done. FormatsInPlace reading command.now file.now done.yes
         (string_bytes done.output) (F.history folder.old) (F.history folder.new)) }
-    ensures refused { IfErr result (λ stop. reason_of stop ≡ Some Refused
-        → IsReadAsRefused (version_by reading) file.now (F.history folder.old)
-        (F.history folder.new)) }
+    ensures unmade { IfErr result (λ stop. (left : Option Text) → IsUnformatted reading
+        command.now.style file.now (F.history folder.old) (F.history folder.new) left
+        (reason_of stop)) }
     ensures stops { IfErr result (λ stop. Stops file.now (F.history folder.old)
         (F.history folder.new) (reason_of stop)) }
 {
@@ -146,8 +144,8 @@ fn formatted(
 ) -> Result<String, Stop>
     ensures formatted { IfOk result
         (λ s. IsFormatted reading style.now before.now (string_bytes s)) }
-    ensures refused { IfErr result (λ stop. reason_of stop ≡ Some Refused
-        → ¬ (IsAccepted (version_by reading) before.now)) }
+    ensures stops { IfErr result
+        (λ stop. IsNotFormatted reading style.now before.now (reason_of stop)) }
 {
     let document = document_of(alloc, file, before, reading)?;
     formatted_text(alloc, file, before, document, style, reading)
@@ -165,7 +163,9 @@ fn formatted_text(
     ensures formatted { mode_owned document ≡ mode_by reading
         → IsRead reading before.now (tree_owned document) (open_owned document)
         → IfOk result (λ s. IsFormatted reading style.now before.now (string_bytes s)) }
-    ensures read { IfErr result (λ stop. reason_of stop ≢ Some Refused) }
+    ensures stops { mode_owned document ≡ mode_by reading
+        → IsRead reading before.now (tree_owned document) (open_owned document)
+        → IfErr result (λ stop. IsNotFormatted reading style.now before.now (reason_of stop)) }
 {
     formatted_trees();
     formatted_reads();
@@ -197,7 +197,8 @@ fn sort_all(
     ensures sorted { OnOk result
         (sorted_by sorts.now (tree_owned document.old) ≡ Ok (tree_owned document.new)) }
     ensures printed { IsPrintedAs document.new document.old }
-    ensures read { IfErr result (λ stop. reason_of stop ≢ Some Refused) }
+    ensures stops { IfErr result (λ stop. IsNotSorted
+        (sorted_by sorts.now (tree_owned document.old)) (reason_of stop)) }
 {
     for at in 0..sorts.len() {
         sort(alloc, file, document, at, &sorts[at])?;
@@ -216,14 +217,17 @@ fn sort(
     ensures sorted { OnOk result (passing_over (tree_owned document.old)
         (effect edit.now (tree_owned document.old)) ≡ Ok (tree_owned document.new)) }
     ensures printed { IsPrintedAs document.new document.old }
-    ensures read { IfErr result (λ stop. reason_of stop ≢ Some Refused) }
+    ensures stops { IfErr result (λ stop. IsNotSorted (passing_over (tree_owned document.old)
+        (effect edit.now (tree_owned document.old))) (reason_of stop)) }
 {
     match apply_edit(alloc, document, edit) {
         Ok(()) => Ok(()),
-        Err(EditFault::NoSuchPath) => Ok(()),
-        Err(fault) => {
-            let number = at.saturating_add(1);
-            Err(refused_edit(alloc, file, document, number, edit, fault)?)
-        }
+        Err(fault) => match fault {
+            EditFault::NoSuchPath => Ok(()),
+            fault => {
+                let number = at.saturating_add(1);
+                Err(refused_edit(alloc, file, document, number, edit, fault)?)
+            }
+        },
     }
 }

@@ -1,4 +1,7 @@
 //! The texts of `--help` and `--version`.
+ghost use Rattle.std.specs.Prelude.{◌≡◌, IfOk, string_bytes};
+ghost use Rattle.toml_edit_files.specs.Help.{about_of, help_on, topic_of, usage_of};
+
 use std::alloc::Global;
 use toml_edit::Mem;
 
@@ -24,7 +27,9 @@ pub const COMMANDS: &[&str] = &[
 ];
 
 /// Returns the command of this name.
-pub fn topic_of(name: &str) -> Option<Topic> {
+pub fn topic_of(name: &str) -> Option<Topic>
+    ensures { result ≡ topic_of name.now }
+{
     match name {
         "get" => Some(Topic::Get),
         "has" => Some(Topic::Has),
@@ -38,42 +43,63 @@ pub fn topic_of(name: &str) -> Option<Topic> {
 }
 
 /// Returns the usage of a command, as one line.
-pub fn usage(topic: Topic) -> &'static str {
+pub fn usage(topic: Topic) -> &'static str
+    ensures { result.now ≡ usage_of topic }
+{
     match topic {
-        Topic::Program =>
-            "tomlfile [strict] [normal] get | has | edit | keys | json | check | fmt ..",
-        Topic::Get => "tomlfile get FILE PATH.. [--raw | --lines] [--default TEXT]",
-        Topic::Has => "tomlfile has FILE PATH [KIND]",
-        Topic::Edit => {
-            "tomlfile edit FILE EDIT [, EDIT].. [--script FILE] [--dry-run] [--output FILE] [--locked] [--force]"
-        }
-        Topic::Keys => "tomlfile keys FILE [PATH] [--all]",
-        Topic::Json => "tomlfile json FILE [PATH]",
-        Topic::Check => "tomlfile check FILE..",
-        Topic::Fmt => "tomlfile fmt FILE.. [--check] [--keys] [--sort PATH].. [--force]",
+        Topic::Program => PROGRAM_USAGE,
+        Topic::Get => GET_USAGE,
+        Topic::Has => HAS_USAGE,
+        Topic::Edit => EDIT_USAGE,
+        Topic::Keys => KEYS_USAGE,
+        Topic::Json => JSON_USAGE,
+        Topic::Check => CHECK_USAGE,
+        Topic::Fmt => FMT_USAGE,
     }
 }
 
 /// Returns the help on a command.
-pub fn help(alloc: Global, topic: Topic) -> Mem<String> {
-    let (usage, about) = (usage(topic), about(topic));
-    format!(in alloc; "usage: {usage}\n\n{about}")
+pub fn help(alloc: Global, topic: Topic) -> Mem<String>
+    ensures { IfOk result (λ s. string_bytes s ≡ help_on topic) }
+{
+    ["usage: ", usage(topic), "\n\n", about(topic)].concat(alloc)
 }
 
-fn about(topic: Topic) -> &'static str {
+/// Returns what a command does, with its options and examples.
+fn about(topic: Topic) -> &'static str
+    ensures { result.now ≡ about_of topic }
+{
     match topic {
-        Topic::Program => PROGRAM,
-        Topic::Get => GET,
-        Topic::Has => HAS,
-        Topic::Edit => EDIT,
-        Topic::Keys => KEYS,
-        Topic::Json => JSON,
-        Topic::Check => CHECK,
-        Topic::Fmt => FMT,
+        Topic::Program => PROGRAM_HELP,
+        Topic::Get => GET_HELP,
+        Topic::Has => HAS_HELP,
+        Topic::Edit => EDIT_HELP,
+        Topic::Keys => KEYS_HELP,
+        Topic::Json => JSON_HELP,
+        Topic::Check => CHECK_HELP,
+        Topic::Fmt => FMT_HELP,
     }
 }
 
-const PROGRAM: &str = "\
+pub const PROGRAM_USAGE: &str =
+    "tomlfile [strict] [normal] get | has | edit | keys | json | check | fmt ..";
+
+pub const GET_USAGE: &str = "tomlfile get FILE PATH.. [--raw | --lines] [--default TEXT]";
+
+pub const HAS_USAGE: &str = "tomlfile has FILE PATH [KIND]";
+
+pub const EDIT_USAGE: &str =
+    "tomlfile edit FILE EDIT [, EDIT].. [--script FILE] [--dry-run] [--output FILE] [--locked] [--force]";
+
+pub const KEYS_USAGE: &str = "tomlfile keys FILE [PATH] [--all]";
+
+pub const JSON_USAGE: &str = "tomlfile json FILE [PATH]";
+
+pub const CHECK_USAGE: &str = "tomlfile check FILE..";
+
+pub const FMT_USAGE: &str = "tomlfile fmt FILE.. [--check] [--keys] [--sort PATH].. [--force]";
+
+pub const PROGRAM_HELP: &str = "\
 Reads and edits TOML files, and keeps comments, spacing and spelling.
 
   get    writes the items at paths
@@ -93,7 +119,7 @@ Status: 0 done or yes, 1 no, 2 mistaken words, 3 out of memory, 4 a file or a
 stream failed, 5 a file is not TOML. tomlfile COMMAND --help has examples.
 ";
 
-const GET: &str = "\
+pub const GET_HELP: &str = "\
 Writes the item at each PATH: a value as it is spelled; a table as a document of
 its own, with the tables below it.
 
@@ -106,7 +132,7 @@ its own, with the tables below it.
   tomlfile get Cargo.toml bin.0.name --default none
 ";
 
-const HAS: &str = "\
+pub const HAS_HELP: &str = "\
 Ends with status 0 if something is at PATH, and is of the KIND if one is given:
 string, integer, float, boolean, datetime, array, table or tables. Else the
 status is 1.
@@ -114,7 +140,7 @@ status is 1.
   if tomlfile has Cargo.toml workspace table; then ..
 ";
 
-const EDIT: &str = "\
+pub const EDIT_HELP: &str = "\
 Makes the edits one after another, all or none, and writes the file in place.
 The status is 1 if nothing is at a path.
 
@@ -142,7 +168,7 @@ The status is 1 if nothing is at a path.
   tomlfile edit pyproject.toml append project.dependencies '\"httpx>=0.27\"'
 ";
 
-const KEYS: &str = "\
+pub const KEYS_HELP: &str = "\
 Writes the keys of the table at PATH, or of the file, one a line and as they are
 spelled.
 
@@ -151,21 +177,21 @@ spelled.
   tomlfile keys Cargo.toml dependencies
 ";
 
-const JSON: &str = "\
+pub const JSON_HELP: &str = "\
 Writes the item at PATH, or the file, as JSON on one line. Keys keep their
 order, and floats their digits; dates, times, inf and nan are strings.
 
   tomlfile json Cargo.toml package
 ";
 
-const CHECK: &str = "\
+pub const CHECK_HELP: &str = "\
 Writes FILE:LINE:COLUMN: MESSAGE for each file that is not TOML. The status is 1
 if there is one, and 4 if a file can't be read.
 
   tomlfile check *.toml
 ";
 
-const FMT: &str = "\
+pub const FMT_HELP: &str = "\
 Formats each file in place: spaces, empty lines, indentation, and arrays with a
 line for each value where they have a newline or a comment, or are wide. Keys,
 values and comments stay as they are. A file that is not TOML is reported as by

@@ -1,27 +1,65 @@
 //! Messages about files and edits.
 ghost use Rattle.std.specs.Prelude.{◌≡◌, IfOk, option_map};
 ghost use Rattle.toml_edit_files.specs.Stops.{IsFor, reason_for, reason_of};
-ghost use Rattle.toml_edit_files.specs.declared.stop.Reason.TheVariants.{Failed, Refused};
+ghost use Rattle.toml_edit_files.specs.declared.stop.Reason.TheVariants.{Failed, Mistaken, Refused};
 
 use crate::get::kind_of;
-use crate::paths::{hint, path_text};
+use crate::help::{COMMANDS, Topic, usage};
+use crate::paths::{hint, near, path_text};
+use crate::split::is_option;
 use crate::stop::{Reason, Stop};
 use crate::words::Kind;
 use std::alloc::Global;
 use std::io;
 use std::io::ErrorKind;
 use toml_edit::{DocumentMut, Item, Key, Mem, TomlError};
-use toml_edit_script::{Edit, EditFault};
+use toml_edit_edits::{Edit, EditFault};
 
 /// What messages begin with.
 pub const PROGRAM: &str = "tomlfile: ";
 
 /// Returns that the words are mistaken, with a message.
-pub fn mistaken(message: Mem<String>) -> Stop {
+pub fn mistaken(message: Mem<String>) -> Stop
+    ensures { IsFor Mistaken (reason_of result) }
+{
     match message {
         Ok(message) => Stop::Message(Reason::Mistaken, message),
         Err(_) => Stop::Memory,
     }
+}
+
+/// Returns that the words are no command, with the usage of the nearest one.
+pub fn wrong_words(alloc: Global, topic: Topic) -> Stop
+    ensures { IsFor Mistaken (reason_of result) }
+{
+    let usage = usage(topic);
+    mistaken(format!(in alloc; "tomlfile: usage: {usage}\n"))
+}
+
+/// Returns that there is no command of this name.
+pub fn no_command(alloc: Global, name: &str) -> Stop
+    ensures { IsFor Mistaken (reason_of result) }
+{
+    if is_option(name) {
+        return no_option(alloc, Topic::Program, name);
+    }
+    match near(alloc, name, COMMANDS) {
+        Ok(near) => {
+            let (near, usage) = (near.as_str(), usage(Topic::Program));
+            mistaken(format!(in alloc;
+                "tomlfile: unknown command {name}{near}\ntomlfile: usage: {usage}\n"
+            ))
+        }
+        Err(_) => Stop::Memory,
+    }
+}
+
+/// Returns that a command has no option of this name.
+pub fn no_option(alloc: Global, topic: Topic, name: &str) -> Stop
+    ensures { IsFor Mistaken (reason_of result) }
+{
+    let usage = usage(topic);
+    mistaken(format!(in alloc; "tomlfile: no option {name}\ntomlfile: usage: {usage}\n"))
 }
 
 /// Returns that a call on a file has failed.
@@ -65,7 +103,7 @@ pub fn refused_edit(
 ) -> Mem<Stop>
     ensures { IfOk result (λ stop. reason_of stop ≡ reason_for fault) }
 {
-    let word = edit.word();
+    let word = edit.verb().name();
     let path = path_text(alloc, edit.path())?;
     let path = path.as_str();
     let hint = match fault {

@@ -1,9 +1,9 @@
 //! What commands come to: their status, and what they write.
 ghost use Rattle.std.specs.Prelude.{◌≡◌, ◌⊎◌, [], None, string_bytes};
-ghost use Rattle.toml_edit_files.specs.Outcomes.{TellsOf, TellsWhy};
+ghost use Rattle.toml_edit_files.specs.Outcomes.{TellsOf, TellsOfFile, TellsWhy};
 
 use crate::messages::PROGRAM;
-use crate::stop::{DONE, NO, NO_MEMORY, Stop};
+use crate::stop::{DONE, NO, NO_MEMORY, Reason, Stop};
 use crate::told::Told;
 use std::alloc::Global;
 
@@ -49,6 +49,20 @@ pub fn told_of(alloc: Global, outcome: Result<Done, Stop>) -> Told
             notes: message,
         },
         Err(Stop::Memory) => Told::new(alloc, NO_MEMORY),
+    }
+}
+
+/// Returns the outcome of a file that is done, or refused, or at which a command stops.
+pub fn told_of_file(alloc: Global, outcome: Result<Done, Stop>) -> Told
+    ensures { TellsOfFile outcome result }
+{
+    match outcome {
+        Err(Stop::Message(reason, message)) => match reason {
+            Reason::Refused => told_of_refused(alloc, message),
+            reason => told_of(alloc, Err(Stop::Message(reason, message))),
+        },
+        Err(Stop::Memory) => told_of(alloc, Err(Stop::Memory)),
+        Ok(done) => told_of(alloc, Ok(done)),
     }
 }
 

@@ -1,58 +1,63 @@
-//! Paths and values in words, and paths in messages.
-use crate::stop::{Reason, Stop};
+//! Paths in words and in messages.
+ghost use Rattle.std.specs.Prelude.{IfErr, IfOk};
+ghost use Rattle.toml_edit_files.specs.Stops.{IsFor, IsMistaken, reason_of};
+ghost use Rattle.toml_edit_files.specs.declared.stop.Reason.TheVariants.{Mistaken};
+ghost use Rattle.toml_edit_model.specs.Keys.{names};
+ghost use Rattle.toml_edit_edits.specs.Said.{IsNoKeys, SpellsKeys};
+ghost use Rattle.toml_edit_words.specs.Spelled.{IsNoPath, SpellsPath};
+
+use crate::messages::mistaken;
+use crate::stop::Stop;
 use std::alloc::Global;
-use toml_edit::{
-    DocumentMut, FromStrWith, Item, Key, Mem, ParseFault, ParseOptions, ParsePath, TomlError, Value,
-};
+use toml_edit::{DocumentMut, Item, Key, Mem, ParseFault, TomlError};
+use toml_edit_edits::keys_of;
+use toml_edit_words::path_in;
 
 /// Parses PATH. A message about it begins with `place`: the file, or an edit of it.
-pub fn path_of(alloc: Global, place: &str, text: &str) -> Result<Vec<Key>, Stop> {
-    match Key::parse(alloc, text) {
+pub fn path_of(alloc: Global, place: &str, text: &str) -> Result<Vec<Key>, Stop>
+    ensures spelled { IfOk result (λ keys. SpellsPath text.now (names keys.items)) }
+    ensures stops { IfErr result
+        (λ stop. IsMistaken (IsNoPath text.now) (reason_of stop)) }
+{
+    match path_in(alloc, text) {
         Ok(path) => Ok(path),
-        Err(ParseFault::Toml(error)) => {
-            let why = parse_message(alloc, &error)?;
-            let why = why.as_str();
-            Err(Stop::Message(
-                Reason::Mistaken,
-                format!(in alloc; "tomlfile: {place}: bad path {text}{why}\n")?,
-            ))
-        }
+        Err(ParseFault::Toml(error)) => Err(bad_path(alloc, place, text, Some(&error))),
         Err(ParseFault::Memory) => Err(Stop::Memory),
     }
 }
 
 /// Parses the PATH of a sort, for which the empty text is the root.
-pub fn sort_path_of(alloc: Global, place: &str, text: &str) -> Result<Vec<Key>, Stop> {
-    if text.is_empty() {
-        return Ok(Vec::new(alloc));
-    }
-    path_of(alloc, place, text)
-}
-
-/// Parses VALUE. A message about it begins with `place`, and ends with the hint.
-pub fn value_of(
-    alloc: Global,
-    place: &str,
-    text: &str,
-    hint: &str,
-    options: ParseOptions,
-) -> Result<Value, Stop> {
-    match <Value as FromStrWith>::from_str_with(alloc, text, options) {
-        Ok(value) => Ok(value),
-        Err(ParseFault::Toml(error)) => {
-            let why = parse_message(alloc, &error)?;
-            let why = why.as_str();
-            Err(Stop::Message(
-                Reason::Mistaken,
-                format!(in alloc; "tomlfile: {place}: bad value {text}{why}{hint}\n")?,
-            ))
-        }
+pub fn sort_path_of(alloc: Global, place: &str, text: &str) -> Result<Vec<Key>, Stop>
+    ensures spelled { IfOk result (λ keys. SpellsKeys text.now keys.items) }
+    ensures stops { IfErr result
+        (λ stop. IsMistaken (IsNoKeys text.now) (reason_of stop)) }
+{
+    match keys_of(alloc, text) {
+        Ok(path) => Ok(path),
+        Err(ParseFault::Toml(error)) => Err(bad_path(alloc, place, text, Some(&error))),
         Err(ParseFault::Memory) => Err(Stop::Memory),
     }
 }
 
-/// Returns the message of an error of parsing on one line: ` at column 3: unclosed array`.
-fn parse_message(alloc: Global, error: &TomlError) -> Mem<String> {
+/// Returns that a path is none, and why.
+pub fn bad_path(alloc: Global, place: &str, text: &str, error: Option<&TomlError>) -> Stop
+    ensures { IsFor Mistaken (reason_of result) }
+{
+    mistaken(bad_path_text(alloc, place, text, error))
+}
+
+/// Returns the message that a path is none.
+fn bad_path_text(alloc: Global, place: &str, text: &str, error: Option<&TomlError>) -> Mem<String> {
+    let why = match error {
+        Some(error) => why_of(alloc, error)?,
+        None => String::new(alloc),
+    };
+    let why = why.as_str();
+    format!(in alloc; "tomlfile: {place}: bad path {text}{why}\n")
+}
+
+/// Returns why a path or a value is none: ` at column 3: unclosed array`.
+pub fn why_of(alloc: Global, error: &TomlError) -> Mem<String> {
     let message = error.message();
     match error.column() {
         Some(column) => format!(in alloc; " at column {column}: {message}"),

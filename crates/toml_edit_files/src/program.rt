@@ -1,10 +1,10 @@
 //! The program as one function.
-ghost use Rattle.std.specs.Prelude.{[], ◌≡◌, ◌≤◌, IfErr, IfOk, MatchBool, string_bytes, true};
+ghost use Rattle.std.specs.Prelude.{[], ◌≡◌, ◌≤◌, ◌==◌, ◌++◌, IfErr, IfOk, MatchBool, if◌then◌else◌, map, string_bytes, true};
 ghost use Rattle.std.specs.Io.KnownBytes.{Appends};
 ghost use Rattle.toml_edit.specs.DocumentView.{tree_owned};
 ghost use Rattle.toml_edit_files.specs.Answers.{HasNoAnswer, IsAnswer};
-ghost use Rattle.toml_edit_files.specs.Folders.{OnlyLooks, Stops};
-ghost use Rattle.toml_edit_files.specs.Runs.{AnswersQuestion, Ends, IsDone, Writes};
+ghost use Rattle.toml_edit_files.specs.Folders.{OnlyLooks};
+ghost use Rattle.toml_edit_files.specs.Runs.{Adds, AnswersQuestion, Ends, EndsCommand, HasNone, Writes, memory_line, write_line};
 ghost use Rattle.toml_edit_files.specs.Stops.{reason_of};
 ghost use Rattle.toml_edit_files.specs.declared.told.Told.{Told};
 ghost use Rattle.toml_edit_io.specs.Streams.{AppendsBeginning};
@@ -14,18 +14,18 @@ use crate::check::check;
 use crate::edit::edit;
 use crate::fmt::fmt;
 use crate::get::{get, has};
-use crate::help::{VERSION, help};
 use crate::json::json;
 use crate::keys::keys;
 use crate::outcome::{Done, told_of};
 use crate::read::read_document;
+use crate::request::request_of;
 use crate::stop::{FAILED, NO_MEMORY, Stop};
 use crate::told::Told;
-use crate::words::{Command, Question, Reading, request_of};
+use crate::words::{Command, Question, Reading};
+use file_replace::Folder;
 use std::alloc::Global;
 use toml_edit::DocumentMut;
 use toml_edit_io::{Input, Output, write_all};
-use toml_edit_replace::Folder;
 
 /// Runs the command that the words say, which are the arguments after the program's name, and
 /// returns the exit status.
@@ -56,21 +56,17 @@ pub fn run<F: Folder, I: Input, O: Output, E: Output>(
     errors: &mut E,
 ) -> u8
     ensures status { result ≤ 5 }
-    ensures ends { (told : Told)
-        × Ends (F.history folder.old) (F.history folder.new) (I.remaining input.old) told
-        × Writes O.contents output.old output.new told.status (string_bytes told.output) result }
+    ensures ends { (told : Told) × (line : Text)
+        × Ends (F.history folder.old) (F.history folder.new) (I.remaining input.old)
+        (map string_bytes words.now) told
+        × Writes O.contents output.old output.new told.status (string_bytes told.output) result line
+        × Adds (E.contents errors.old) (E.contents errors.new) (E.has_failed errors.new)
+        (string_bytes told.notes ++ line) }
 {
     let told = answer(alloc, words, folder, input);
     let written = write(output, told.output.as_str());
-    tell(errors, told.notes.as_str());
-    if told.status == NO_MEMORY {
-        end_without_memory(errors);
-    }
-    if written {
-        return told.status;
-    }
-    tell(errors, "tomlfile: write failed\n");
-    FAILED
+    tell(errors, told.notes.as_str(), last_line(told.status, written));
+    if written { told.status } else { FAILED }
 }
 
 /// Writes a text, if there is one, and returns `false` if that fails.
@@ -78,6 +74,8 @@ fn write<O: Output>(output: &mut O, text: &str) -> bool
     ensures written { MatchBool result
         (Appends (O.contents output.old) (O.contents output.new) text.now)
         (AppendsBeginning (O.contents output.old) (O.contents output.new) text.now) }
+    ensures failed { MatchBool result (O.has_failed output.new ≡ O.has_failed output.old)
+        (O.has_failed output.new ≡ true) }
     ensures none { text.now ≡ [] → (output.new ≡ output.old) × (result ≡ true) }
 {
     if text.is_empty() {
@@ -86,17 +84,39 @@ fn write<O: Output>(output: &mut O, text: &str) -> bool
     write_all(output, text.as_bytes()).is_ok()
 }
 
-/// Writes to `errors` that memory ran out, and returns the exit status 3.
-pub fn end_without_memory<E: Output>(errors: &mut E) -> u8
-    ensures { result ≡ 3 }
+/// Writes messages and a last line to `errors`. A fault in that is ignored.
+fn tell<E: Output>(errors: &mut E, notes: &str, line: &str)
+    ensures { Adds (E.contents errors.old) (E.contents errors.new) (E.has_failed errors.new)
+        (notes.now ++ line.now) }
 {
-    tell(errors, "tomlfile: out of memory\n");
-    NO_MEMORY
+    if !write(errors, notes) {
+        return;
+    }
+    let _ = write(errors, line);
 }
 
-/// Writes a message to `errors`. A fault in that is ignored.
-fn tell<E: Output>(errors: &mut E, text: &str) {
-    let _ = write_all(errors, text.as_bytes());
+/// Returns the last line of what goes to `errors`: that the output failed, or that memory ran out.
+fn last_line(status: u8, written: bool) -> &'static str
+    ensures { result.now
+        ≡ (if written then (if status == 3 then memory_line else []) else write_line) }
+{
+    if !written {
+        "tomlfile: write failed\n"
+    } else if status == NO_MEMORY {
+        "tomlfile: out of memory\n"
+    } else {
+        ""
+    }
+}
+
+/// Writes to `errors` that memory ran out, and returns the exit status 3.
+pub fn end_without_memory<E: Output>(errors: &mut E) -> u8
+    ensures status { result ≡ 3 }
+    ensures told { Adds (E.contents errors.old) (E.contents errors.new) (E.has_failed errors.new)
+        memory_line }
+{
+    tell(errors, "", last_line(NO_MEMORY, true));
+    NO_MEMORY
 }
 
 /// Runs the command up to what it writes.
@@ -106,7 +126,8 @@ fn answer<F: Folder, I: Input>(
     folder: &mut F,
     input: &mut I,
 ) -> Told
-    ensures { Ends (F.history folder.old) (F.history folder.new) (I.remaining input.old) result }
+    ensures { Ends (F.history folder.old) (F.history folder.new) (I.remaining input.old)
+        (map string_bytes words.now) result }
 {
     match request_of(alloc, words) {
         Ok(request) => answer_command(alloc, request.command, folder, input, request.reading),
@@ -122,7 +143,8 @@ fn answer_command<F: Folder, I: Input>(
     input: &mut I,
     reading: Reading,
 ) -> Told
-    ensures { Ends (F.history folder.old) (F.history folder.new) (I.remaining input.old) result }
+    ensures { EndsCommand (F.history folder.old) (F.history folder.new) (I.remaining input.old)
+        reading command.entry result }
 {
     match command {
         Command::Check(files) => check(alloc, folder, input, files.as_slice(), reading),
@@ -144,7 +166,10 @@ fn ask<F: Folder, I: Input>(
     reading: Reading,
 ) -> Result<Done, Stop>
     ensures answer { IfOk result (λ done. AnswersQuestion (F.history folder.old)
-        (F.history folder.new) (I.remaining input.old) done.yes (string_bytes done.output)) }
+        (F.history folder.new) (I.remaining input.old) reading question.now done.yes
+        (string_bytes done.output)) }
+    ensures stops { IfErr result (λ stop. HasNone (F.history folder.old) (F.history folder.new)
+        (I.remaining input.old) reading question.now (reason_of stop)) }
     ensures looks { OnlyLooks (F.history folder.old) (F.history folder.new) }
 {
     let document = read_document(alloc, folder, input, question.file(), reading)?;

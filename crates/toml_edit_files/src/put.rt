@@ -1,15 +1,15 @@
 //! Files that are read under their lock, and replaced.
 ghost use Rattle.std.specs.Prelude.{◌≡◌, IfErr, IfOk, OnErr, OnOk, string_bytes};
-ghost use Rattle.toml_edit_files.specs.Folders.{IsHeld, IsNoTextOf, IsPut, IsPutAt, MayBegin, OnlyLooks, Replaced, StopsPutting, asked_for, leads};
+ghost use Rattle.toml_edit_files.specs.Folders.{IsHeld, IsNoHeldText, IsPut, IsPutAt, MayBegin, OnlyLooks, Replaced, StopsPutting, asked_for, leads};
 ghost use Rattle.toml_edit_files.specs.Stops.{IsFor, IsUnread, reason_of};
 ghost use Rattle.toml_edit_files.specs.declared.stop.Reason.TheVariants.{Failed};
-ghost use Rattle.toml_edit_replace.specs.Replacing.{asked_by};
+ghost use Rattle.file_replace.specs.Replacing.{asked_by};
 
 use crate::messages::failed;
 use crate::read::utf8;
 use crate::stop::{Reason, Stop};
+use file_replace::{Folder, ReplaceFault, Replacement, read_locked, replace};
 use std::alloc::Global;
-use toml_edit_replace::{Folder, ReplaceFault, Replacement, read_locked, replace};
 
 /// A file as it was read: its name, links aside, and its text.
 #[derive(Drop)]
@@ -22,7 +22,7 @@ pub struct Held {
 pub fn held_of<F: Folder>(alloc: Global, folder: &mut F, file: &str) -> Result<Held, Stop>
     ensures held { IfOk result (λ held. IsHeld file.now (string_bytes held.name)
         (F.history folder.old) (F.history folder.new) (string_bytes held.text)) }
-    ensures stops { IfErr result (λ stop. IsUnread (IsNoTextOf file.now (F.history folder.old)
+    ensures stops { IfErr result (λ stop. IsUnread (IsNoHeldText file.now (F.history folder.old)
         (F.history folder.new)) (reason_of stop)) }
     ensures looks { OnlyLooks (F.history folder.old) (F.history folder.new) }
 {

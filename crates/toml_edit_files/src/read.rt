@@ -2,19 +2,20 @@
 ghost use Rattle.std.specs.Prelude.{◌≡◌, IfErr, IfOk, IfSome, string_bytes};
 ghost use Rattle.std.specs.Str.{IsUtf8};
 ghost use Rattle.toml_edit.specs.DocumentView.{mode_owned, open_owned, tree_owned};
+ghost use Rattle.toml_edit_files.specs.Checks.{IsReadAsRefused};
 ghost use Rattle.toml_edit_files.specs.Edited.{IsNotRead, IsRead, IsReadFrom, mode_by, version_by};
-ghost use Rattle.toml_edit_files.specs.Folders.{IsNoTextOf, IsTextOf, OnlyLooks};
+ghost use Rattle.toml_edit_files.specs.Folders.{IsNoTextOf, IsTextOf, LeavesInput, OnlyLooks};
 ghost use Rattle.toml_edit_files.specs.declared.stop.Reason.TheVariants.{Failed};
-ghost use Rattle.toml_edit_replace.specs.Events.{NotesFound, found};
+ghost use Rattle.file_replace.specs.Events.{NotesFound, found};
 ghost use Rattle.toml_edit_files.specs.Stops.{IsFor, IsUnread, reason_of};
 
 use crate::messages::{failed, refused};
 use crate::stop::{Reason, Stop};
 use crate::words::Reading;
+use file_replace::Folder;
 use std::alloc::Global;
 use toml_edit::{DocumentMut, ParseFault};
 use toml_edit_io::{Input, ReadFault, read_to_end};
-use toml_edit_replace::Folder;
 
 /// The name of standard input.
 pub const STREAM: &str = "-";
@@ -29,8 +30,9 @@ pub fn text_of<F: Folder, I: Input>(
     ensures text { IfOk result (λ s. IsTextOf file.now (F.history folder.old)
         (F.history folder.new) (I.remaining input.old) (string_bytes s)) }
     ensures stops { IfErr result (λ stop. IsUnread (IsNoTextOf file.now (F.history folder.old)
-        (F.history folder.new)) (reason_of stop)) }
+        (F.history folder.new) (I.remaining input.old)) (reason_of stop)) }
     ensures looks { OnlyLooks (F.history folder.old) (F.history folder.new) }
+    ensures rest { LeavesInput file.now (I.remaining input.old) (I.remaining input.new) }
 {
     let bytes = bytes_of(alloc, folder, input, file)?;
     utf8(alloc, file, bytes)
@@ -61,6 +63,7 @@ fn bytes_of<F: Folder, I: Input>(
         (F.history folder.new) (I.remaining input.old) bytes.items) }
     ensures failed { IfErr result (λ stop. IsFor Failed (reason_of stop)) }
     ensures looks { OnlyLooks (F.history folder.old) (F.history folder.new) }
+    ensures rest { LeavesInput file.now (I.remaining input.old) (I.remaining input.new) }
 {
     if file == STREAM {
         input_bytes(alloc, input)
@@ -126,6 +129,8 @@ pub fn read_document<F: Folder, I: Input>(
     ensures read { IfOk result
         (λ d. IsReadFrom reading file.now (F.history folder.old) (F.history folder.new)
         (I.remaining input.old) (tree_owned d)) }
+    ensures stops { IfErr result (λ stop. IsUnread (IsReadAsRefused (version_by reading) file.now
+        (F.history folder.old) (F.history folder.new) (I.remaining input.old)) (reason_of stop)) }
     ensures looks { OnlyLooks (F.history folder.old) (F.history folder.new) }
 {
     let text = text_of(alloc, folder, input, file)?;

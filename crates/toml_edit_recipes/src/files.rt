@@ -1,9 +1,9 @@
 //! Editing a file in place.
 use crate::version::set_version;
 use anyhow::{Result, bail, ensure};
+use file_replace::{Folder, Host, ReplaceFault, Replacement, read_locked, replace};
 use std::{process, str};
 use toml_edit::{DocumentMut, ParseOptions};
-use toml_edit_replace::{Folder, Host, ReplaceFault, Replacement, read_locked, replace};
 
 /// Sets the version in a file, which keeps its old text until the new one is on the disk.
 pub fn edit_file(rt: &HostRuntime, path: &str, version: &str) -> Result<()> {

@@ -6,22 +6,23 @@
 //! `toml_edit_command` has the exit statuses, and `test_runs` runs of each.
 #![tactic(auto)]
 
-use process_words::{WordsFault, words_of};
 use std::process::ExitCode;
-use toml_edit_command::{end_without_memory, run};
+use toml_edit_command::{Ending, end_without_memory, run};
 use toml_edit_io::Watched;
+use toml_edit_words::{ArgumentFault, arguments};
 
 fn main(rt: HostRuntime) -> ExitCode {
-    let words = match words_of(&rt) {
+    let words = match arguments(&rt) {
         Ok(words) => words,
         // No command has such a word.
-        Err(WordsFault::NotUtf8(_)) => Vec::new(rt.alloc()),
-        Err(WordsFault::Memory) => {
+        Err(ArgumentFault::NotUtf8(_)) => Vec::new(rt.alloc()),
+        Err(ArgumentFault::Memory) => {
             return ExitCode::from(end_without_memory(&mut Watched::new(rt.stderr())));
         }
     };
     let status = run(
         rt.alloc(),
+        Ending::Process,
         words.as_slice(),
         &mut Watched::new(rt.stdin()),
         &mut Watched::new(rt.stdout()),

@@ -4,15 +4,15 @@
 //! exit statuses, and `test_runs` runs of each.
 #![tactic(auto)]
 
-use process_words::{WordsFault, words_of};
+use file_replace::Host;
 use std::process;
 use std::process::ExitCode;
 use toml_edit_files::{end_without_memory, run};
 use toml_edit_io::{Watched, write_all};
-use toml_edit_replace::Host;
+use toml_edit_words::{ArgumentFault, arguments};
 
 fn main(rt: HostRuntime) -> ExitCode {
-    let words = match words_of(&rt) {
+    let words = match arguments(&rt) {
         Ok(words) => words,
         Err(fault) => return ExitCode::from(end_without_words(&rt, fault)),
     };
@@ -28,9 +28,9 @@ fn main(rt: HostRuntime) -> ExitCode {
 }
 
 /// Writes why the arguments are not known, and returns the exit status.
-fn end_without_words(rt: &HostRuntime, fault: WordsFault) -> u8 {
+fn end_without_words(rt: &HostRuntime, fault: ArgumentFault) -> u8 {
     let mut errors = Watched::new(rt.stderr());
-    let WordsFault::NotUtf8(number) = fault else {
+    let ArgumentFault::NotUtf8(number) = fault else {
         return end_without_memory(&mut errors);
     };
     match format!(in rt.alloc(); "tomlfile: word {number} is not UTF-8\n") {

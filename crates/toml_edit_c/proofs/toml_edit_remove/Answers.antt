@@ -1,19 +1,11 @@
 -- What is made is given to the caller.
 use Rattle.toml_edit_c.specs.Asks.{ask, remove_words}
 use Rattle.toml_edit_c.specs.Made.{IsMadeBy, StopsCall}
-use Rattle.toml_edit_c.proofs.Outcomes.{given, stopped, unanswered}
+use Rattle.toml_edit_c.proofs.Outcomes.{answers}
 use Rattle.toml_edit_c.proofs.toml_edit_remove.Goals as goal
 
-pub returns-clause-given : goal.returns-clause-given
-returns-clause-given c =
-    given c.give.result c.args.room.now c.give.new.room c.remove.result (IsMadeBy (ask c.args.flags (remove_words c.args.path.now)) c.args.text.now)
-    c.remove.ensures.made c.give.ensures.text c.give.ensures.status
-
-pub returns-clause-stopped : goal.returns-clause-stopped
-returns-clause-stopped c =
-    stopped c.give.result c.args.room.now c.give.new.room c.remove.result (StopsCall (ask c.args.flags (remove_words c.args.path.now)) c.args.text.now)
-    c.remove.ensures.stops c.give.ensures.text c.give.ensures.status
-
-pub returns-clause-unanswered : goal.returns-clause-unanswered
-returns-clause-unanswered c =
-    unanswered c.give.result c.args.room.now c.give.new.room c.remove.result c.give.ensures.text c.give.ensures.none
+pub returns : goal.returns
+returns c =
+    answers c.give.result c.args.room.now c.give.new.room c.remove.result (IsMadeBy (ask c.args.flags (remove_words c.args.path.now)) c.args.text.now)
+    (StopsCall (ask c.args.flags (remove_words c.args.path.now)) c.args.text.now) c.remove.ensures.made c.remove.ensures.stops c.give.ensures.text c.give.ensures.status
+    c.give.ensures.none

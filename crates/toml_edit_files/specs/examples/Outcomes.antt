@@ -1,6 +1,6 @@
 -- Worked statuses and looks.
 use Rattle.std.specs.Prelude.{◌≡◌, refl, true, false, Some, [], ◌∷◌, codes}
-use Rattle.toml_edit_replace.specs.Events.{found, leads_to, locked, made, renamed}
+use Rattle.file_replace.specs.Events.{found, leads_to, locked, made, renamed}
 use Rattle.toml_edit_files.specs.Folders.{looks_at}
 use Rattle.toml_edit_files.specs.Outcomes.{worst}
 use Rattle.toml_edit_files.specs.Stops.{status_of}

@@ -3,7 +3,8 @@ use Rattle.std.proofs.Common.{inl, inr, refl, subst, sym}
 use Rattle.toml_edit_c.proofs.Outcomes.{made-by, stops-by}
 use Rattle.toml_edit_c.proofs.calls.remove_by.Goals as goal
 use Rattle.toml_edit_c.specs.Asks.{remove_words, request_in}
-use Rattle.toml_edit_command.specs.Words.{SpellsPath, removing}
+use Rattle.toml_edit_command.specs.Words.{removing}
+use Rattle.toml_edit_words.specs.Spelled.{SpellsPath}
 use Rattle.toml_edit_model.specs.Keys.{names}
 use Rattle.toml_edit_parser.specs.Options.{mode_of, version_of}
 

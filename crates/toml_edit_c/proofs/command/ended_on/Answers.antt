@@ -1,21 +1,23 @@
--- There are no words.
-use Rattle.std.proofs.Common.{◌≤◌, ◌∙◌, ap, inr, map, string_bytes}
-use Rattle.toml_edit_command.specs.Words.{request}
-use Rattle.toml_edit_c.specs.Runs.{Ends, EndsOn}
-use Rattle.toml_edit_c.proofs.Ending.{some-weaker}
+-- What is said of the run of `tomled` is how the command ends.
+use Rattle.std.proofs.Common.{◌≡◌, ◌≤◌, Bor, arith, false, inr, map, string_bytes, subst, sym}
+use Rattle.toml_edit_model.specs.Text.{Text}
+use Rattle.toml_edit_command.specs.Words.{asked}
+use Rattle.toml_edit_c.specs.Runs.{AreWords, Ends}
+use Rattle.toml_edit_c.proofs.Ending.{ends-by}
 use Rattle.toml_edit_c.proofs.command.ended_on.Goals as goal
 
-pub returns-in-Err : goal.returns-in-Err
-returns-in-Err c =
-    let input = c.args.input.now in let words = c.as_slice-in-Err.result.now in
-    some-weaker c.ended_by-in-Err.result
-    (λ e. (e.status ≤ 2) × Ends (request words) input e.status (string_bytes e.output) (string_bytes e.errors))
-    (λ e. (e.status ≤ 2) × EndsOn c.args.words.now input e.status (string_bytes e.output) (string_bytes e.errors))
-    (λ e is. (
-      is.0,
+pub returns : goal.returns
+returns c =
+    let ws = map string_bytes c.as_slice.result.now in let run = c.run-status in
+    let low : c.run-status.result ≤ 2 = omega arith in let works : c.run-status.new.errors.failed ≡ false = cc in (
+      low,
       (
-        map string_bytes words,
-        inr (c.in-Err.ensures.cases.0, ap (map string_bytes) (c.as_slice-in-Err.ensures.value ∙ c.new-none.ensures.items)),
-        is.1,
+        ws,
+        subst (λ words. AreWords c.args.words.now (map string_bytes words)) (sym c.as_slice.ensures.value) c.in-Ok.ensures,
+        subst (λ (i : Bor Text). Ends (asked ws) i.now run.result run.new.output.bytes.items run.new.errors.bytes.items) c.new-input.ensures.inner
+            (ends-by (asked ws) c.new-input.result.inner.now run.result c.new-output.result.bytes.items run.new.output.bytes.items
+            c.new-errors.result.bytes.items run.new.errors.bytes.items run.new.output.failed run.new.errors.failed c.new-output.ensures.empty
+            c.new-errors.ensures.empty works low (λ is. run.ensures.failed.1 (inr is)) run.ensures.done
+            (λ zero. let same = run.ensures.quiet zero in cc) run.ensures.refused run.ensures.mistaken run.ensures.said run.ensures.unwritten),
       ),
-    )) c.ended_by-in-Err.ensures
+    )

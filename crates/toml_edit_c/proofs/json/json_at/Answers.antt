@@ -1,7 +1,7 @@
 -- What is at the path, or not.
 use Rattle.std.proofs.Common.{◌≡◌, string_bytes, subst, sym}
 use Rattle.std.proofs.lemmas.Result.{IfOk-weaker}
-use Rattle.toml_edit_command.specs.Words.{SpellsPath}
+use Rattle.toml_edit_words.specs.Spelled.{SpellsPath}
 use Rattle.toml_edit_command.specs.Written.{held}
 use Rattle.toml_edit_json.specs.Values.{json_text}
 use Rattle.toml_edit_model.specs.Keys.{names}

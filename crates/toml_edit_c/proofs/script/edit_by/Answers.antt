@@ -5,7 +5,8 @@ use Rattle.toml_edit_command.specs.Written.{held}
 use Rattle.toml_edit_model.specs.Mode.{Mode}
 use Rattle.toml_edit_model.specs.Version.{Version}
 use Rattle.toml_edit_parser.specs.Options.{mode_of, version_of}
-use Rattle.toml_edit_c.specs.Scripts.{IsEdited, IsEditedOf, SaysEdits, StopsEditOf, StopsEditing}
+use Rattle.toml_edit_edits.specs.Said.{SaysEdits}
+use Rattle.toml_edit_c.specs.Scripts.{IsEdited, IsEditedOf, StopsEditOf, StopsEditing}
 use Rattle.toml_edit_c.specs.Split.{words_in}
 use Rattle.toml_edit_c.proofs.script.edit_by.Goals as goal
 

@@ -1,7 +1,7 @@
 -- A text that is not a path is not one of characters.
 use Rattle.std.proofs.Common.{◌≡◌, ◌⊎◌, inl, inr, subst}
 use Rattle.std.proofs.lemmas.Result.{IfErr-weaker}
-use Rattle.toml_edit_command.specs.Words.{IsNoPath}
+use Rattle.toml_edit_words.specs.Spelled.{IsNoPath}
 use Rattle.toml_edit_c.specs.Made.{MayStopPath}
 use Rattle.toml_edit_c.specs.declared.stop.Stop.TheVariants as stops
 use Rattle.toml_edit_c.proofs.words.path_of.Goals as goal

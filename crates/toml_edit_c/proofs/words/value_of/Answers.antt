@@ -1,7 +1,7 @@
 -- A text that is not a value is not one of characters.
 use Rattle.std.proofs.Common.{◌≡◌, ◌⊎◌, inl, inr, subst}
 use Rattle.std.proofs.lemmas.Result.{IfErr-weaker}
-use Rattle.toml_edit_command.specs.Words.{IsNoValue}
+use Rattle.toml_edit_words.specs.Spelled.{IsNoValue}
 use Rattle.toml_edit_parser.specs.Options.{version_of}
 use Rattle.toml_edit_c.specs.Made.{MayStopValue}
 use Rattle.toml_edit_c.specs.declared.stop.Stop.TheVariants as stops

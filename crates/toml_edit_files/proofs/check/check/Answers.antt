@@ -11,8 +11,9 @@ returns-then-not-add g c =
     let i = c.files.file-index in
     let below : i < length fs = omega arith in
     let is : c.add.result ≡ false = grind (arith, c.if-not-add.true) in
-    before_at (ChecksFile (version_by c.args.reading)) fs (g.F.Folder.history c.args.folder.now) i (g.F.Folder.history c.files.folder) c.files.told
-    c.files.invariant _ below (g.F.Folder.history c.check_file-checked.new.folder) c.check_file-checked.result c.check_file-checked.ensures
+    before_at (ChecksFile (version_by c.args.reading)) fs (g.F.Folder.history c.args.folder.now) (g.I.Input.remaining c.args.input.now) i (g.F.Folder.history c.files.folder)
+    (g.I.Input.remaining c.files.input) c.files.told
+    c.files.invariant _ below (g.F.Folder.history c.check_file-checked.new.folder) c.check_file-checked.result c.check_file-checked.ensures.checks
     c.add.new.self c.add.result c.add.ensures.told is
 
 pub files-preserved : goal.files-preserved
@@ -21,12 +22,13 @@ files-preserved g c =
     let i = c.files.file-index in
     let below : i < length fs = omega arith in
     let is : c.add.result ≡ true = grind (arith, c.if-not-add.false) in
-    more_at (ChecksFile (version_by c.args.reading)) fs (g.F.Folder.history c.args.folder.now) i (g.F.Folder.history c.files.folder) c.files.told
-    c.files.invariant _ below (g.F.Folder.history c.check_file-checked.new.folder) c.check_file-checked.result c.check_file-checked.ensures
-    c.add.new.self c.add.result c.add.ensures.told c.add.ensures.memory is
+    more_at (ChecksFile (version_by c.args.reading)) fs (g.F.Folder.history c.args.folder.now) (g.I.Input.remaining c.args.input.now) i (g.F.Folder.history c.files.folder)
+    (g.I.Input.remaining c.files.input) c.files.told
+    c.files.invariant _ below (g.F.Folder.history c.check_file-checked.new.folder) c.check_file-checked.result c.check_file-checked.ensures.checks
+    c.add.new.self c.add.result c.add.ensures.told (g.I.Input.remaining c.check_file-checked.new.input) c.check_file-checked.ensures.rest c.add.ensures.memory is
 
 pub returns : goal.returns
 returns g c =
     let past : length c.args.files.now ≤ c.files.file-index = omega arith in
-    done_at (ChecksFile (version_by c.args.reading)) c.args.files.now (g.F.Folder.history c.args.folder.now) c.files.file-index
-    (g.F.Folder.history c.files.folder) c.files.told c.files.invariant past
+    done_at (ChecksFile (version_by c.args.reading)) c.args.files.now (g.F.Folder.history c.args.folder.now) (g.I.Input.remaining c.args.input.now) c.files.file-index
+    (g.F.Folder.history c.files.folder) (g.I.Input.remaining c.files.input) c.files.told c.files.invariant past

@@ -1,11 +1,12 @@
 -- A replacement of the other file may have been begun.
-use Rattle.std.proofs.Common.{subst}
-use Rattle.toml_edit_replace.specs.Events.{Text}
-use Rattle.toml_edit_files.specs.EditFiles.{target_of}
-use Rattle.toml_edit_files.specs.Folders.{MayBegin, Stops}
+use Rattle.std.proofs.Common.{inl, subst, sym}
+use Rattle.file_replace.specs.Events.{Text}
+use Rattle.toml_edit_files.specs.EditFiles.{IsUnmade, target_of}
+use Rattle.toml_edit_files.specs.Folders.{IsTextOf, MayBegin, Stops}
 use Rattle.toml_edit_files.specs.Stops.{reason_of}
 use Rattle.toml_edit_files.proofs.FolderLaws.{begins_then, stops_beginning}
 use Rattle.toml_edit_files.proofs.StopLaws.{passed}
+use Rattle.toml_edit_files.proofs.UnmadeLaws.{unedited, unput, unread}
 use Rattle.toml_edit_files.proofs.edit.edit_elsewhere.Goals as goal
 
 pub returns-in_err-put_at-clause-stops : goal.returns-in_err-put_at-clause-stops
@@ -19,3 +20,31 @@ returns-in_err-put_at-clause-stops g c =
     (stops_beginning target old new _ c.in_err-put_at.ensures.reason
     (begins_then target old read new c.in_ok-text.ensures.looks
     (subst (λ (n : Text). MayBegin n read new) c.target_of.ensures c.in_err-put_at.ensures.stops)))
+
+pub returns-in_err-text-clause-unmade : goal.returns-in_err-text-clause-unmade
+returns-in_err-text-clause-unmade g c =
+    let old = g.F.Folder.history c.args.folder.now in
+    let new = g.F.Folder.history c.text_of.new.folder in
+    let left = g.I.Input.remaining c.args.input.now in
+    passed c.from_residual.result c.in_err-text.field-0.0 (λ s. IsUnmade c.args.reading c.args.command.now c.args.edits.now old new left (reason_of s))
+    c.from_residual.ensures.1 (unread c.args.reading c.args.command.now c.args.edits.now old new left _ c.in_err-text.ensures.stops)
+
+pub returns-in_err-edited-clause-unmade : goal.returns-in_err-edited-clause-unmade
+returns-in_err-edited-clause-unmade g c =
+    let old = g.F.Folder.history c.args.folder.now in
+    let new = g.F.Folder.history c.text_of.new.folder in
+    let left = g.I.Input.remaining c.args.input.now in
+    passed c.from_residual-in_err-edited.result c.in_err-edited.field-0.0
+    (λ s. IsUnmade c.args.reading c.args.command.now c.args.edits.now old new left (reason_of s)) c.from_residual-in_err-edited.ensures.1
+    (unedited c.args.reading c.args.command.now c.args.edits.now old new left c.as_str.result.now _
+    (inl (subst (λ (t : Text). IsTextOf c.args.command.now.file.now old new left t) (sym c.as_str.ensures.value) c.in_ok-text.ensures.text))
+    c.in_err-edited.ensures.stops)
+
+pub returns-in_err-put_at-clause-unmade : goal.returns-in_err-put_at-clause-unmade
+returns-in_err-put_at-clause-unmade g c =
+    let old = g.F.Folder.history c.args.folder.now in
+    let new = g.F.Folder.history c.put_at.new.folder in
+    let left = g.I.Input.remaining c.args.input.now in
+    passed c.from_residual-in_err-put_at.result c.in_err-put_at.field-0.0
+    (λ s. IsUnmade c.args.reading c.args.command.now c.args.edits.now old new left (reason_of s)) c.from_residual-in_err-put_at.ensures.1
+    (unput c.args.reading c.args.command.now c.args.edits.now old new left _ c.in_err-put_at.ensures.reason)

@@ -1,30 +1,44 @@
 -- The text is formatted, or refused.
-use Rattle.std.proofs.Common.{◌≡◌, ◌∙◌, ◌++◌, true, false, [], ap, arith, inl, inr, rules, string_bytes, subst}
-use Rattle.std.specs.Prelude.{Some, bytes_eq, codes, if◌then◌else◌}
-use Rattle.toml_edit_replace.specs.Events.{Text}
-use Rattle.toml_edit_files.specs.Checks.{IsReadAsRefused}
-use Rattle.toml_edit_files.specs.Edited.{IsAccepted, version_by}
-use Rattle.toml_edit_files.specs.Folders.{is_stream}
-use Rattle.toml_edit_files.specs.FormatFiles.{IsFormatted}
+use Rattle.std.proofs.Common.{◌≡◌, ◌∙◌, ◌++◌, true, false, [], ap, arith, inl, inr, rules, string_bytes, subst, sym}
+use Rattle.std.proofs.lemmas.Result.{IfErr-weaker}
+use Rattle.std.specs.Prelude.{Option, bytes_eq, codes, if◌then◌else◌}
+use Rattle.file_replace.specs.Events.{Text}
+use Rattle.toml_edit_files.specs.Folders.{IsTextOf, is_stream}
+use Rattle.toml_edit_files.specs.FormatFiles.{IsFormatted, IsUnformatted}
 use Rattle.toml_edit_files.specs.Stops.{reason_of}
-use Rattle.toml_edit_files.specs.declared.stop.Reason.TheVariants.{Refused}
+use Rattle.toml_edit_files.proofs.FormatLaws.{no-text-read, none-formatted}
 use Rattle.toml_edit_files.proofs.RunLaws.{formats_not, formats_out, line_so, stream_so}
 use Rattle.toml_edit_files.proofs.StopLaws.{passed}
 use Rattle.toml_edit_files.proofs.fmt.done_of.Goals as goal
 use Rattle.toml_edit_files.proofs.fmt.done_of.Goals.{else-not-command-via-then-not-command+else-ne, else-not-command-via-else-not-command}
 use Rattle.toml_edit_files.proofs.fmt.done_of.Goals.{then-eq, else-eq+in_ok-line}
 
-pub returns-in_err-text-clause-refused : goal.returns-in_err-text-clause-refused
-returns-in_err-text-clause-refused g c =
-    let v = version_by c.args.reading in
-    passed c.from_residual-in_err-text.result c.in_err-text.field-0.0
-    (λ s. reason_of s ≡ Some Refused → IsReadAsRefused v c.args.file.now (g.F.Folder.history c.args.folder.now) (g.F.Folder.history c.text_of.new.folder))
+pub returns-then-ne-clause-unmade : goal.returns-then-ne-clause-unmade
+returns-then-ne-clause-unmade g c =
+    let style = c.args.command.now.style in let file = c.args.file.now in
+    let old = g.F.Folder.history c.args.folder.now in
+    let new = g.F.Folder.history c.in_place.new.folder in let left = g.I.Input.remaining c.args.input.now in
+    IfErr-weaker c.in_place.result (λ s. (left : Option Text) → IsUnformatted c.args.reading style file old new left (reason_of s))
+    (λ s. IsUnformatted c.args.reading style file old new left (reason_of s)) (λ s h. h left) c.in_place.ensures.unmade
+
+pub returns-in_err-before-clause-unmade : goal.returns-in_err-before-clause-unmade
+returns-in_err-before-clause-unmade g c =
+    let style = c.args.command.now.style in let file = c.args.file.now in
+    let old = g.F.Folder.history c.args.folder.now in
+    let new = g.F.Folder.history c.text_of.new.folder in let left = g.I.Input.remaining c.args.input.now in
+    passed c.from_residual.result c.in_err-before.field-0.0 (λ s. IsUnformatted c.args.reading style file old new left (reason_of s))
+    c.from_residual.ensures.1 (no-text-read c.args.reading style file old new left _ c.in_err-before.ensures.stops)
+
+pub returns-in_err-text-clause-unmade : goal.returns-in_err-text-clause-unmade
+returns-in_err-text-clause-unmade g c =
+    let style = c.args.command.now.style in let file = c.args.file.now in
+    let old = g.F.Folder.history c.args.folder.now in
+    let new = g.F.Folder.history c.text_of.new.folder in let left = g.I.Input.remaining c.args.input.now in
+    passed c.from_residual-in_err-text.result c.in_err-text.field-0.0 (λ s. IsUnformatted c.args.reading style file old new left (reason_of s))
     c.from_residual-in_err-text.ensures.1
-    (λ is. (
-      string_bytes c.in_ok-before.before,
-      inl (g.I.Input.remaining c.args.input.now, c.in_ok-before.ensures.text),
-      inr (subst (λ (s : Text). ¬ (IsAccepted v s)) c.as_str-before.ensures.value (c.in_err-text.ensures.refused is)),
-    ))
+    (none-formatted c.args.reading style file old new left c.as_str-before.result.now _
+    (inl (subst (λ (t : Text). IsTextOf file old new left t) (sym c.as_str-before.ensures.value) c.in_ok-before.ensures.text))
+    c.in_err-text.ensures.stops)
 
 pub returns-then-not-command-2-clause-done : goal.returns-then-not-command-2-clause-done
 returns-then-not-command-2-clause-done g c =

@@ -5,5 +5,5 @@ use Rattle.toml_edit_files.proofs.fmt.fmt.Given as goal
 
 abbrev pub invariant-files : goal.invariant-files
 invariant-files g l =
-    SoFar (FormatsFile l.reading l.command) (names_from 0 l.files) (g.F.Folder.history l.initial.folder) (names_from l.file-index l.files)
-    (g.F.Folder.history l.folder) l.told
+    SoFar (FormatsFile l.reading l.command) (names_from 0 l.files) (g.F.Folder.history l.initial.folder)
+    (g.I.Input.remaining l.initial.input) (names_from l.file-index l.files) (g.F.Folder.history l.folder) (g.I.Input.remaining l.input) l.told

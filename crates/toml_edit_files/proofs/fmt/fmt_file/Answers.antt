@@ -1,25 +1,16 @@
--- The file is refused.
-use Rattle.std.proofs.Common.{◌≡◌, ◌∙◌, false, ap, subst, sym}
-use Rattle.std.specs.Prelude.{Option, Some}
-use Rattle.toml_edit_files.specs.Folders.{Stops, is_stream}
-use Rattle.toml_edit_files.specs.Stops.{reason_of}
-use Rattle.toml_edit_files.specs.declared.stop.Reason.{Reason}
-use Rattle.toml_edit_files.specs.declared.stop.Reason.TheVariants.{Refused}
-use Rattle.toml_edit_files.proofs.RunLaws.{formatted_file, refused_file}
+-- Standard input is formatted, or a file, which may be refused.
+use Rattle.std.proofs.Common.{◌∙◌, sym}
+use Rattle.toml_edit_files.proofs.RunLaws.{formatted_file, formatted_input}
 use Rattle.toml_edit_files.proofs.fmt.fmt_file.Goals as goal
 
-pub returns-in-Err-Message-Refused-default : goal.returns-in-Err-Message-Refused-default
-returns-in-Err-Message-Refused-default g c =
-    let x = c.in-Err-Message-Refused-default in
-    let file = c.args.file.now in
-    let old = g.F.Folder.history c.args.folder.now in
-    let new = g.F.Folder.history c.done_of-done.new.folder in
-    let why : reason_of x.field-0 ≡ Some Refused = ap reason_of x.field-0-is ∙ ap (λ (r : Reason). Some r) x.field-0-0-is in
-    let other : is_stream file ≡ false = sym c.eq.ensures ∙ c.if-eq.false in
-    refused_file c.args.reading c.args.command.now file c.told_of_refused.result old new other (x.ensures.refused why)
-    (subst (λ (w : Option Reason). Stops file old new w) why x.ensures.stops) c.told_of_refused.ensures
+pub returns-then-eq-clause-formats : goal.returns-then-eq-clause-formats
+returns-then-eq-clause-formats g c =
+    formatted_input c.args.reading c.args.command.now c.args.file.now c.told_of.result (g.F.Folder.history c.args.folder.now)
+    (g.F.Folder.history c.done_of-done.new.folder) (g.I.Input.remaining c.args.input.now) c.done_of-done.result (sym c.eq.ensures ∙ c.if-eq.true)
+    c.done_of-done.ensures.done c.done_of-done.ensures.stops c.done_of-done.ensures.unmade c.told_of.ensures
 
-pub returns-then-eq : goal.returns-then-eq
-returns-then-eq g c =
-    formatted_file c.args.reading c.args.command.now c.args.file.now c.told_of.result (g.F.Folder.history c.args.folder.now)
-    (g.F.Folder.history c.done_of-done.new.folder) c.done_of-done.result c.done_of-done.ensures.done c.done_of-done.ensures.stops c.told_of.ensures
+pub returns-clause-formats : goal.returns-clause-formats
+returns-clause-formats g c =
+    formatted_file c.args.reading c.args.command.now c.args.file.now c.told_of_file.result (g.F.Folder.history c.args.folder.now)
+    (g.F.Folder.history c.done_of-done.new.folder) (g.I.Input.remaining c.args.input.now) c.done_of-done.result (sym c.eq.ensures ∙ c.if-eq.false)
+    c.done_of-done.ensures.done c.done_of-done.ensures.stops c.done_of-done.ensures.unmade c.told_of_file.ensures

@@ -1,6 +1,6 @@
 -- A replacement of the file that the name leads to may have been begun.
 use Rattle.std.proofs.Common.{string_bytes, subst}
-use Rattle.toml_edit_replace.specs.Events.{Text}
+use Rattle.file_replace.specs.Events.{Text}
 use Rattle.toml_edit_files.specs.Folders.{StopsPutting}
 use Rattle.toml_edit_files.proofs.FolderLaws.{named_begins}
 use Rattle.toml_edit_files.proofs.StopLaws.{on_err}

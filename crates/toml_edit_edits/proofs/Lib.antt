@@ -1,0 +1,16 @@
+pub mod CallLaws
+pub mod ElementLaws
+pub mod LineEdits
+pub mod LineLaws
+pub mod LineTexts
+pub mod LinesStayLaws
+pub mod ListLaws
+pub mod MoveLaws
+pub mod OutcomeLaws
+pub mod PathLaws
+pub mod RemovesLaws
+pub mod RootLaws
+pub mod SameLaws
+pub mod ViewedSlots
+pub mod WordLaws
+pub mod staying

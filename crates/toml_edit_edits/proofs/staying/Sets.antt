@@ -1,0 +1,127 @@
+-- A value that is put in a value, or under a new key.
+use Rattle.std.proofs.Common.{◌≡◌, refl, sym, ◌∙◌, ap, subst, true, List, [], ◌∷◌, ◌++◌, Some, inl, inr}
+use Rattle.toml_edit_model.specs.Mode.{Mode}
+use Rattle.toml_edit_model.specs.Text.{Text}
+use Rattle.toml_edit_model.specs.Keys.{names, new_key}
+use Rattle.toml_edit_model.specs.Tree.{Key, Node, nothing, leaf, list, inline, table, tables, no_slots, slot, SlotsAreWellMade, IsWellMade, Tree, is_value_node}
+use Rattle.toml_edit_model.specs.Fits.{is_steady_in}
+use Rattle.toml_edit_model.specs.Slots.{with_item, changed}
+use Rattle.toml_edit_model.specs.Lists.{slot_list, slots_from}
+use Rattle.toml_edit_laws.specs.Locality.{root_visit, is_plain_value}
+use Rattle.toml_edit_laws.proofs.common.OptionSteps.{some-is}
+use Rattle.toml_edit_edit_laws.specs.Commands.{done, mapped, child, item_at, item_below, root_item, set_at, set_below, with_slots}
+use Rattle.toml_edit_edit_laws.specs.CommandLaws.{AreSpelled}
+use Rattle.toml_edit_edit_laws.specs.Headed.{set_at_with_headers, set_headed_below}
+use Rattle.toml_edit_edit_laws.specs.Staying.{StaysButAt}
+use Rattle.toml_edit_edit_laws.proofs.commands.Finding.{some-and}
+use Rattle.toml_edit_edit_laws.proofs.commands.Going.{item-along}
+use Rattle.toml_edit_edit_laws.proofs.commands.Keeping.{set_keeps_the_rest}
+use Rattle.toml_edit_edit_laws.proofs.commands.Setting.{was-mapped}
+use Rattle.toml_edit_edit_laws.proofs.path_calls.Inside.{set-stands}
+use Rattle.toml_edit_edit_laws.proofs.path_calls.Keys.{child-at}
+use Rattle.toml_edit_edit_laws.proofs.path_calls.Setting.{set_adds_after_lines, set_adds_under}
+use Rattle.toml_edit_paths.specs.Calls.{replaced_at, replaced_below}
+use Rattle.toml_edit_edits.specs.OthersStay.{HasPlace, in_value, at_new_key}
+use Rattle.toml_edit_edits.proofs.staying.Words.{StaysAt, StaysWithin, SetStays, HeaderStays}
+use Rattle.toml_edit_edit_laws.specs.Places.{place_of}
+use Rattle.toml_edit_edit_laws.proofs.path_calls.Places.{names-join}
+use Rattle.toml_edit_edits.proofs.staying.Below.{below-made, child-goes, same-child}
+use Rattle.toml_edit_edits.proofs.staying.Values.{value-stays}
+
+-- ---- in a value
+
+-- what is set below an item is put in its place
+set-front : (v : Node) (front inner : List Key) (n old r : Node) → item_below (names front) n ≡ Some old
+    → set_below v (front ++ inner) n ≡ done r
+    → (m : Node) × (set_below v inner old ≡ done m) × (replaced_below (names front) m n ≡ done r)
+set-front v [] inner n old r h g = (r, ap (set_below v inner) (sym (some-is n old h)) ∙ g, refl)
+set-front v (k ∷ front) inner n old r h g =
+    let c = some-and (item_below (names front)) (child k.name n) old h in
+    let w = child-at k.name n c.0 c.1 in
+    let b = was-mapped w.0 (set_below v (front ++ inner) c.0) r
+    (sym (w.1 (set_below v (front ++ inner))) ∙ sym (child-goes k (set_below v (front ++ inner)) n c.0 c.1) ∙ g) in
+    let i = set-front v front inner c.0 old b.from c.2 b.is in
+    (i.0, i.1, w.1 (replaced_below (names front) i.0) ∙ ap (mapped w.0) i.2 ∙ ap (λ x. done x) (sym b.gives))
+
+-- a tree that holds the value alone, under the empty key
+abbrev alone : Tree → Node → Tree
+alone t n = record t { slots = slot (new_key []) n no_slots }
+
+set-well : (t : Tree) (v : Node) (inner : List Key) (old n : Node) → IsWellMade v → IsWellMade old → AreSpelled inner
+    → set_below v inner old ≡ done n → IsWellMade n
+set-well t v inner old n wv w spelled h =
+    let is : set_at (new_key [] ∷ inner) v (alone t old) ≡ done (alone t n) =
+    ap (λ a. mapped (with_slots (alone t old)) (mapped (λ xs. table t.root (slots_from xs))
+    (mapped (λ m. changed [] (with_item m) (slot_list (alone t old).slots)) a))) h in
+    (set_keeps_the_rest (alone t old) (alone t n) (new_key [] ∷ inner) v (refl, tt, w, tt) wv (tt, spelled) is).made.2
+
+module _ (mode : Mode) (t u : Tree) (path : List Key) (v : Node) (made : SlotsAreWellMade t.slots) (steady : is_steady_in mode t ≡ true)
+    (plain : is_plain_value v ≡ true) (wv : IsWellMade v) (set : set_at path v t ≡ done u) where
+  pub set-in : (front inner : List Key) (old : Node) → path ≡ front ++ inner → AreSpelled inner
+      → item_at (names front) t ≡ Some old → is_value_node old ≡ true → StaysWithin mode t u (names front)
+  set-in front inner old same spelled there value =
+      let root = was-mapped (with_slots t) (set_below v path (root_item t)) u set in
+      let f = set-front v front inner (root_item t) old root.from there (ap (λ q. set_below v q (root_item t)) (sym same) ∙ root.is) in
+      let put : replaced_at (names front) f.0 t ≡ done u = ap (mapped (with_slots t)) f.2 ∙ ap (λ x. done x) (sym root.gives) in
+      let wold : IsWellMade old = below-made (names front) (root_item t) old made there in
+      value-stays mode t u (names front) old f.0 made steady there value
+      (λ undotted. (set-stands v inner old f.0 value undotted plain f.1).0) (set-well t v inner old f.0 wv wold spelled f.1) put
+
+  set-under : (below : List Key) → HasPlace mode t path below → StaysAt mode t u (names path)
+  set-under below (in_value front inner old same spelled there value) =
+      subst (λ (q : List Text). StaysButAt mode (place_of t q ∷ []) t u) (sym (names-join front inner) ∙ ap names (sym same))
+      (set-in front inner old same spelled there value (names inner))
+  set-under below (at_new_key front k w same spelled names-it new (inl has)) =
+      subst (λ q. StaysAt mode t u (names q)) (sym same)
+      (set_adds_under mode t u front w k below v made steady wv plain spelled names-it new has (ap (λ q. set_at q v t) (sym same) ∙ set)).stays
+  set-under below (at_new_key front k w same spelled names-it new (inr some)) =
+      subst (λ q. StaysAt mode t u (names q)) (sym same)
+      (set_adds_after_lines mode t u front w k below v made steady wv plain spelled names-it new some (ap (λ q. set_at q v t) (sym same) ∙ set)).1
+
+pub set-stays : (mode : Mode) → SetStays mode
+set-stays mode t u path below v made steady plain wv may set = set-under mode t u path v made steady plain wv set below may
+
+-- ---- no table is missing
+
+value-same : (v : Node) (inner : List Key) (old : Node) → is_value_node old ≡ true → set_headed_below v inner old ≡ set_below v inner old
+value-same v [] old h = refl
+value-same v (k ∷ inner) (leaf s r d) h = refl
+value-same v (k ∷ inner) (list f xs) h = refl
+value-same v (k ∷ inner) (inline f ss) h = refl
+value-same v (k ∷ inner) (table f ss) h = absurd cc
+value-same v (k ∷ inner) (tables e xs) h = absurd cc
+value-same v (k ∷ inner) nothing h = absurd cc
+
+-- where the front of the path leads to an item in which the rest does the same
+module _ (v : Node) (inner : List Key) (old : Node) (same : set_headed_below v inner old ≡ set_below v inner old) where
+  same-in : (front : List Key) (n : Node) → item_below (names front) n ≡ Some old
+      → set_headed_below v (front ++ inner) n ≡ set_below v (front ++ inner) n
+  same-in [] n h = subst (λ x. set_headed_below v inner x ≡ set_below v inner x) (sym (some-is n old h)) same
+  same-in (k ∷ front) (table f ss) h =
+      let c = some-and (item_below (names front)) (child k.name (table f ss)) old h in
+      same-child k (set_headed_below v (front ++ inner)) (set_below v (front ++ inner)) (table f ss) c.0 c.1 (same-in front c.0 c.2)
+  same-in (k ∷ front) (tables e xs) h =
+      let c = some-and (item_below (names front)) (child k.name (tables e xs)) old h in
+      same-child k (set_headed_below v (front ++ inner)) (set_below v (front ++ inner)) (tables e xs) c.0 c.1 (same-in front c.0 c.2)
+  same-in (k ∷ front) (leaf s r d) h = refl
+  same-in (k ∷ front) (list f xs) h = refl
+  same-in (k ∷ front) (inline f ss) h = refl
+  same-in (k ∷ front) nothing h = absurd cc
+
+module _ (mode : Mode) (t : Tree) (v : Node) where
+  at-path : (path front inner : List Key) (old : Node) → path ≡ front ++ inner → item_at (names front) t ≡ Some old
+      → set_headed_below v inner old ≡ set_below v inner old → set_at_with_headers path v t ≡ set_at path v t
+  at-path path front inner old is there same =
+      ap (λ q. mapped (with_slots t) (set_headed_below v q (root_item t))) is
+      ∙ ap (mapped (with_slots t)) (same-in v inner old same front (root_item t) there)
+      ∙ sym (ap (λ q. mapped (with_slots t) (set_below v q (root_item t))) is)
+
+  pub no-headers : (path : List Key) → HasPlace mode t path [] → set_at_with_headers path v t ≡ set_at path v t
+  no-headers path (in_value front inner old same spelled there value) = at-path path front inner old same there (value-same v inner old value)
+  no-headers path (at_new_key front k w same spelled names-it new takes) =
+      at-path path front (k ∷ []) (table w.fields w.slots) same
+      (item-along names-it.way (names front) (root_visit t) w names-it.goes names-it.leads) refl
+
+pub header-stays : (mode : Mode) → HeaderStays mode
+header-stays mode t u path v made steady plain wv may set =
+    set-stays mode t u path [] v made steady plain wv may (sym (no-headers mode t v path may) ∙ set)

@@ -1,0 +1,16 @@
+pub mod Same
+pub mod Outcomes
+pub mod Said
+pub mod Missing
+pub mod Effects
+pub mod Elements
+pub mod Moves
+pub mod FirstTable
+pub mod Slots
+pub mod Lists
+pub mod Along
+pub mod Removes
+pub mod LinesStay
+pub mod OthersStay
+-- Worked examples: nothing cites them.
+pub mod examples

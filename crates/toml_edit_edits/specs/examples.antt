@@ -1,0 +1,4 @@
+-- Worked examples.
+pub mod Elements
+pub mod OthersStay
+pub mod Said

@@ -1,0 +1,39 @@
+//! Laws of what edits leave.
+ghost use Rattle.toml_edit_model.specs.Mode.{Mode};
+ghost use Rattle.toml_edit_edits.specs.LinesStay.{InsertedLines, RemovedLines};
+ghost use Rattle.toml_edit_edits.specs.OthersStay.{AppliedStay, ElementAddsTable, FirstAddsTable, HeaderAddsTable};
+
+/// Where the values of an array have lines of their own, the print of the array after a value is
+/// inserted with its line, by [`Edit::Append`](crate::Edit::Append) or
+/// [`Edit::Insert`](crate::Edit::Insert), is the one before, byte for byte, with lines more in one
+/// place. After a value is removed with its line it is the one before, with lines less.
+pub fn lines_stay()
+    ensures inserted { (mode : Mode) → InsertedLines mode }
+    ensures removed { (mode : Mode) → RemovedLines mode }
+{}
+
+/// Edits that are made in a steady tree, one after another, leave all statements as they were, byte
+/// for byte and in their order, but those at the places of the edits, and below them. The tree is
+/// steady again, and after harmless edits one that fitted fits. After sorts of tables it prints the
+/// same statements, in another order.
+///
+/// A value is put where one is, in one, or under a new key of the root, of a table with a printed
+/// header or of one that has lines. A key is moved below its own table, or with a value to such a
+/// place.
+pub fn others_stay()
+    ensures edits { (mode : Mode) → AppliedStay mode }
+{}
+
+/// An [`Edit::Header`](crate::Edit::Header) of which tables are missing leaves all statements of a
+/// steady tree as they were, and adds one table: its header and the line of the value.
+pub fn header_adds()
+    ensures table { (mode : Mode) → HeaderAddsTable mode }
+{}
+
+/// An [`Edit::Append`](crate::Edit::Append) to an array of tables, and an
+/// [`Edit::Table`](crate::Edit::Table), leave all statements of a steady tree as they were, and add
+/// one table: its header and the lines of the pairs.
+pub fn element_adds()
+    ensures last { (mode : Mode) → ElementAddsTable mode }
+    ensures first { (mode : Mode) → FirstAddsTable mode }
+{}

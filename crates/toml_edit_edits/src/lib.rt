@@ -1,0 +1,26 @@
+//! Edits of a document, one after another: their words, what each one does, and why one is refused.
+#![tactic(auto)]
+
+mod along;
+mod arrays;
+mod edit;
+mod elements;
+mod fault;
+mod first_table;
+mod keys;
+pub mod laws;
+mod missing;
+mod moves;
+mod read_edit;
+mod removes;
+mod same;
+mod script;
+mod verb;
+
+pub use edit::Edit;
+pub use fault::{EditFault, ScriptFault, WordFault, WordsFault};
+pub use keys::comment_text;
+pub use read_edit::{edits_of, keys_of, next_edit};
+pub use same::same_value;
+pub use script::{apply, apply_edit};
+pub use verb::{PathVerb, TextVerb, VERBS, ValueVerb, Verb};

@@ -1,0 +1,11 @@
+-- The options to come follow those so far.
+use Rattle.std.proofs.Common.{◌≡◌, drop, map}
+use Rattle.toml_edit_files.specs.Requests.{shape_in}
+use Rattle.toml_edit_files.specs.Split.{split_of}
+use Rattle.toml_edit_files.specs.declared.words.Shape.TheVariants.{Spelled}
+use Rattle.toml_edit_files.proofs.SplitLaws.{option_of}
+use Rattle.toml_edit_files.proofs.request.shape_of.Given as goal
+
+abbrev pub invariant-options : goal.invariant-options
+invariant-options l =
+    shape_in Spelled (split_of l.words).options ≡ shape_in l.shape (map option_of (drop l.option-index l.option-items))

@@ -1,5 +1,0 @@
-use Rattle.toml_edit_replace.proofs.Crashes.{ends-over}
-use Rattle.toml_edit_replace.proofs.laws.done_is_over.Goals as goal
-
-pub returns : goal.returns
-returns c = λ a es is. ends-over a es is

@@ -1,6 +1,0 @@
--- Each call has a shorter path.
-use Rattle.std.proofs.Common.{length}
-use Rattle.toml_edit_script.proofs.missing.+keys_there.Given as goal
-
-abbrev pub decreases-keys_there : goal.decreases-keys_there
-decreases-keys_there l = length l.path.now

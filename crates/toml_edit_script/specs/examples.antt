@@ -1,3 +1,0 @@
--- Worked examples.
-pub mod Elements
-pub mod OthersStay

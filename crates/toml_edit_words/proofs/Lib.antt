@@ -1,0 +1,3 @@
+-- Lemmas on words.
+pub mod Keys
+pub mod Read

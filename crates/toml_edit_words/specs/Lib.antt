@@ -1,0 +1,2 @@
+-- Cited by public contracts.
+pub mod Spelled
