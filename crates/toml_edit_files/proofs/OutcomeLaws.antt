@@ -10,6 +10,9 @@ use Rattle.toml_edit_files.specs.declared.told.Told.{Told}
 abbrev output : Told → Text
 output t = string_bytes t.output
 
+abbrev notes : Told → Text
+notes t = string_bytes t.notes
+
 abbrev statuses : List Told → List ℕ
 statuses ts = map (λ t. t.status) ts
 
@@ -26,27 +29,30 @@ module _ (Does : Text → Told → Option (List Event) → Option (List Event) �
     pub count : length told + length rest ≡ length names
     pub status : all.status ≡ worst (statuses told)
     pub output : string_bytes all.output ≡ flat_map (λ t. string_bytes t.output) told
+    pub notes : string_bytes all.notes ≡ flat_map (λ t. string_bytes t.notes) told
     pub onward : (more : List Told) (new : Option (List Event)) → AreDone Does rest more now new left
         → AreDone Does names (told ++ more) start new first
 
-  pub none_yet : (all : Told) → all.status ≡ 0 → string_bytes all.output ≡ [] → SoFar names start first all
-  none_yet all status silent = record {
+  pub none_yet : (all : Told) → all.status ≡ 0 → string_bytes all.output ≡ [] → string_bytes all.notes ≡ [] → SoFar names start first all
+  none_yet all status silent quiet = record {
     told = [];
     count = omega arith;
     status = status;
     output = silent;
+    notes = quiet;
     onward = λ more new are. are;
   }
 
   module _ (name : Text) (rest : List Text) (now next : Option (List Event)) (left after : Option Text) (all new t : Told)
       (so : SoFar (name ∷ rest) now left all) (does : Does name t now next left) where
     pub one_more : LeavesInput name left after → t.status ≢ 3 → new.status ≡ max all.status t.status → string_bytes new.output ≡ string_bytes all.output ++ string_bytes t.output
-        → SoFar rest next after new
-    one_more leaves sound status written = record {
+        → string_bytes new.notes ≡ string_bytes all.notes ++ string_bytes t.notes → SoFar rest next after new
+    one_more leaves sound status written noted = record {
       told = so.told ++ (t ∷ []);
       count = let had : length so.told + length (name ∷ rest) ≡ length names = so.count in rw (length-append so.told (t ∷ [])) omega (arith, had);
       status = status ∙ ap (λ (s : ℕ). max s t.status) so.status ∙ sym (worst-more so.told t);
       output = written ∙ ap (λ (s : Text). s ++ string_bytes t.output) so.output ∙ flat_map_more output [] so.told t;
+      notes = noted ∙ ap (λ (s : Text). s ++ string_bytes t.notes) so.notes ∙ flat_map_more notes [] so.told t;
       onward = λ more end are. subst (λ (ts : List Told). AreDone Does names ts start end first) (sym (append_assoc so.told (t ∷ []) more))
           (so.onward (t ∷ more) end (next, after, does, leaves, sound, are));
     }
@@ -64,7 +70,7 @@ module _ (Does : Text → Told → Option (List Event) → Option (List Event) �
   all_done now left all so = record {
     told = so.told;
     done = subst (λ (ts : List Told). AreDone Does names ts start now first) (append-nil so.told) (so.onward [] now refl);
-    status = let had : length so.told + 0 ≡ length names = so.count in inl (omega (arith, had), so.status);
+    status = let had : length so.told + 0 ≡ length names = so.count in inl (omega (arith, had), so.status, so.notes);
     output = so.output;
   }
 
@@ -102,7 +108,8 @@ module _ (Does : Text → Told → Option (List Event) → Option (List Event) �
 
   module _ (d : Bor Text) (below : i < length fs) (next : Option (List Event)) (t : Told) (does : Does (get_or fs i d).now t now next left)
       (new : Told) (r : Bool)
-      (told : MatchBool r ((new.status ≡ max all.status t.status) × (string_bytes new.output ≡ string_bytes all.output ++ string_bytes t.output))
+      (told : MatchBool r ((new.status ≡ max all.status t.status) × (string_bytes new.output ≡ string_bytes all.output ++ string_bytes t.output)
+      × (string_bytes new.notes ≡ string_bytes all.notes ++ string_bytes t.notes))
       ((new.status ≡ 3) × (string_bytes new.output ≡ string_bytes all.output))) where
     here : SoFar Does (names_from 0 fs) start first ((get_or fs i d).now ∷ names_from (i + 1) fs) now left all
     here = subst (λ (ns : List Text). SoFar Does (names_from 0 fs) start first ns now left all) (names_here fs i d below) so
@@ -110,8 +117,9 @@ module _ (Does : Text → Told → Option (List Event) → Option (List Event) �
     pub more_at : (after : Option Text) → LeavesInput (get_or fs i d).now left after → (t.status ≡ 3 → r ≡ false) → r ≡ true
         → SoFar Does (names_from 0 fs) start first (names_from (i + 1) fs) next after new
     more_at after leaves memory is =
-        let h : (new.status ≡ max all.status t.status) × (string_bytes new.output ≡ string_bytes all.output ++ string_bytes t.output) = is_true _ _ r is told in
-        one_more Does (names_from 0 fs) start first _ _ now next left after all new t here does leaves (λ e. clash (sym (memory e) ∙ is)) h.0 h.1
+        let h : (new.status ≡ max all.status t.status) × (string_bytes new.output ≡ string_bytes all.output ++ string_bytes t.output)
+        × (string_bytes new.notes ≡ string_bytes all.notes ++ string_bytes t.notes) = is_true _ _ r is told in
+        one_more Does (names_from 0 fs) start first _ _ now next left after all new t here does leaves (λ e. clash (sym (memory e) ∙ is)) h.0 h.1 h.2
 
     pub before_at : r ≡ false → DoesAll Does (names_from 0 fs) start next first new
     before_at is =

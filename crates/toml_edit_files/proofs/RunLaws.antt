@@ -37,46 +37,52 @@ use Rattle.toml_edit_files.specs.declared.words.Reading.{Reading}
 -- standard input that is formatted, or where that stops
 pub formatted_input : (reading : Reading) (c : Fmt) (file : Text) (told : Told) (old new : Option (List Event)) (left : Option Text)
     (r : Result Done Stop) → is_stream file ≡ true → IfOk r (λ d. FormatsDone reading c file d.yes (string_bytes d.output) old new left)
+    → IfOk r (λ d. string_bytes d.notes ≡ [])
     → IfErr r (λ s. Stops file old new (reason_of s)) → IfErr r (λ s. IsUnformatted reading c.style file old new left (reason_of s))
     → TellsOf r told → FormatsFile reading c file told old new left
-formatted_input reading c file told old new left (Ok d) stream done stop unmade tells = inl (d.yes, string_bytes d.output, done, tells)
-formatted_input reading c file told old new left (Err s) stream done stop unmade tells =
+formatted_input reading c file told old new left (Ok d) stream done quiet stop unmade tells =
+    inl (d.yes, string_bytes d.output, done, (tells.0, tells.1 ∙ quiet))
+formatted_input reading c file told old new left (Err s) stream done quiet stop unmade tells =
     inr (inr (reason_of s, stop, (λ other. absurd (let e : true ≡ false = sym stream ∙ other in cc)), unmade, tells))
 
 -- so is a file, which may be refused
 pub formatted_file : (reading : Reading) (c : Fmt) (file : Text) (told : Told) (old new : Option (List Event)) (left : Option Text)
     (r : Result Done Stop) → is_stream file ≡ false → IfOk r (λ d. FormatsDone reading c file d.yes (string_bytes d.output) old new left)
+    → IfOk r (λ d. string_bytes d.notes ≡ [])
     → IfErr r (λ s. Stops file old new (reason_of s)) → IfErr r (λ s. IsUnformatted reading c.style file old new left (reason_of s))
     → TellsOfFile r told → FormatsFile reading c file told old new left
-formatted_file reading c file told old new left (Ok d) other done stop unmade tells = inl (d.yes, string_bytes d.output, done, tells)
-formatted_file reading c file told old new left (Err stops.Memory) other done stop unmade tells =
-    inr (inr (None, stop, (λ named is. let e : None ≡ Some reasons.Refused = is in absurd cc), unmade, tells))
-formatted_file reading c file told old new left (Err (stops.Message reasons.Refused t)) other done stop unmade (inl is) =
-    inr (inl (is, other, unmade))
-formatted_file reading c file told old new left (Err (stops.Message reasons.Refused t)) other done stop unmade (inr tells) =
-    inr (inr (None, stops_looking file old new None stop, (λ named is. let e : None ≡ Some reasons.Refused = is in absurd cc), tt, tells))
-formatted_file reading c file told old new left (Err (stops.Message reasons.No t)) other done stop unmade tells =
+formatted_file reading c file told old new left (Ok d) other done quiet stop unmade tells =
+    inl (d.yes, string_bytes d.output, done, (tells.0, tells.1 ∙ quiet))
+formatted_file reading c file told old new left (Err stops.Silent) other done quiet stop unmade tells =
     inr (inr (Some reasons.No, stop, (λ named is. let e : Some reasons.No ≡ Some reasons.Refused = is in absurd cc), unmade, tells))
-formatted_file reading c file told old new left (Err (stops.Message reasons.Mistaken t)) other done stop unmade tells =
+formatted_file reading c file told old new left (Err stops.Memory) other done quiet stop unmade tells =
+    inr (inr (None, stop, (λ named is. let e : None ≡ Some reasons.Refused = is in absurd cc), unmade, tells))
+formatted_file reading c file told old new left (Err (stops.Message reasons.Refused t)) other done quiet stop unmade (inl is) =
+    inr (inl (is, other, unmade))
+formatted_file reading c file told old new left (Err (stops.Message reasons.Refused t)) other done quiet stop unmade (inr tells) =
+    inr (inr (None, stops_looking file old new None stop, (λ named is. let e : None ≡ Some reasons.Refused = is in absurd cc), tt, tells))
+formatted_file reading c file told old new left (Err (stops.Message reasons.No t)) other done quiet stop unmade tells =
+    inr (inr (Some reasons.No, stop, (λ named is. let e : Some reasons.No ≡ Some reasons.Refused = is in absurd cc), unmade, tells))
+formatted_file reading c file told old new left (Err (stops.Message reasons.Mistaken t)) other done quiet stop unmade tells =
     inr (inr (Some reasons.Mistaken, stop, (λ named is. let e : Some reasons.Mistaken ≡ Some reasons.Refused = is in absurd cc), unmade, tells))
-formatted_file reading c file told old new left (Err (stops.Message reasons.Failed t)) other done stop unmade tells =
+formatted_file reading c file told old new left (Err (stops.Message reasons.Failed t)) other done quiet stop unmade tells =
     inr (inr (Some reasons.Failed, stop, (λ named is. let e : Some reasons.Failed ≡ Some reasons.Refused = is in absurd cc), unmade, tells))
 
 -- ---- commands on one file
 
 module _ (old new : Option (List Event)) (left : Option Text) (told : Told) (reading : Reading) where
   pub asked : (q : Question) (r : Result Done Stop) → IfOk r (λ d. AnswersQuestion old new left reading q d.yes (string_bytes d.output))
-      → IfErr r (λ s. HasNone old new left reading q (reason_of s)) → OnlyLooks old new → TellsOf r told
-      → EndsCommand old new left reading (commands.Ask q) told
-  asked q (Ok d) answer none looks tells = inl (d.yes, string_bytes d.output, answer, tells)
-  asked q (Err s) answer none looks tells = inr (reason_of s, looks, none, tells)
+      → IfOk r (λ d. string_bytes d.notes ≡ []) → IfErr r (λ s. HasNone old new left reading q (reason_of s)) → OnlyLooks old new
+      → TellsOf r told → EndsCommand old new left reading (commands.Ask q) told
+  asked q (Ok d) answer quiet none looks tells = inl (d.yes, string_bytes d.output, answer, (tells.0, tells.1 ∙ quiet))
+  asked q (Err s) answer quiet none looks tells = inr (reason_of s, looks, none, tells)
 
   pub edited : (c : EditCommand) (edits : Vec Edit Global) (r : Result Done Stop)
       → IfOk r (λ d. EditsFile reading c edits.items old new left (string_bytes d.output)) → IfOk r (λ d. d.yes ≡ true)
       → IfErr r (λ s. Stops (target_of c) old new (reason_of s)) → IfErr r (λ s. HasNoEdits reading c edits.items old new left (reason_of s))
       → TellsOf r told → EndsCommand old new left reading (commands.Edit c edits) told
   edited c edits (Ok d) done said stops why tells =
-      inl (string_bytes d.output, done, subst (λ (b : Bool). Tells (if b then 0 else 1) (string_bytes d.output) told) said tells)
+      inl (string_bytes d.output, done, subst (λ (b : Bool). Tells (if b then 0 else 1) (string_bytes d.output) told) said tells.0)
   edited c edits (Err s) done said stops why tells = inr (reason_of s, stops, why, tells)
 
 -- no answer is refused as a file is
@@ -110,6 +116,7 @@ misworded old left words told (stops.Message reasons.Mistaken text) none tells =
 misworded old left words told (stops.Message reasons.No text) none tells = absurd none
 misworded old left words told (stops.Message reasons.Failed text) none tells = absurd none
 misworded old left words told (stops.Message reasons.Refused text) none tells = absurd none
+misworded old left words told stops.Silent none tells = absurd none
 misworded old left words told stops.Memory none tells = inr (inr (refl, tells))
 
 -- ---- where an edited text goes

@@ -5,10 +5,18 @@ use Rattle.std.proofs.lemmas.Result.{err_from_is_err_and}
 use Rattle.toml_edit_model.specs.Version.{Version}
 use Rattle.file_replace.specs.Events.{Text}
 use Rattle.toml_edit_files.specs.Edited.{IsAccepted, IsNotRead}
+use Rattle.toml_edit_files.specs.Notes.{IsNote, NotesWhy}
 use Rattle.toml_edit_files.specs.Stops.{IsFor, IsUnread, reason_of}
 use Rattle.toml_edit_files.specs.declared.stop.Reason.{Reason}
 use Rattle.toml_edit_files.specs.declared.stop.Reason.TheVariants.{No, Mistaken, Failed, Refused}
 use Rattle.toml_edit_files.specs.declared.stop.Stop.{Stop}
+
+-- a message is one for each reason
+pub noted : (reason : Reason) (t : Text) → IsNote t → NotesWhy (Some reason) t
+noted No t note = inr note
+noted Mistaken t note = note
+noted Failed t note = note
+noted Refused t note = note
 
 pub passed : {A : Type 0} (r : Result A Stop) (stop : Stop) (P : Stop → Type 0) → IsErrAnd r (λ s. s ≡ stop) → P stop → IfErr r P
 passed r stop P is holds =

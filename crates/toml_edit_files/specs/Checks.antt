@@ -5,7 +5,7 @@ use Rattle.toml_edit_model.specs.Version.{Version}
 use Rattle.file_replace.specs.Events.{Text, Event}
 use Rattle.toml_edit_files.specs.Edited.{IsAccepted}
 use Rattle.toml_edit_files.specs.Folders.{IsReadOf, IsTextOf, OnlyLooks}
-use Rattle.toml_edit_files.specs.Outcomes.{Tells, TellsWhy}
+use Rattle.toml_edit_files.specs.Outcomes.{TellsAlone, TellsRefused, TellsWhy}
 use Rattle.toml_edit_files.specs.Stops.{IsFor}
 use Rattle.toml_edit_files.specs.declared.told.Told.{Told}
 use Rattle.toml_edit_files.specs.declared.stop.Reason.{Reason}
@@ -26,6 +26,6 @@ IsReadAsRefused version file old new left =
 abbrev pub ChecksFile : Version → Text → Told → Option (List Event) → Option (List Event) → Option Text
     → Type 0
 ChecksFile version name told old new left =
-    (Tells 0 [] told × IsReadAsAccepted version name old new left)
-    ⊎ ((told.status ≡ 1) × IsReadAsRefused version name old new left)
+    (TellsAlone 0 [] told × IsReadAsAccepted version name old new left)
+    ⊎ (TellsRefused told × IsReadAsRefused version name old new left)
     ⊎ ((why : Option Reason) × IsFor Failed why × TellsWhy why told × OnlyLooks old new)

@@ -18,7 +18,7 @@ use Rattle.toml_edit_edits.specs.declared.fault.EditFault.TheVariants.{NoSuchPat
 use Rattle.toml_edit_files.specs.Checks.{IsReadAsRefused}
 use Rattle.toml_edit_files.specs.Edited.{IsAccepted, IsLeft, IsRead, mark_of, mode_by, version_by}
 use Rattle.toml_edit_files.specs.Folders.{IsHeld, IsPut, IsReadOf, IsTextOf, Stops, is_stream}
-use Rattle.toml_edit_files.specs.Outcomes.{Tells, TellsWhy}
+use Rattle.toml_edit_files.specs.Outcomes.{TellsAlone, TellsRefused, TellsWhy}
 use Rattle.toml_edit_files.specs.declared.told.Told.{Told}
 use Rattle.toml_edit_files.specs.declared.stop.Reason.{Reason}
 use Rattle.toml_edit_files.specs.declared.stop.Reason.TheVariants.{No, Mistaken, Failed, Refused}
@@ -133,8 +133,8 @@ abbrev pub FormatsFile : Reading → Fmt → Text → Told → Option (List Even
     → Option Text → Type 0
 FormatsFile reading c file told old new left =
     ((is_yes : Bool) × (output : Text) × FormatsDone reading c file is_yes output old new left
-    × Tells (if is_yes then 0 else 1) output told)
-    ⊎ ((told.status ≡ 1) × (is_stream file ≡ false)
+    × TellsAlone (if is_yes then 0 else 1) output told)
+    ⊎ (TellsRefused told × (is_stream file ≡ false)
     × IsReadAsRefused (version_by reading) file old new left)
     ⊎ ((why : Option Reason) × Stops file old new why
     × (is_stream file ≡ false → why ≢ Some Refused)

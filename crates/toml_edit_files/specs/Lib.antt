@@ -3,6 +3,7 @@ pub mod Get
 pub mod Keys
 pub mod KeyPaths
 pub mod Folders
+pub mod Notes
 pub mod Outcomes
 pub mod Edited
 pub mod Lines

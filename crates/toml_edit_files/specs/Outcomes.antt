@@ -2,6 +2,7 @@
 use Rattle.std.specs.Prelude.{◌≡◌, ◌≢◌, ◌<◌, ◌⊎◌, ℕ, max, if◌then◌else◌, List, [], ◌∷◌, length, map, flat_map, None, Option, Result, Ok, Err, string_bytes}
 use Rattle.file_replace.specs.Events.{Text, Event}
 use Rattle.toml_edit_files.specs.Folders.{LeavesInput}
+use Rattle.toml_edit_files.specs.Notes.{NotesWhy}
 use Rattle.toml_edit_files.specs.Stops.{reason_of, status_of}
 use Rattle.toml_edit_files.specs.declared.outcome.Done.{Done}
 use Rattle.toml_edit_files.specs.declared.told.Told.{Told}
@@ -14,17 +15,27 @@ use Rattle.toml_edit_files.specs.declared.stop.Stop.TheVariants.{Message}
 abbrev pub Tells : ℕ → Text → Told → Type 0
 Tells status output told = (told.status ≡ status) × (string_bytes told.output ≡ output)
 
+-- with no message
+abbrev pub TellsAlone : ℕ → Text → Told → Type 0
+TellsAlone status output told = Tells status output told × (string_bytes told.notes ≡ [])
+
+-- that a file is refused, which is its output
+abbrev pub TellsRefused : Told → Type 0
+TellsRefused told = (told.status ≡ 1) × (string_bytes told.notes ≡ [])
+
 -- those of one that stops
 abbrev pub TellsWhy : Option Reason → Told → Type 0
-TellsWhy why told = Tells (status_of why) [] told
+TellsWhy why told = Tells (status_of why) [] told × NotesWhy why (string_bytes told.notes)
 
 abbrev pub TellsOf : Result Done Stop → Told → Type 0
-TellsOf (Ok done) told = Tells (if done.yes then 0 else 1) (string_bytes done.output) told
+TellsOf (Ok done) told =
+    Tells (if done.yes then 0 else 1) (string_bytes done.output) told
+    × (string_bytes told.notes ≡ string_bytes done.notes)
 TellsOf (Err stop) told = TellsWhy (reason_of stop) told
 
 -- those of a file, of which a refusal is an answer that is no
 abbrev pub TellsOfFile : Result Done Stop → Told → Type 0
-TellsOfFile (Err (Message Refused text)) told = (told.status ≡ 1) ⊎ TellsWhy None told
+TellsOfFile (Err (Message Refused note)) told = TellsRefused told ⊎ TellsWhy None told
 TellsOfFile outcome told = TellsOf outcome told
 
 -- ---- several files
@@ -46,11 +57,12 @@ module _ (Does : Text → Told → Option (List Event) → Option (List Event) �
       (next : Option (List Event)) × (rest : Option Text) × Does name told old next left
       × LeavesInput name left rest × (told.status ≢ 3) × AreDone names more next new rest
 
-  -- the worst status of them, and their output, one after another
+  -- the worst status of them, and what they write, one after another
   pub record DoesAll (names : List Text) (old new : Option (List Event)) (left : Option Text)
       (all : Told) : Type 0 where
     pub told : List Told
     pub done : AreDone names told old new left
-    pub status : ((length told ≡ length names) × (all.status ≡ worst (map (λ t. t.status) told)))
+    pub status : ((length told ≡ length names) × (all.status ≡ worst (map (λ t. t.status) told))
+        × (string_bytes all.notes ≡ flat_map (λ t. string_bytes t.notes) told))
         ⊎ ((length told < length names) × (all.status ≡ 3))
     pub output : string_bytes all.output ≡ flat_map (λ t. string_bytes t.output) told

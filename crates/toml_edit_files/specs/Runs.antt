@@ -11,11 +11,11 @@ use Rattle.toml_edit_files.specs.EditFiles.{EditsFile, HasNoEdits, target_of}
 use Rattle.toml_edit_files.specs.Edited.{IsReadFrom, version_by}
 use Rattle.toml_edit_files.specs.Folders.{OnlyLooks, Stops}
 use Rattle.toml_edit_files.specs.FormatFiles.{FormatsFile}
-use Rattle.toml_edit_files.specs.Outcomes.{DoesAll, Tells, TellsWhy}
+use Rattle.toml_edit_files.specs.Outcomes.{DoesAll, Tells, TellsAlone, TellsWhy}
 use Rattle.toml_edit_files.specs.Requests.{IsNoRequest, SaysRequest}
 use Rattle.toml_edit_files.specs.declared.told.Told.{Told}
 use Rattle.toml_edit_files.specs.declared.stop.Reason.{Reason}
-use Rattle.toml_edit_files.specs.declared.stop.Reason.TheVariants.{Failed, Refused}
+use Rattle.toml_edit_files.specs.declared.stop.Reason.TheVariants.{Failed, Mistaken, Refused}
 use Rattle.toml_edit_files.specs.declared.words.Command.{Command}
 use Rattle.toml_edit_files.specs.declared.words.Command.TheVariants.{Show, Ask, Edit, Check, Fmt}
 use Rattle.toml_edit_files.specs.declared.words.Question.{Question}
@@ -39,10 +39,10 @@ module _ (old new : Option (List Event)) (left : Option Text) where
 
   -- The command is done; or it stops, and has no output. One on several files is done with each.
   abbrev pub EndsCommand : Reading → Command → Told → Type 0
-  EndsCommand reading (Show text) told = (new ≡ old) × Tells 0 (string_bytes text) told
+  EndsCommand reading (Show text) told = (new ≡ old) × TellsAlone 0 (string_bytes text) told
   EndsCommand reading (Ask q) told =
       ((is_yes : Bool) × (output : Text) × AnswersQuestion reading q is_yes output
-      × Tells (if is_yes then 0 else 1) output told)
+      × TellsAlone (if is_yes then 0 else 1) output told)
       ⊎ ((why : Option Reason) × OnlyLooks old new × HasNone reading q why × TellsWhy why told)
   EndsCommand reading (Edit c edits) told =
       ((output : Text) × EditsFile reading c edits.items old new left output × Tells 0 output told)
@@ -58,7 +58,7 @@ module _ (old new : Option (List Event)) (left : Option Text) where
   abbrev pub Ends : List Text → Told → Type 0
   Ends words told =
       ((q : Request) × SaysRequest words q × EndsCommand q.reading q.command told)
-      ⊎ (IsNoRequest words × (new ≡ old) × Tells 2 [] told)
+      ⊎ (IsNoRequest words × (new ≡ old) × TellsWhy (Some Mistaken) told)
       ⊎ ((new ≡ old) × TellsWhy None told)
 
 -- ---- what is written

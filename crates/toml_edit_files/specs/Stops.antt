@@ -5,11 +5,12 @@ use Rattle.toml_edit_edits.specs.declared.fault.EditFault.{EditFault}
 use Rattle.toml_edit_edits.specs.declared.fault.EditFault.TheVariants as faults
 use Rattle.toml_edit_files.specs.declared.stop.Reason.TheVariants.{No, Mistaken, Failed, Refused}
 use Rattle.toml_edit_files.specs.declared.stop.Stop.{Stop}
-use Rattle.toml_edit_files.specs.declared.stop.Stop.TheVariants.{Message, Memory}
+use Rattle.toml_edit_files.specs.declared.stop.Stop.TheVariants.{Message, Silent, Memory}
 
 -- the reason, unless memory ran out
 abbrev pub reason_of : Stop → Option Reason
-reason_of (Message reason text) = Some reason
+reason_of (Message reason note) = Some reason
+reason_of Silent = Some No
 reason_of Memory = None
 
 -- memory ran out, or it is for this reason

@@ -52,7 +52,7 @@ fn check_file<F: Folder, I: Input>(
 {
     match read_accepted(alloc, folder, input, file, reading) {
         Ok(()) => Told::new(alloc, DONE),
-        Err(Stop::Message(Reason::Refused, message)) => told_of_refused(alloc, message),
+        Err(Stop::Message(Reason::Refused, note)) => told_of_refused(alloc, note),
         Err(stop) => told_of(alloc, Err(stop)),
     }
 }

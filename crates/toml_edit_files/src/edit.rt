@@ -14,6 +14,7 @@ ghost use Rattle.toml_edit_edits.specs.Lists.{applied};
 use crate::edits::edits_of_script;
 use crate::form::{MARK, check_form};
 use crate::messages::refused_edit;
+use crate::note::Note;
 use crate::outcome::Done;
 use crate::paths::path_text;
 use crate::put::{held_of, put, put_at};
@@ -244,12 +245,8 @@ fn needs_old(alloc: Global, file: &str, text: &str) -> Result<(), Stop>
         }
         Err(ParseFault::Toml(error)) => {
             let message = error.message();
-            Err(Stop::Message(
-                Reason::Mistaken,
-                format!(in alloc;
-                    "tomlfile: {file}: what is written is not TOML 1.0: {message}\n"
-                )?,
-            ))
+            let said = format!(in alloc; "{file}: what is written is not TOML 1.0: {message}")?;
+            Err(Stop::Message(Reason::Mistaken, Note::new(alloc, said.as_str())?))
         }
         Err(ParseFault::Memory) => Err(Stop::Memory),
     }
@@ -260,15 +257,15 @@ fn misfit(alloc: Global, file: &str, document: &DocumentMut) -> Result<Stop, Sto
     ensures stop { IfOk result (λ stop. reason_of stop ≡ Some Mistaken) }
     ensures memory { IfErr result (λ stop. reason_of stop ≡ None) }
 {
-    let text = match document.first_misfit(alloc)? {
+    let said = match document.first_misfit(alloc)? {
         Some(misfit) => {
             let path = path_text(alloc, misfit.path())?;
             let (path, rule) = (path.as_str(), misfit.rule());
-            format!(in alloc; "tomlfile: {file}: {path}: does not fit: {rule}\n")?
+            format!(in alloc; "{file}: {path}: does not fit: {rule}")?
         }
-        None => format!(in alloc; "tomlfile: {file}: does not fit\n")?,
+        None => format!(in alloc; "{file}: does not fit")?,
     };
-    Ok(Stop::Message(Reason::Mistaken, text))
+    Ok(Stop::Message(Reason::Mistaken, Note::new(alloc, said.as_str())?))
 }
 
 /// Returns the name of the file that is written.

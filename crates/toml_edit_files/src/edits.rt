@@ -97,7 +97,7 @@ fn no_edit(alloc: Global, file: &str, number: usize, words: &[&str], fault: Word
 {
     match fault {
         WordFault::Memory => Stop::Memory,
-        fault => mistaken(no_edit_text(alloc, file, number, words, fault)),
+        fault => mistaken(alloc, no_edit_text(alloc, file, number, words, fault)),
     }
 }
 
@@ -113,7 +113,7 @@ fn no_edit_text(
     let (word, error) = match &fault {
         WordFault::Operands(verb) => {
             let wanted = verb.usage();
-            return format!(in alloc; "tomlfile: {file}: edit {number}: usage: {name} {wanted}\n");
+            return format!(in alloc; "{file}: edit {number}: usage: {name} {wanted}");
         }
         WordFault::Path(error) => (path, Some(error)),
         WordFault::To(error) => (operand, Some(error)),
@@ -130,9 +130,7 @@ fn no_edit_text(
         WordFault::Value(_) => ("value", hint_of(name, operand)),
         _ => ("path", ""),
     };
-    format!(in alloc;
-        "tomlfile: {file}: edit {number} ({name} {path}): bad {what} {word}{why}{hint}\n"
-    )
+    format!(in alloc; "{file}: edit {number} ({name} {path}): bad {what} {word}{why}{hint}")
 }
 
 /// Returns the words of an edit, which are empty where they are missing.
@@ -153,7 +151,7 @@ fn no_name(alloc: Global, file: &str, number: usize, name: &str) -> Mem<String> 
     }
     let near = near(alloc, name, names.as_slice())?;
     let near = near.as_str();
-    format!(in alloc; "tomlfile: {file}: edit {number}: no edit {name}{near}\n")
+    format!(in alloc; "{file}: edit {number}: no edit {name}{near}")
 }
 
 /// Returns the hint at how a string is written as the value of an edit of this name, if a bare word

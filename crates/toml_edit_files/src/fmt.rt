@@ -1,5 +1,5 @@
 //! The command `fmt`: files in the layout of the formatter.
-ghost use Rattle.std.specs.Prelude.{◌≡◌, ◌++◌, IfErr, IfOk, Ok, OnOk, Option, codes, map, string_bytes};
+ghost use Rattle.std.specs.Prelude.{◌≡◌, ◌++◌, [], IfErr, IfOk, Ok, OnOk, Option, codes, map, string_bytes};
 ghost use Rattle.toml_edit.specs.DocumentView.{IsPrintedAs, mode_owned, open_owned, tree_owned};
 ghost use Rattle.toml_edit_files.specs.Edited.{IsRead, mode_by};
 ghost use Rattle.toml_edit_files.specs.Folders.{LeavesInput, Stops};
@@ -84,6 +84,7 @@ fn done_of<F: Folder, I: Input>(
         (I.remaining input.old)) }
     ensures unmade { IfErr result (λ stop. IsUnformatted reading command.now.style file.now
         (F.history folder.old) (F.history folder.new) (I.remaining input.old) (reason_of stop)) }
+    ensures quiet { IfOk result (λ done. string_bytes done.notes ≡ []) }
     ensures stops { IfErr result (λ stop. Stops file.now (F.history folder.old)
         (F.history folder.new) (reason_of stop)) }
     ensures rest { LeavesInput file.now (I.remaining input.old) (I.remaining input.new) }
@@ -125,6 +126,7 @@ fn in_place<F: Folder>(
     ensures unmade { IfErr result (λ stop. (left : Option Text) → IsUnformatted reading
         command.now.style file.now (F.history folder.old) (F.history folder.new) left
         (reason_of stop)) }
+    ensures quiet { IfOk result (λ done. string_bytes done.notes ≡ []) }
     ensures stops { IfErr result (λ stop. Stops file.now (F.history folder.old)
         (F.history folder.new) (reason_of stop)) }
 {

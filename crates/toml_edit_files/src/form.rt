@@ -4,6 +4,7 @@ ghost use Rattle.toml_edit.specs.DocumentView.{print_of};
 ghost use Rattle.toml_edit_files.specs.Edited.{IsNotInForm, unmarked};
 ghost use Rattle.toml_edit_files.specs.Stops.{reason_of};
 
+use crate::note::{Note, PROGRAM};
 use crate::stop::{Reason, Stop};
 use crate::words::{EditCommand, Reading};
 use std::alloc::Global;
@@ -48,18 +49,23 @@ pub fn check_form(
         let note = lines_note(alloc, file, text, print, "lines are not in normal form")?;
         return Err(Stop::Message(Reason::Refused, note));
     }
-    Ok(lines_note(alloc, file, text, print, "lines are brought to normal form")?)
+    let note = lines_note(alloc, file, text, print, "lines are brought to normal form")?;
+    Ok(note.text)
 }
 
 /// Returns a line for each run of lines of a text that differ from those of another one.
-fn lines_note(alloc: Global, file: &str, text: &str, other: &str, note: &str) -> Mem<String> {
-    let mut notes = String::new(alloc);
+fn lines_note(alloc: Global, file: &str, text: &str, other: &str, note: &str) -> Mem<Note> {
+    let mut said = String::new(alloc);
     for run in runs_between(alloc, text, other)? {
         let (first, last) = run;
-        let line = format!(in alloc; "tomlfile: {file}:{first}-{last}: {note}\n")?;
-        notes.push_str(line.as_str())?;
+        if !said.is_empty() {
+            said.push('\n')?;
+            said.push_str(PROGRAM)?;
+        }
+        let line = format!(in alloc; "{file}:{first}-{last}: {note}")?;
+        said.push_str(line.as_str())?;
     }
-    Ok(notes)
+    Note::new(alloc, said.as_str())
 }
 
 /// Returns the first and the last line of each run of lines of a text that differ from those of

@@ -73,7 +73,7 @@ fn got_text(
             }
         },
         (None, Some(default)) => Ok(line(alloc, default)?),
-        (None, None) => Err(Stop::Message(Reason::No, String::new(alloc))),
+        (None, None) => Err(Stop::Silent),
     }
 }
 

@@ -6,7 +6,7 @@ ghost use Rattle.toml_edit_files.specs.Answers.{IsJsonAt, IsNoJson};
 ghost use Rattle.toml_edit_files.specs.Stops.{reason_of};
 ghost use Rattle.toml_edit_model.specs.Keys.{names};
 
-use crate::stop::{Reason, Stop};
+use crate::stop::Stop;
 use crate::words::Json;
 use std::alloc::Global;
 use toml_edit::DocumentMut;
@@ -19,7 +19,7 @@ pub fn json(alloc: Global, document: &DocumentMut, command: &Json<'_>) -> Result
         (item_at (names command.now.path.items) (tree_owned document.now))) }
 {
     let Some(item) = document.get_at(command.path.as_slice()) else {
-        return Err(Stop::Message(Reason::No, String::new(alloc)));
+        return Err(Stop::Silent);
     };
     let mut text = toml_edit_io::print(alloc, &toml_edit_json::Json(item))?;
     text.push('\n')?;

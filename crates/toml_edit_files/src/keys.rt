@@ -29,7 +29,7 @@ pub fn keys(alloc: Global, document: &DocumentMut, command: &Keys<'_>) -> Result
 {
     let path = command.path.as_slice();
     let Some(item) = document.get_at(path) else {
-        return Err(Stop::Message(Reason::No, String::new(alloc)));
+        return Err(Stop::Silent);
     };
     if command.all {
         return Ok(paths_text(alloc, path, item)?);

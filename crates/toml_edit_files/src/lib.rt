@@ -13,6 +13,7 @@ mod json;
 mod keys;
 mod line;
 mod messages;
+mod note;
 mod outcome;
 mod paths;
 mod program;

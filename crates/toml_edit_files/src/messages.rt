@@ -5,6 +5,7 @@ ghost use Rattle.toml_edit_files.specs.declared.stop.Reason.TheVariants.{Failed,
 
 use crate::get::kind_of;
 use crate::help::{COMMANDS, Topic, usage};
+use crate::note::Note;
 use crate::paths::{hint, near, path_text};
 use crate::split::is_option;
 use crate::stop::{Reason, Stop};
@@ -15,17 +16,24 @@ use std::io::ErrorKind;
 use toml_edit::{DocumentMut, Item, Key, Mem, TomlError};
 use toml_edit_edits::{Edit, EditFault};
 
-/// What messages begin with.
-pub const PROGRAM: &str = "tomlfile: ";
-
-/// Returns that the words are mistaken, with a message.
-pub fn mistaken(message: Mem<String>) -> Stop
-    ensures { IsFor Mistaken (reason_of result) }
+/// Returns that a run ends for this reason, with a message.
+pub fn stop(alloc: Global, reason: Reason, said: Mem<String>) -> Stop
+    ensures { IsFor reason (reason_of result) }
 {
-    match message {
-        Ok(message) => Stop::Message(Reason::Mistaken, message),
+    let Ok(said) = said else {
+        return Stop::Memory;
+    };
+    match Note::new(alloc, said.as_str()) {
+        Ok(note) => Stop::Message(reason, note),
         Err(_) => Stop::Memory,
     }
+}
+
+/// Returns that the words are mistaken, with a message.
+pub fn mistaken(alloc: Global, said: Mem<String>) -> Stop
+    ensures { IsFor Mistaken (reason_of result) }
+{
+    stop(alloc, Reason::Mistaken, said)
 }
 
 /// Returns that the words are no command, with the usage of the nearest one.
@@ -33,7 +41,7 @@ pub fn wrong_words(alloc: Global, topic: Topic) -> Stop
     ensures { IsFor Mistaken (reason_of result) }
 {
     let usage = usage(topic);
-    mistaken(format!(in alloc; "tomlfile: usage: {usage}\n"))
+    mistaken(alloc, format!(in alloc; "usage: {usage}"))
 }
 
 /// Returns that there is no command of this name.
@@ -46,9 +54,10 @@ pub fn no_command(alloc: Global, name: &str) -> Stop
     match near(alloc, name, COMMANDS) {
         Ok(near) => {
             let (near, usage) = (near.as_str(), usage(Topic::Program));
-            mistaken(format!(in alloc;
-                "tomlfile: unknown command {name}{near}\ntomlfile: usage: {usage}\n"
-            ))
+            mistaken(
+                alloc,
+                format!(in alloc; "unknown command {name}{near}\ntomlfile: usage: {usage}"),
+            )
         }
         Err(_) => Stop::Memory,
     }
@@ -59,7 +68,10 @@ pub fn no_option(alloc: Global, topic: Topic, name: &str) -> Stop
     ensures { IsFor Mistaken (reason_of result) }
 {
     let usage = usage(topic);
-    mistaken(format!(in alloc; "tomlfile: no option {name}\ntomlfile: usage: {usage}\n"))
+    mistaken(
+        alloc,
+        format!(in alloc; "no option {name}\ntomlfile: usage: {usage}"),
+    )
 }
 
 /// Returns that a call on a file has failed.
@@ -69,10 +81,7 @@ pub fn failed(alloc: Global, file: &str, error: &io::Error) -> Stop
     if error.kind() == ErrorKind::OutOfMemory {
         return Stop::Memory;
     }
-    match format!(in alloc; "tomlfile: {file}: {error}\n") {
-        Ok(text) => Stop::Message(Reason::Failed, text),
-        Err(_) => Stop::Memory,
-    }
+    stop(alloc, Reason::Failed, format!(in alloc; "{file}: {error}"))
 }
 
 /// Returns that a file is not TOML: `FILE:LINE:COLUMN: MESSAGE`.
@@ -80,16 +89,11 @@ pub fn refused(alloc: Global, file: &str, error: &TomlError) -> Stop
     ensures { IsFor Refused (reason_of result) }
 {
     let message = error.message();
-    let text = match (error.line(), error.column()) {
-        (Some(line), Some(column)) => {
-            format!(in alloc; "tomlfile: {file}:{line}:{column}: {message}\n")
-        }
-        _ => format!(in alloc; "tomlfile: {file}: {message}\n"),
+    let said = match (error.line(), error.column()) {
+        (Some(line), Some(column)) => format!(in alloc; "{file}:{line}:{column}: {message}"),
+        _ => format!(in alloc; "{file}: {message}"),
     };
-    match text {
-        Ok(text) => Stop::Message(Reason::Refused, text),
-        Err(_) => Stop::Memory,
-    }
+    stop(alloc, Reason::Refused, said)
 }
 
 /// Returns that an edit is refused.
@@ -115,10 +119,8 @@ pub fn refused_edit(
     let Some((reason, why)) = reason_and_why(fault) else {
         return Ok(Stop::Memory);
     };
-    Ok(Stop::Message(
-        reason,
-        format!(in alloc; "tomlfile: {file}: edit {number} ({word} {path}): {why}{hint}\n")?,
-    ))
+    let said = format!(in alloc; "{file}: edit {number} ({word} {path}): {why}{hint}")?;
+    Ok(Stop::Message(reason, Note::new(alloc, said.as_str())?))
 }
 
 /// Returns ` (PATH is KIND)` for the last item on the path, or nothing for the root.
@@ -163,8 +165,9 @@ fn reason_and_why(fault: EditFault) -> Option<(Reason, &'static str)>
 }
 
 /// Returns the message that something is wrong at a path of a file.
-pub fn wrong_at(alloc: Global, file: &str, path: &[Key], why: &str) -> Mem<String> {
+pub fn wrong_at(alloc: Global, file: &str, path: &[Key], why: &str) -> Mem<Note> {
     let path = path_text(alloc, path)?;
     let path = path.as_str();
-    format!(in alloc; "tomlfile: {file}: {path}: {why}\n")
+    let said = format!(in alloc; "{file}: {path}: {why}")?;
+    Note::new(alloc, said.as_str())
 }

@@ -1,8 +1,8 @@
 //! What commands come to: their status, and what they write.
-ghost use Rattle.std.specs.Prelude.{◌≡◌, ◌⊎◌, [], None, string_bytes};
-ghost use Rattle.toml_edit_files.specs.Outcomes.{TellsOf, TellsOfFile, TellsWhy};
+ghost use Rattle.std.specs.Prelude.{◌≡◌, ◌⊎◌, [], None, Ok, Some, string_bytes};
+ghost use Rattle.toml_edit_files.specs.Outcomes.{TellsOf, TellsOfFile, TellsRefused, TellsWhy};
 
-use crate::messages::PROGRAM;
+use crate::note::{Note, PROGRAM};
 use crate::stop::{DONE, NO, NO_MEMORY, Reason, Stop};
 use crate::told::Told;
 use std::alloc::Global;
@@ -38,17 +38,32 @@ pub fn told_of(alloc: Global, outcome: Result<Done, Stop>) -> Told
     ensures { TellsOf outcome result }
 {
     match outcome {
-        Ok(done) => Told {
-            status: if done.yes { DONE } else { NO },
-            output: done.output,
-            notes: done.notes,
-        },
-        Err(Stop::Message(reason, message)) => Told {
-            status: reason.status(),
-            output: String::new(alloc),
-            notes: message,
-        },
+        Ok(done) => told_of_done(done),
+        Err(Stop::Message(reason, note)) => told_of_note(alloc, reason, note),
+        Err(Stop::Silent) => Told::new(alloc, NO),
         Err(Stop::Memory) => Told::new(alloc, NO_MEMORY),
+    }
+}
+
+/// Returns the outcome of a command that is done.
+fn told_of_done(done: Done) -> Told
+    ensures { TellsOf (Ok done) result }
+{
+    Told {
+        status: if done.yes { DONE } else { NO },
+        output: done.output,
+        notes: done.notes,
+    }
+}
+
+/// Returns the outcome of a command that stops with a message.
+fn told_of_note(alloc: Global, reason: Reason, note: Note) -> Told
+    ensures { TellsWhy (Some reason) result }
+{
+    Told {
+        status: reason.status(),
+        output: String::new(alloc),
+        notes: note.text,
     }
 }
 
@@ -57,20 +72,21 @@ pub fn told_of_file(alloc: Global, outcome: Result<Done, Stop>) -> Told
     ensures { TellsOfFile outcome result }
 {
     match outcome {
-        Err(Stop::Message(reason, message)) => match reason {
-            Reason::Refused => told_of_refused(alloc, message),
-            reason => told_of(alloc, Err(Stop::Message(reason, message))),
+        Err(Stop::Message(reason, note)) => match reason {
+            Reason::Refused => told_of_refused(alloc, note),
+            reason => told_of(alloc, Err(Stop::Message(reason, note))),
         },
+        Err(Stop::Silent) => told_of(alloc, Err(Stop::Silent)),
         Err(Stop::Memory) => told_of(alloc, Err(Stop::Memory)),
         Ok(done) => told_of(alloc, Ok(done)),
     }
 }
 
 /// Returns the outcome of a file that is refused: the answer is no, and the message is its output.
-pub fn told_of_refused(alloc: Global, message: String) -> Told
-    ensures { (result.status ≡ 1) ⊎ TellsWhy None result }
+pub fn told_of_refused(alloc: Global, note: Note) -> Told
+    ensures { TellsRefused result ⊎ TellsWhy None result }
 {
-    let line = message.as_str();
+    let line = note.text.as_str();
     match String::from_str(alloc, line.strip_prefix(PROGRAM).unwrap_or(line)) {
         Ok(line) => told_of(alloc, Ok(Done::new(alloc, false, line))),
         Err(_) => Told::new(alloc, NO_MEMORY),

@@ -43,7 +43,7 @@ pub fn sort_path_of(alloc: Global, place: &str, text: &str) -> Result<Vec<Key>, 
 pub fn bad_path(alloc: Global, place: &str, text: &str, error: Option<&TomlError>) -> Stop
     ensures { IsFor Mistaken (reason_of result) }
 {
-    mistaken(bad_path_text(alloc, place, text, error))
+    mistaken(alloc, bad_path_text(alloc, place, text, error))
 }
 
 /// Returns the message that a path is none.
@@ -53,7 +53,7 @@ fn bad_path_text(alloc: Global, place: &str, text: &str, error: Option<&TomlErro
         None => String::new(alloc),
     };
     let why = why.as_str();
-    format!(in alloc; "tomlfile: {place}: bad path {text}{why}\n")
+    format!(in alloc; "{place}: bad path {text}{why}")
 }
 
 /// Returns why a path or a value is none: ` at column 3: unclosed array`.

@@ -168,6 +168,7 @@ fn ask<F: Folder, I: Input>(
     ensures answer { IfOk result (λ done. AnswersQuestion (F.history folder.old)
         (F.history folder.new) (I.remaining input.old) reading question.now done.yes
         (string_bytes done.output)) }
+    ensures quiet { IfOk result (λ done. string_bytes done.notes ≡ []) }
     ensures stops { IfErr result (λ stop. HasNone (F.history folder.old) (F.history folder.new)
         (I.remaining input.old) reading question.now (reason_of stop)) }
     ensures looks { OnlyLooks (F.history folder.old) (F.history folder.new) }

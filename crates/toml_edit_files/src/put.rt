@@ -5,7 +5,7 @@ ghost use Rattle.toml_edit_files.specs.Stops.{IsFor, IsUnread, reason_of};
 ghost use Rattle.toml_edit_files.specs.declared.stop.Reason.TheVariants.{Failed};
 ghost use Rattle.file_replace.specs.Replacing.{asked_by};
 
-use crate::messages::failed;
+use crate::messages::{failed, stop};
 use crate::read::utf8;
 use crate::stop::{Reason, Stop};
 use file_replace::{Folder, ReplaceFault, Replacement, read_locked, replace};
@@ -137,8 +137,5 @@ fn put_asked<F: Folder>(
         Err(ReplaceFault::Changed) => "changed meanwhile",
         Err(ReplaceFault::ReadOnly) => "read-only (--force replaces it)",
     };
-    Err(Stop::Message(
-        Reason::Failed,
-        format!(in alloc; "tomlfile: {file}: {why}\n")?,
-    ))
+    Err(stop(alloc, Reason::Failed, format!(in alloc; "{file}: {why}")))
 }

@@ -10,6 +10,7 @@ ghost use Rattle.file_replace.specs.Events.{NotesFound, found};
 ghost use Rattle.toml_edit_files.specs.Stops.{IsFor, IsUnread, reason_of};
 
 use crate::messages::{failed, refused};
+use crate::note::Note;
 use crate::stop::{Reason, Stop};
 use crate::words::Reading;
 use file_replace::Folder;
@@ -45,10 +46,10 @@ pub fn utf8(alloc: Global, file: &str, bytes: Vec<u8>) -> Result<String, Stop>
 {
     match String::from_utf8(bytes) {
         Ok(text) => Ok(text),
-        Err(_) => Err(Stop::Message(
-            Reason::Refused,
-            format!(in alloc; "tomlfile: {file}: not UTF-8\n")?,
-        )),
+        Err(_) => {
+            let said = format!(in alloc; "{file}: not UTF-8")?;
+            Err(Stop::Message(Reason::Refused, Note::new(alloc, said.as_str())?))
+        }
     }
 }
 
@@ -81,8 +82,8 @@ fn input_bytes<I: Input>(alloc: Global, input: &mut I) -> Result<Vec<u8>, Stop>
         Ok(bytes) => Ok(bytes),
         Err(ReadFault::Memory) => Err(Stop::Memory),
         Err(ReadFault::Broken) => {
-            let text = String::from_str(alloc, "tomlfile: -: read failed\n")?;
-            Err(Stop::Message(Reason::Failed, text))
+            let note = Note::new(alloc, "-: read failed")?;
+            Err(Stop::Message(Reason::Failed, note))
         }
     }
 }

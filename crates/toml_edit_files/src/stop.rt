@@ -2,14 +2,17 @@
 ghost use Rattle.std.specs.Prelude.{◌≡◌, Some};
 ghost use Rattle.toml_edit_files.specs.Stops.{status_of};
 
+use crate::note::Note;
 use std::alloc::{AllocError, AllocFailed, Global};
 use toml_edit::{NoMemory, PrintFault};
 
 /// Why a run ends before it is done.
 #[derive(Drop)]
 pub enum Stop {
-    /// For this reason, with a message, which may be empty.
-    Message(Reason, String),
+    /// For this reason, with a message.
+    Message(Reason, Note),
+    /// The answer is no, and there is no message.
+    Silent,
     /// Out of memory.
     Memory,
 }

@@ -1,5 +1,5 @@
 //! What commands write, and their status.
-ghost use Rattle.std.specs.Prelude.{◌≡◌, ◌≤◌, ◌++◌, [], MatchBool, false, if◌then◌else◌, is_ok, max, string_bytes};
+ghost use Rattle.std.specs.Prelude.{◌≡◌, ◌≤◌, ◌++◌, [], MatchBool, OnOk, false, if◌then◌else◌, is_ok, max, string_bytes};
 
 use crate::stop::NO_MEMORY;
 use std::alloc::Global;
@@ -21,6 +21,7 @@ impl Told {
         requires { status ≤ 5 }
         ensures status { result.status ≡ status }
         ensures output { string_bytes result.output ≡ [] }
+        ensures notes { string_bytes result.notes ≡ [] }
     {
         Told {
             status,
@@ -33,7 +34,8 @@ impl Told {
     pub fn add(&mut self, next: Told) -> bool
         ensures told { MatchBool result
             ((self.new.status ≡ max self.old.status next.status) × (string_bytes self.new.output
-            ≡ string_bytes self.old.output ++ string_bytes next.output))
+            ≡ string_bytes self.old.output ++ string_bytes next.output)
+            × (string_bytes self.new.notes ≡ string_bytes self.old.notes ++ string_bytes next.notes))
             ((self.new.status ≡ 3) × (string_bytes self.new.output ≡ string_bytes self.old.output)) }
         ensures memory { next.status ≡ 3 → result ≡ false }
     {
@@ -52,6 +54,8 @@ impl Told {
         ensures output { string_bytes self.new.output
             ≡ (if is_ok result then string_bytes self.old.output ++ string_bytes next.output
             else string_bytes self.old.output) }
+        ensures notes { OnOk result (string_bytes self.new.notes
+            ≡ string_bytes self.old.notes ++ string_bytes next.notes) }
     {
         join(&mut self.notes, next.notes)?;
         join(&mut self.output, next.output)

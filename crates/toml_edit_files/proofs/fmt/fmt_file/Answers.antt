@@ -7,10 +7,10 @@ pub returns-then-eq-clause-formats : goal.returns-then-eq-clause-formats
 returns-then-eq-clause-formats g c =
     formatted_input c.args.reading c.args.command.now c.args.file.now c.told_of.result (g.F.Folder.history c.args.folder.now)
     (g.F.Folder.history c.done_of-done.new.folder) (g.I.Input.remaining c.args.input.now) c.done_of-done.result (sym c.eq.ensures ∙ c.if-eq.true)
-    c.done_of-done.ensures.done c.done_of-done.ensures.stops c.done_of-done.ensures.unmade c.told_of.ensures
+    c.done_of-done.ensures.done c.done_of-done.ensures.quiet c.done_of-done.ensures.stops c.done_of-done.ensures.unmade c.told_of.ensures
 
 pub returns-clause-formats : goal.returns-clause-formats
 returns-clause-formats g c =
     formatted_file c.args.reading c.args.command.now c.args.file.now c.told_of_file.result (g.F.Folder.history c.args.folder.now)
     (g.F.Folder.history c.done_of-done.new.folder) (g.I.Input.remaining c.args.input.now) c.done_of-done.result (sym c.eq.ensures ∙ c.if-eq.false)
-    c.done_of-done.ensures.done c.done_of-done.ensures.stops c.done_of-done.ensures.unmade c.told_of_file.ensures
+    c.done_of-done.ensures.done c.done_of-done.ensures.quiet c.done_of-done.ensures.stops c.done_of-done.ensures.unmade c.told_of_file.ensures

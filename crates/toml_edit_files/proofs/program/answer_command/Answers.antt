@@ -6,7 +6,7 @@ pub returns-in-Ask : goal.returns-in-Ask
 returns-in-Ask g c =
     rw c.in-Ask.is
     (asked (g.F.Folder.history c.args.folder.now) (g.F.Folder.history c.ask.new.folder) (g.I.Input.remaining c.args.input.now) c.told_of-in-Ask.result
-    c.args.reading c.in-Ask.question c.ask.result c.ask.ensures.answer c.ask.ensures.stops c.ask.ensures.looks c.told_of-in-Ask.ensures)
+    c.args.reading c.in-Ask.question c.ask.result c.ask.ensures.answer c.ask.ensures.quiet c.ask.ensures.stops c.ask.ensures.looks c.told_of-in-Ask.ensures)
 
 pub returns-in-Edit : goal.returns-in-Edit
 returns-in-Edit g c =
