@@ -82,6 +82,17 @@ def place(rt, crates, wanted):
     return had
 
 
+def below(name):
+    """A crate, or `None`, and the names of those below it that have a library, which the gate has kept or which is there."""
+    rt = kit()
+    rt.Crate.allowed = rt.handles_of(TOP)
+    # A stamp takes those of all crates below.
+    rt.Crate.stamp = functools.cache(rt.Crate.stamp)
+    crates = crates_of(rt)
+    crate = next((crate for crate in crates if crate.name == name), None)
+    return crate, crate and place(rt, crates, {each.name for each in crate.below()})
+
+
 def names_of(crate, had):
     """What the kit calls the functions of a crate that are in no cycle of calls."""
     made = crate.folder + "/out/names"
@@ -157,16 +168,10 @@ def main():
         print(__doc__)
         return 0 if sys.argv[1:] == ["--help"] else 2
     os.chdir(TOP)
-    rt = kit()
-    rt.Crate.allowed = rt.handles_of(TOP)
-    # A stamp takes those of all crates below.
-    rt.Crate.stamp = functools.cache(rt.Crate.stamp)
-    crates = crates_of(rt)
-    crate = next((crate for crate in crates if crate.name == sys.argv[1]), None)
+    crate, had = below(sys.argv[1])
     if crate is None:
         print("no crate is named %s" % sys.argv[1])
         return 2
-    had = place(rt, crates, {below.name for below in crate.below()})
     os.makedirs(crate.folder + "/out/early", exist_ok=True)
     read, errors = {}, 0
     words = [*command(crate, had), "--allow-holes", *sys.argv[2:]]
