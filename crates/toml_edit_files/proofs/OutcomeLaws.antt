@@ -116,10 +116,10 @@ module _ (Does : Text → Told → Option (List Event) → Option (List Event) �
 
     pub more_at : (after : Option Text) → LeavesInput (get_or fs i d).now left after → (t.status ≡ 3 → r ≡ false) → r ≡ true
         → SoFar Does (names_from 0 fs) start first (names_from (i + 1) fs) next after new
-    more_at after leaves memory is =
+    more_at after leaves memory added =
         let h : (new.status ≡ max all.status t.status) × (string_bytes new.output ≡ string_bytes all.output ++ string_bytes t.output)
-        × (string_bytes new.notes ≡ string_bytes all.notes ++ string_bytes t.notes) = is_true _ _ r is told in
-        one_more Does (names_from 0 fs) start first _ _ now next left after all new t here does leaves (λ e. clash (sym (memory e) ∙ is)) h.0 h.1 h.2
+        × (string_bytes new.notes ≡ string_bytes all.notes ++ string_bytes t.notes) = is_true _ _ r added told in
+        one_more Does (names_from 0 fs) start first _ _ now next left after all new t here does leaves (λ e. clash (sym (memory e) ∙ added)) h.0 h.1 h.2
 
     pub before_at : r ≡ false → DoesAll Does (names_from 0 fs) start next first new
     before_at is =

@@ -40,8 +40,8 @@ checks_all _ = false
 
 -- ---- one word after another
 
--- what the words are so far: options with their operands, and the others; which option wants the next
--- word; how many words of an edit are left; and whether no option follows
+-- The words that are read: options with their operands, and the other words; the option that takes
+-- the next word; how many words of an edit are left; and whether `--` has ended the options.
 pub record Words : Type 0 where
   pub options : List (Text × Text)
   pub operands : List Text

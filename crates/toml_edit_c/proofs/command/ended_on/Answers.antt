@@ -1,4 +1,4 @@
--- What is said of the run of `tomled` is how the command ends.
+-- The command ends as the run of `tomled` does.
 use Rattle.std.proofs.Common.{◌≡◌, ◌≤◌, Bor, arith, false, inr, map, string_bytes, subst, sym}
 use Rattle.toml_edit_model.specs.Text.{Text}
 use Rattle.toml_edit_command.specs.Words.{asked}

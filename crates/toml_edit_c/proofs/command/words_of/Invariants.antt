@@ -1,4 +1,4 @@
--- The words so far, and those of the rest.
+-- The words that are read are those of the parts up to here.
 use Rattle.std.proofs.Common.{◌≡◌, ◌++◌, drop, map, string_bytes}
 use Rattle.toml_edit_c.proofs.Splitting.{now_of}
 use Rattle.toml_edit_c.specs.Split.{words_in}

@@ -1,4 +1,4 @@
--- The lines so far say the edits so far.
+-- The lines before the rest say the edits.
 use Rattle.std.proofs.Common.{[], length, take}
 use Rattle.std.specs.Str.Lines.{lines}
 use Rattle.toml_edit_files.specs.Lines.{SaysLines}

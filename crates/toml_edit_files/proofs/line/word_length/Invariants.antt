@@ -1,4 +1,4 @@
--- The bytes so far are those of the word.
+-- The bytes up to here are in the word.
 use Rattle.std.proofs.Common.{◌≡◌, ◌++◌, None, false, drop, take}
 use Rattle.toml_edit_files.specs.Lines.{word_from}
 use Rattle.toml_edit_files.proofs.line.word_length.Given as goal

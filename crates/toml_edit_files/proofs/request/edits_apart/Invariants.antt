@@ -1,4 +1,4 @@
--- The words before the rest say the edits so far.
+-- The words before the rest say the edits.
 use Rattle.std.proofs.Common.{length, map}
 use Rattle.toml_edit_files.specs.Edited.{version_by}
 use Rattle.toml_edit_files.proofs.ApartLaws.{SaidBefore}

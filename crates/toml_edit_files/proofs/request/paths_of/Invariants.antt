@@ -1,4 +1,4 @@
--- The texts so far are the paths so far.
+-- The texts up to here spell the paths.
 use Rattle.std.proofs.Common.{map, take}
 use Rattle.toml_edit_files.specs.Requests.{ArePaths}
 use Rattle.toml_edit_files.proofs.request.paths_of.Given as goal

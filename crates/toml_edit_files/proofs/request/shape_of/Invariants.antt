@@ -1,4 +1,4 @@
--- The options to come follow those so far.
+-- The rest of the options changes the shape that those before it give.
 use Rattle.std.proofs.Common.{◌≡◌, drop, map}
 use Rattle.toml_edit_files.specs.Requests.{shape_in}
 use Rattle.toml_edit_files.specs.Split.{split_of}

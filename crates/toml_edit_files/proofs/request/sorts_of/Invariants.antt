@@ -1,4 +1,4 @@
--- The options so far ask for the sorts so far.
+-- The options up to here ask for the sorts.
 use Rattle.std.proofs.Common.{map, take}
 use Rattle.toml_edit_files.specs.Requests.{AreSorts}
 use Rattle.toml_edit_files.proofs.SplitLaws.{option_of}

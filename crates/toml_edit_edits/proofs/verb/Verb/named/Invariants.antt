@@ -1,4 +1,4 @@
--- None of the edits so far has the name.
+-- No edit before this one has the name.
 use Rattle.std.proofs.Common.{◌≢◌, ◌<◌, ℕ, get_or}
 use Rattle.toml_edit_edits.specs.Said.{name_of}
 use Rattle.toml_edit_edits.specs.declared.verb.Verb.TheVariants.{Move}

@@ -1,4 +1,4 @@
--- What is last of the options so far, and of those to come, is last of all.
+-- The last operand of all options is that of the rest, or else the one that was found.
 use Rattle.std.proofs.Common.{◌≡◌, drop, map}
 use Rattle.std.specs.Option.{option_copied}
 use Rattle.toml_edit_files.specs.Split.{last_from, last_of, split_of}
