@@ -29,7 +29,7 @@ import duplicates
 import sources
 from sources import TOP, read
 
-GUIDES = ("toml_edit_guide", "toml_edit_recipes", "toml_edit_programs", "toml_edit_example")
+GUIDES = ("example_calls", "example_tasks", "example_tools", "example")
 SHOWING = ("README.md", "docs/GUIDE.md", "docs/PROVING.md", "docs/MIGRATING.md")
 # The most bytes that a page may have, and some together.
 SIZES = {

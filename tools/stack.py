@@ -35,7 +35,7 @@ WIDE = "x = 1\nl = [1]\n"
 def documents():
     """Documents by name."""
     return {
-        "usual": sources.read(unproved.TOP + "/crates/toml_edit_example/stdin"),
+        "usual": sources.read(unproved.TOP + "/crates/example/stdin"),
         "empty": "",
         "arrays": "a = " + "[" * LIMIT + "]" * LIMIT + "\n",
         "inline tables": "a = " + "{ b = " * LIMIT + "1" + " }" * LIMIT + "\n",

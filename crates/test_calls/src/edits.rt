@@ -2,8 +2,8 @@
 use crate::guide::{is_edited, is_missing, is_present, is_refused};
 use crate::paths::path;
 use std::alloc::Global;
-use toml_edit_guide::edits::{release, set_two};
-use toml_edit_guide::fault::EditFault;
+use example_calls::edits::{release, set_two};
+use example_calls::fault::EditFault;
 
 const PACKAGE: &str =
     "# a crate\n[package]\nname = 'x'  # its name\nversion  = '0.1.0' # the first\nold.way = 1 # gone\n\n[[bin]]\n# the program\nname = 'b'\n";

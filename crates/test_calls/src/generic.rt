@@ -11,11 +11,11 @@ use std::alloc::{AllocError, Global};
 use toml_edit::{
     Document, DocumentMut, Item, Mem, Printed, Sink, Table, TableLike, Value, Watched,
 };
-use toml_edit_guide::adding::{make_slot, name_of};
-use toml_edit_guide::first::{
+use example_calls::adding::{make_slot, name_of};
+use example_calls::first::{
     first_pair, first_table, first_value, into_pair, into_slot, into_table, into_value,
 };
-use toml_edit_guide::generic::{
+use example_calls::generic::{
     count_slots, default_of, first_key, has_key, is_new, item_in, key_in, print_to_writer,
     put_default, put_text, read_piece, read_value, source_of,
 };

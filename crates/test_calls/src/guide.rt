@@ -2,19 +2,19 @@
 use crate::holding::is_text;
 use std::alloc::{AllocError, Global};
 use toml_edit::{Array, Document, DocumentMut, Item, Mem, ParseFault, Renamed, Table, Value};
-use toml_edit_guide::adding::{
+use example_calls::adding::{
     add_dependency, add_element, add_table, push_line, set_default, try_insert,
 };
-use toml_edit_guide::arranging::{insert_first, sort_strings};
-use toml_edit_guide::changing::set_value;
-use toml_edit_guide::documents::{print_if_fits, read_exactly, read_strictly, report};
-use toml_edit_guide::editing::set_string;
-use toml_edit_guide::edits::set_version;
-use toml_edit_guide::exchanging::exchange;
-use toml_edit_guide::fault::EditFault;
-use toml_edit_guide::normalizing::{normalize, reload};
-use toml_edit_guide::reading::{integer_at, names, span_at};
-use toml_edit_guide::removing::remove_key;
+use example_calls::arranging::{insert_first, sort_strings};
+use example_calls::changing::set_value;
+use example_calls::documents::{print_if_fits, read_exactly, read_strictly, report};
+use example_calls::editing::set_string;
+use example_calls::edits::set_version;
+use example_calls::exchanging::exchange;
+use example_calls::fault::EditFault;
+use example_calls::normalizing::{normalize, reload};
+use example_calls::reading::{integer_at, names, span_at};
+use example_calls::removing::remove_key;
 
 const SERVER: &str = "title = 'x'\n\n# two servers\n[server]\nport = 80  # http\nhost = 'a'\n";
 

@@ -4,14 +4,14 @@ use crate::holding::is_text;
 use crate::paths::{path, sets};
 use std::alloc::{AllocError, Global};
 use toml_edit::{Document, DocumentMut, Item, Mem, ParseFault, RawString, Table, Value};
-use toml_edit_recipes::add::add_sorted;
-use toml_edit_recipes::comments::{comment_of, explain};
-use toml_edit_recipes::convert::give_header;
-use toml_edit_recipes::lines::append;
-use toml_edit_recipes::lint::{empty_strings, misfit};
-use toml_edit_recipes::paths::configure;
-use toml_edit_recipes::relocate::move_table;
-use toml_edit_recipes::rename::rename;
+use example_tasks::add::add_sorted;
+use example_tasks::comments::{comment_of, explain};
+use example_tasks::convert::give_header;
+use example_tasks::lines::append;
+use example_tasks::lint::{empty_strings, misfit};
+use example_tasks::paths::configure;
+use example_tasks::relocate::move_table;
+use example_tasks::rename::rename;
 
 /// Returns the table under a key.
 pub fn table_mut<'a>(root: &'a mut Table, key: &str) -> Option<&'a mut Table> {

@@ -3,7 +3,7 @@ use crate::holding::is_text;
 use crate::spans::is_done;
 use std::alloc::{AllocError, Global};
 use toml_edit::{DocumentMut, Item, Key, Mem, ParsePath, Value};
-use toml_edit_recipes::paths::{set_string_at, string_at};
+use example_tasks::paths::{set_string_at, string_at};
 
 /// Returns the path that the text spells.
 pub fn path(alloc: Global, text: &str) -> Mem<Vec<Key>> {

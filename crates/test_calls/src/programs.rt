@@ -3,13 +3,13 @@ use crate::guide::done;
 use crate::holding::is_text;
 use std::alloc::{AllocError, Global};
 use toml_edit::{Document, DocumentMut, Mem, ParseFault};
-use toml_edit_programs::add_member::add_member;
-use toml_edit_programs::bump::bump;
-use toml_edit_programs::count_values::count_values;
-use toml_edit_programs::lint::lint;
-use toml_edit_programs::merge::merge;
-use toml_edit_programs::migrate::migrate;
-use toml_edit_programs::sort_deps::sort_deps;
+use example_tools::add_member::add_member;
+use example_tools::bump::bump;
+use example_tools::count_values::count_values;
+use example_tools::lint::lint;
+use example_tools::merge::merge;
+use example_tools::migrate::migrate;
+use example_tools::sort_deps::sort_deps;
 
 /// Runs the migration of this name.
 fn migrates(alloc: Global, document: &mut DocumentMut, name: &str) -> bool {

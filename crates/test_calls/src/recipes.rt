@@ -5,15 +5,15 @@ use crate::paths::{path, puts};
 use crate::spans::is_done;
 use std::alloc::{AllocError, Global};
 use toml_edit::{Document, DocumentMut, FromStr, Mem, ParseFault, Table, Value};
-use toml_edit_recipes::comments::explain_key;
-use toml_edit_recipes::float::float_in;
-use toml_edit_recipes::headers::set_width;
-use toml_edit_recipes::json::to_json;
-use toml_edit_recipes::removing::{remove, remove_member};
-use toml_edit_recipes::rename::rename;
-use toml_edit_recipes::sorting::sort_dependencies;
-use toml_edit_recipes::version::set_version;
-use toml_edit_recipes::visiting::lint;
+use example_tasks::comments::explain_key;
+use example_tasks::float::float_in;
+use example_tasks::headers::set_width;
+use example_tasks::json::to_json;
+use example_tasks::removing::{remove, remove_member};
+use example_tasks::rename::rename;
+use example_tasks::sorting::sort_dependencies;
+use example_tasks::version::set_version;
+use example_tasks::visiting::lint;
 
 fn drop_two(root: &mut Table) -> Mem<()> {
     match array_mut(root, "all") {

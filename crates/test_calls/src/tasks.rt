@@ -7,14 +7,14 @@ use toml_edit::{
     Array, DocumentMut, Entry, InlineEntry, InlineTable, Item, Mem, ParseFault, Table, Value,
     Watched,
 };
-use toml_edit_guide::adding::{add_dotted, add_nested, describe, describe_inline, no_memory};
-use toml_edit_guide::dates::{float_of, set_date_time, utc, year_of};
-use toml_edit_guide::documents::write_to;
-use toml_edit_guide::either_table::{remove_from, sort_keys, version_of};
-use toml_edit_guide::lists::{
+use example_calls::adding::{add_dotted, add_nested, describe, describe_inline, no_memory};
+use example_calls::dates::{float_of, set_date_time, utc, year_of};
+use example_calls::documents::write_to;
+use example_calls::either_table::{remove_from, sort_keys, version_of};
+use example_calls::lists::{
     insert_or_push, move_value, put_formatted, remove_string, replace_element, replace_or_push,
 };
-use toml_edit_guide::spelling::{make_decimal, set_comment, set_spelled, spelling_of};
+use example_calls::spelling::{make_decimal, set_comment, set_spelled, spelling_of};
 
 fn insert_utc(root: &mut Table) -> Mem<()> {
     let is_refused = utc(2023, 2, 29, 7, 30).is_none() && utc(2024, 2, 29, 24, 0).is_none();

@@ -31,7 +31,7 @@ pub use print::PrintFault;
 /// pub fn source_of<S: SourceText>(document: &Document<S>) -> &str
 /// ```
 ///
-/// From `source_of` of the crate `toml_edit_guide`.
+/// From `source_of` of the crate `example_calls`.
 pub trait SourceText: Drop {
     ghost use Rattle.std.specs.Prelude.{◌≡◌, IfOk, List, ℕ};
 
@@ -92,7 +92,7 @@ impl SourceText for String {
 /// root.get(key)?.span()
 /// ```
 ///
-/// From `span_at` of the crate `toml_edit_guide`.
+/// From `span_at` of the crate `example_calls`.
 #[derive(Debug)]
 pub struct Document<S: SourceText> {
     raw: S,
@@ -394,7 +394,7 @@ impl Document<String> {
 /// print!(rt; "{document}")?;
 /// ```
 ///
-/// From `main` of the crate `toml_edit_example`.
+/// From `main` of the crate `example`.
 #[derive(Debug)]
 pub struct DocumentMut {
     root: Item,
@@ -469,7 +469,7 @@ impl DocumentMut {
     /// }
     /// ```
     ///
-    /// From `report` of the crate `toml_edit_guide`.
+    /// From `report` of the crate `example_calls`.
     pub fn from_str(alloc: Global, text: &str) -> Result<DocumentMut, ParseFault>
         ensures accepted { IfOk result (λ m. IsOwnedReading text.now (tree_owned m)) }
         ensures plain { IfOk result (λ m. IsPlain m) }
@@ -495,7 +495,7 @@ impl DocumentMut {
     /// DocumentMut::from_str_with(alloc, text, ParseOptions::new().version(Version::V1_0))
     /// ```
     ///
-    /// From `read_strictly` of the crate `toml_edit_guide`.
+    /// From `read_strictly` of the crate `example_calls`.
     pub fn from_str_with(
         alloc: Global,
         text: &str,
@@ -691,7 +691,7 @@ impl DocumentMut {
     /// }
     /// ```
     ///
-    /// From `print_if_fits` of the crate `toml_edit_guide`.
+    /// From `print_if_fits` of the crate `example_calls`.
     pub fn fits(&self, _alloc: Global) -> Mem<bool>
         ensures fits { IfOk result
             (λ fits. IsTrue fits ↔ FitsIn (mode_owned self.now) (tree_owned self.now)) }

@@ -17,7 +17,7 @@ use toml_edit_tree::{Item, Value, item};
 /// drop(table.insert(key, item).map_err(no_memory)?);
 /// ```
 ///
-/// From `set_date_time` of the crate `toml_edit_guide`.
+/// From `set_date_time` of the crate `example_calls`.
 pub fn value<V: Into<Value>>(value: V) -> Item
     ensures { (made : Value) × V.converts value made × (item_view result ≡ value_view made) }
 {

@@ -14,7 +14,7 @@
 //! document.set_at(&path, Value::string(alloc, version)?)?;
 //! ```
 //!
-//! From `set_version` of the crate `toml_edit_example`, which the README quotes.
+//! From `set_version` of the crate `example`, which the README quotes.
 //!
 //! # Conventions
 //!

@@ -10,7 +10,7 @@ ghost use Rattle.toml_edit_model.specs.Scalars.{is_real_date};
 /// let date = Date::new(year, month, day)?;
 /// ```
 ///
-/// From `utc` of the crate `toml_edit_guide`.
+/// From `utc` of the crate `example_calls`.
 #[derive(Clone, Copy, Debug, PartialEq, Eq, Hash)]
 pub struct Date {
     year: u16,

@@ -18,7 +18,7 @@ use std::fmt;
 /// Datetime::new(Some(date), Some(time), Some(Offset::Z))
 /// ```
 ///
-/// From `utc` of the crate `toml_edit_guide`.
+/// From `utc` of the crate `example_calls`.
 #[derive(Clone, Copy, Debug, PartialEq, Eq, Hash)]
 pub enum Offset {
     /// The offset 0, written `Z`.
@@ -35,7 +35,7 @@ pub enum Offset {
 /// Err(DatetimeFault) => Ok(false),
 /// ```
 ///
-/// From `set_date_time` of the crate `toml_edit_guide`.
+/// From `set_date_time` of the crate `example_calls`.
 #[derive(Clone, Copy, Debug, PartialEq, Eq, Hash)]
 pub struct DatetimeFault;
 
@@ -63,7 +63,7 @@ impl Error for DatetimeFault {}
 /// Datetime::new(Some(date), Some(time), Some(Offset::Z))
 /// ```
 ///
-/// From `utc` of the crate `toml_edit_guide`.
+/// From `utc` of the crate `example_calls`.
 #[derive(Clone, Copy, Debug, PartialEq, Eq, Hash)]
 pub struct Datetime {
     date: Option<Date>,

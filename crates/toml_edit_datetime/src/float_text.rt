@@ -161,7 +161,7 @@ impl fmt::Debug for HeldText {
 /// }
 /// ```
 ///
-/// From `float_of` of the crate `toml_edit_guide`.
+/// From `float_of` of the crate `example_calls`.
 #[derive(Debug, Drop)]
 pub struct FloatText {
     text: HeldText,

@@ -11,7 +11,7 @@ ghost use Rattle.toml_edit_model.specs.Scalars.{is_real_time};
 /// let time = Time::new(hour, minute, Some(0), None)?;
 /// ```
 ///
-/// From `utc` of the crate `toml_edit_guide`.
+/// From `utc` of the crate `example_calls`.
 #[derive(Clone, Copy, Debug, PartialEq, Eq, Hash)]
 pub struct Time {
     hour: u8,

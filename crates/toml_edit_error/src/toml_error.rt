@@ -24,7 +24,7 @@ use std::ops::Range;
 /// Err(ParseFault::Toml(error)) => error.to_string(alloc),
 /// ```
 ///
-/// From `report` of the crate `toml_edit_guide`.
+/// From `report` of the crate `example_calls`.
 #[derive(Debug)]
 pub struct TomlError {
     // In a box, so that the result of a call that mostly succeeds is no larger for its error.
@@ -224,7 +224,7 @@ impl Error for TomlError {}
 /// Err(ParseFault::Memory) => Err(AllocError),
 /// ```
 ///
-/// From `report` of the crate `toml_edit_guide`.
+/// From `report` of the crate `example_calls`.
 #[derive(Debug, Drop)]
 pub enum ParseFault {
     /// The text is refused.

@@ -17,7 +17,7 @@ ghost use Rattle.std.specs.Fmt.{WritesInCalls};
 /// pub fn put_text<P: Printed, S: Sink>(printed: &P, out: &mut S)
 /// ```
 ///
-/// From `put_text` of the crate `toml_edit_guide`.
+/// From `put_text` of the crate `example_calls`.
 pub trait Sink {
     // What a call does: the sink before it, the text, and the sink after it.
     ghost puts: { Self → List ℕ → Self → Type 0 };
@@ -45,7 +45,7 @@ pub trait Sink {
 /// printed.put_into(out)
 /// ```
 ///
-/// From `put_text` of the crate `toml_edit_guide`.
+/// From `put_text` of the crate `example_calls`.
 pub trait Printed {
     // The text.
     ghost text: { Self → List ℕ };

@@ -18,7 +18,7 @@ use std::fmt;
 /// pub fn read_piece<I: Input>(input: &mut I, buffer: &mut [u8]) -> Result<usize, Broken>
 /// ```
 ///
-/// From `read_piece` of the crate `toml_edit_guide`.
+/// From `read_piece` of the crate `example_calls`.
 #[derive(Clone, Copy, Debug, PartialEq, Eq)]
 pub struct Broken;
 
@@ -43,7 +43,7 @@ impl Error for Broken {}
 /// input.read(buffer)
 /// ```
 ///
-/// From `read_piece` of the crate `toml_edit_guide`.
+/// From `read_piece` of the crate `example_calls`.
 pub trait Input {
     // the bytes that are left to read, where they are known
     ghost remaining: { Self → Option (List ℕ) };
@@ -81,7 +81,7 @@ pub trait Input {
 /// document.print_to(alloc, output)
 /// ```
 ///
-/// From `write_to` of the crate `toml_edit_guide`.
+/// From `write_to` of the crate `example_calls`.
 pub trait Output {
     // the bytes that the output holds, where they are known
     ghost contents: { Self → Option (List ℕ) };

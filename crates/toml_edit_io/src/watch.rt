@@ -19,7 +19,7 @@ use std::io::{ErrorKind, Read, Write};
 /// document.print_to(alloc, &mut output)?;
 /// ```
 ///
-/// From `print_to_writer` of the crate `toml_edit_guide`.
+/// From `print_to_writer` of the crate `example_calls`.
 #[derive(Debug, Drop)]
 pub struct Watched<T> {
     inner: T,

@@ -49,7 +49,7 @@ use toml_edit_token::run::{byte_at, is_bare};
 /// Ok(key.with_leaf_decor(leaf).with_dotted_decor(dotted))
 /// ```
 ///
-/// From `renamed` of the crate `toml_edit_guide`.
+/// From `renamed` of the crate `example_calls`.
 #[derive(Debug)]
 pub struct Key {
     text: String,

@@ -37,7 +37,7 @@ use toml_edit_tree::{Item, Value};
 /// drop(table.insert(key, item).map_err(no_memory)?);
 /// ```
 ///
-/// From `set_spelled` of the crate `toml_edit_guide`.
+/// From `set_spelled` of the crate `example_calls`.
 pub trait FromStr: Sized {
     ghost use Rattle.std.specs.Prelude.{List, ℕ, Result};
     ghost use Rattle.toml_edit_error.specs.declared.toml_error.ParseFault.{ParseFault};
@@ -65,7 +65,7 @@ pub trait FromStr: Sized {
 /// Value::from_str_with(alloc, text, ParseOptions::new().version(Version::V1_0))
 /// ```
 ///
-/// From `read_value` of the crate `toml_edit_guide`.
+/// From `read_value` of the crate `example_calls`.
 pub trait FromStrWith: Sized {
     ghost use Rattle.std.specs.Prelude.{List, ℕ, Result};
     ghost use Rattle.toml_edit_error.specs.declared.toml_error.ParseFault.{ParseFault};

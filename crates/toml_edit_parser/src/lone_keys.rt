@@ -37,7 +37,7 @@ use toml_edit_token::decode_key;
 /// }
 /// ```
 ///
-/// From `set_version` of the crate `toml_edit_example`.
+/// From `set_version` of the crate `example`.
 pub trait ParsePath: Sized {
     ghost use Rattle.std.specs.Prelude.{List, ℕ, Result, Vec};
     ghost use Rattle.std.specs.declared.alloc.Global.{Global};

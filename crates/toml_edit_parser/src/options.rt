@@ -17,7 +17,7 @@ use toml_edit_syntax::Version;
 /// DocumentMut::from_str_with(alloc, text, ParseOptions::new().exact(true))
 /// ```
 ///
-/// From `read_exactly` of the crate `toml_edit_guide`.
+/// From `read_exactly` of the crate `example_calls`.
 #[derive(Clone, Copy, Debug, PartialEq, Eq)]
 pub struct ParseOptions {
     version: Version,
@@ -44,7 +44,7 @@ impl ParseOptions {
     /// DocumentMut::from_str_with(alloc, text, ParseOptions::new().version(Version::V1_0))
     /// ```
     ///
-    /// From `read_strictly` of the crate `toml_edit_guide`.
+    /// From `read_strictly` of the crate `example_calls`.
     pub fn version(mut self, version: Version) -> ParseOptions
         ensures version { version_of result ≡ grammar version }
         ensures mode { mode_of result ≡ mode_of self }

@@ -31,7 +31,7 @@ use toml_edit_text::{Mem, RawString, SharedText, Side};
 /// Value::Integer(number) => number.as_repr()?.as_raw().as_str(),
 /// ```
 ///
-/// From `spelling_of` of the crate `toml_edit_guide`.
+/// From `spelling_of` of the crate `example_calls`.
 #[derive(Debug, Drop)]
 pub struct Repr {
     raw: RawString,
@@ -159,7 +159,7 @@ impl Hash for Repr {
 /// mem::swap(old, &mut value);
 /// ```
 ///
-/// From `replace_value` of the crate `toml_edit_guide`.
+/// From `replace_value` of the crate `example_calls`.
 pub struct Decor {
     prefix: Side,
     suffix: Side,
@@ -405,7 +405,7 @@ pub fn clone_spelling(alloc: Global, repr: &Option<Repr>) -> Mem<Option<Repr>>
 /// pub fn put_default<T: ScalarValue, S: Sink>(scalar: &T, out: &mut S)
 /// ```
 ///
-/// From `put_default` of the crate `toml_edit_guide`.
+/// From `put_default` of the crate `example_calls`.
 pub trait ScalarValue: PartialEq {
     ghost use Rattle.toml_edit_model.specs.Scalars.{Scalar};
 
@@ -441,7 +441,7 @@ pub trait ScalarValue: PartialEq {
 /// pub fn default_of<T: ValueRepr>(alloc: Global, scalar: &Formatted<T>) -> Mem<Repr>
 /// ```
 ///
-/// From `default_of` of the crate `toml_edit_guide`.
+/// From `default_of` of the crate `example_calls`.
 pub trait ValueRepr: ScalarValue {
     ghost use Rattle.std.specs.Prelude.{List, ℕ};
 
@@ -504,7 +504,7 @@ pub(crate) fn default_repr_of<T: ScalarValue>(alloc: Global, value: &T) -> Mem<R
 /// }
 /// ```
 ///
-/// From `make_decimal` of the crate `toml_edit_guide`.
+/// From `make_decimal` of the crate `example_calls`.
 #[derive(Debug)]
 pub struct Formatted<T: ValueRepr> {
     value: T,
@@ -673,7 +673,7 @@ impl<T: ValueRepr> Formatted<T> {
     /// Value::Integer(number) => number.as_repr()?.as_raw().as_str(),
     /// ```
     ///
-    /// From `spelling_of` of the crate `toml_edit_guide`.
+    /// From `spelling_of` of the crate `example_calls`.
     pub fn as_repr(&self) -> Option<&Repr>
         ensures { option_copied result ≡ self.now.repr }
     {

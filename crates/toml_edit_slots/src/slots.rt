@@ -25,7 +25,7 @@ mod whole;
 /// Err(NoMemory(item)) => Some(item),
 /// ```
 ///
-/// From `try_insert` of the crate `toml_edit_guide`.
+/// From `try_insert` of the crate `example_calls`.
 #[derive(Debug, Drop)]
 pub struct NoMemory<T>(pub T);
 
@@ -88,7 +88,7 @@ impl<T> Refused<T> {
 /// }
 /// ```
 ///
-/// From `first_key` of the crate `toml_edit_guide`.
+/// From `first_key` of the crate `example_calls`.
 #[derive(Debug, Drop)]
 pub struct Slot<T> {
     /// The key.
@@ -119,7 +119,7 @@ impl<T> Slot<T> {
 /// }
 /// ```
 ///
-/// From `first_key` of the crate `toml_edit_guide`.
+/// From `first_key` of the crate `example_calls`.
 #[derive(Debug)]
 pub struct Slots<T> {
     entries: Vec<Slot<T>>,

@@ -24,7 +24,7 @@ use toml_edit_tree::Item;
 /// }
 /// ```
 ///
-/// From `version_of` of the crate `toml_edit_guide`.
+/// From `version_of` of the crate `example_calls`.
 pub trait AsTableLike {
     ghost use Rattle.toml_edit_model.specs.Tree.{Node};
     ghost use Rattle.toml_edit_table_like.specs.declared.table_ref_mut.TableRefMut.{TableRefMut};
@@ -50,7 +50,7 @@ pub trait AsTableLike {
     /// }
     /// ```
     ///
-    /// From `remove_from` of the crate `toml_edit_guide`.
+    /// From `remove_from` of the crate `example_calls`.
     fn as_table_like_mut(&mut self) -> Option<TableRefMut<'_>>
         ensures* other { sem 𝓛 (RestsIfOther Self.row self.entry result) }
         ensures same_item { IfSome result (λ t. (mut_item t).ghost_name ≡ self.entry.ghost_name) }

@@ -24,7 +24,7 @@ pub(crate) enum EntryKey<'a> {
 /// !table.entry(key).is_occupied()
 /// ```
 ///
-/// From `is_new` of the crate `toml_edit_guide`.
+/// From `is_new` of the crate `example_calls`.
 #[derive(Drop)]
 pub struct TableLikeEntry<'a, T: HasSlots> {
     pub(crate) table: &'a mut T,

@@ -31,7 +31,7 @@ use toml_edit_tree::{InlineTable, Item, Table, filled_place};
 /// table.as_slots().len()
 /// ```
 ///
-/// From `count_slots` of the crate `toml_edit_guide`.
+/// From `count_slots` of the crate `example_calls`.
 pub trait HasSlots {
     ghost use Rattle.std.specs.Borrow.{GName};
     ghost use Rattle.std.specs.Prelude.{List, Option};

@@ -51,7 +51,7 @@ use toml_edit_tree::{InlineTable, Item, Iter, Table, Value, filled_place};
 /// Ok(table.len())
 /// ```
 ///
-/// From `sort_keys` of the crate `toml_edit_guide`.
+/// From `sort_keys` of the crate `example_calls`.
 pub trait AnyTable: HasSlots {
     /// Returns the number of slots, placeholders included.
     ///
@@ -383,7 +383,7 @@ pub trait AnyTable: HasSlots {
 /// }
 /// ```
 ///
-/// From `has_key` of the crate `toml_edit_guide`.
+/// From `has_key` of the crate `example_calls`.
 pub trait TableLike: AnyTable {
     /// Returns the slot of `key`, or `None` if the key is missing or has a placeholder.
     ///

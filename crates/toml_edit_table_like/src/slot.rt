@@ -20,7 +20,7 @@ use toml_edit_tree::Item;
 /// pub fn item_in<'a, T: HasSlots>(slot: &'a TableLikeSlot<'_, T>) -> &'a Item
 /// ```
 ///
-/// From `item_in` of the crate `toml_edit_guide`.
+/// From `item_in` of the crate `example_calls`.
 #[derive(Drop)]
 pub struct TableLikeSlot<'a, T: HasSlots> {
     pub(crate) table: &'a mut T,

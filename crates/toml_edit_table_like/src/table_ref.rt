@@ -36,7 +36,7 @@ use toml_edit_tree::{InlineTable, Item, Iter, Table, Value};
 /// }
 /// ```
 ///
-/// From `version_of` of the crate `toml_edit_guide`.
+/// From `version_of` of the crate `example_calls`.
 #[derive(Clone, Copy)]
 pub enum TableRef<'a> {
     /// A table with a header or of a dotted key.

@@ -23,7 +23,7 @@ mod table;
 /// }
 /// ```
 ///
-/// From `remove_from` of the crate `toml_edit_guide`.
+/// From `remove_from` of the crate `example_calls`.
 #[derive(Drop)]
 pub struct TableRefMut<'a> {
     pub(crate) item: &'a mut Item,

@@ -21,7 +21,7 @@ use std::ops::Range;
 /// let version = Value::string(alloc, version)?;
 /// ```
 ///
-/// From `add_dependency` of the crate `toml_edit_guide`.
+/// From `add_dependency` of the crate `example_calls`.
 pub type Mem<T> = Result<T, AllocError>;
 
 /// A raw piece of a TOML text, such as whitespace and comments, or a spelling.
@@ -36,7 +36,7 @@ pub type Mem<T> = Result<T, AllocError>;
 /// let end = RawString::from_text(alloc, "\n")?;
 /// ```
 ///
-/// From `push_line` of the crate `toml_edit_guide`.
+/// From `push_line` of the crate `example_calls`.
 #[derive(Debug)]
 pub struct RawString {
     // It is never unset.

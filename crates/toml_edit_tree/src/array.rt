@@ -56,7 +56,7 @@ mod sort;
 /// }
 /// ```
 ///
-/// From `add_dependency` of the crate `toml_edit_guide`.
+/// From `add_dependency` of the crate `example_calls`.
 #[cycle(tree)]
 #[derive(Debug)]
 pub struct Array {
@@ -100,7 +100,7 @@ impl Array {
     /// let mut names = Array::new(alloc);
     /// ```
     ///
-    /// From `add_dependency` of the crate `toml_edit_guide`.
+    /// From `add_dependency` of the crate `example_calls`.
     pub fn new(alloc: Global) -> Array
         ensures { array_view result ≡ record { fields = new_array; items = no_items } }
     {
@@ -191,7 +191,7 @@ impl Array {
     /// array.set_trailing(end);
     /// ```
     ///
-    /// From `push_line` of the crate `toml_edit_guide`.
+    /// From `push_line` of the crate `example_calls`.
     pub fn set_trailing_comma(&mut self, trailing_comma: bool)
         ensures { array_view self.new ≡ array_with_comma trailing_comma (array_view self.old) }
     {
@@ -219,7 +219,7 @@ impl Array {
     /// array.set_trailing(end);
     /// ```
     ///
-    /// From `push_line` of the crate `toml_edit_guide`.
+    /// From `push_line` of the crate `example_calls`.
     pub fn set_trailing(&mut self, trailing: RawString)
         ensures { array_view self.new ≡ array_with_trailing trailing (array_view self.old) }
     {
@@ -276,7 +276,7 @@ impl Array {
     /// array.iter().next()
     /// ```
     ///
-    /// From `first_value` of the crate `toml_edit_guide`.
+    /// From `first_value` of the crate `example_calls`.
     pub fn iter(&self) -> ArrayIter<'_>
         ensures { values_left result ≡ values_seen (items_of self.now) }
     {
@@ -296,7 +296,7 @@ impl Array {
     /// array.insert(at, value).map_err(no_memory)
     /// ```
     ///
-    /// From `insert_or_push` of the crate `toml_edit_guide`.
+    /// From `insert_or_push` of the crate `example_calls`.
     pub fn len(&self) -> usize
         ensures { result ≡ length (items_of self.now) }
     {
@@ -312,7 +312,7 @@ impl Array {
     /// array.is_empty()
     /// ```
     ///
-    /// From `remove_string` of the crate `toml_edit_guide`.
+    /// From `remove_string` of the crate `example_calls`.
     pub fn is_empty(&self) -> bool
         ensures { IsTrue result ↔ (items_of self.now ≡ []) }
     {
@@ -339,7 +339,7 @@ impl Array {
     /// drop(array.replace(at, value).map_err(no_memory)?);
     /// ```
     ///
-    /// From `replace_or_push` of the crate `toml_edit_guide`.
+    /// From `replace_or_push` of the crate `example_calls`.
     pub fn get(&self, at: usize) -> Option<&Value>
         ensures { option_map (λ v. value_view v.now) result ≡ value_at at (items_of self.now) }
     {
@@ -360,7 +360,7 @@ impl Array {
     /// }
     /// ```
     ///
-    /// From `clear_suffix` of the crate `toml_edit_guide`.
+    /// From `clear_suffix` of the crate `example_calls`.
     pub fn get_mut(&mut self, at: usize) -> Option<&mut Value>
         ensures* writes_back { sem 𝓛 (LendsValueAt self.entry at result) }
         ensures value { option_map (λ value. value_view value.now) result
@@ -440,7 +440,7 @@ impl Array {
     /// names.push(name).map_err(no_memory)?;
     /// ```
     ///
-    /// From `add_dependency` of the crate `toml_edit_guide`.
+    /// From `add_dependency` of the crate `example_calls`.
     pub fn push(&mut self, value: Value) -> Result<(), NoMemory<Value>>
         ensures items { OnOk result
             (items_of self.new ≡ pushed (value_view value) (items_of self.old)) }
@@ -464,7 +464,7 @@ impl Array {
     /// to.push_formatted(value)?;
     /// ```
     ///
-    /// From `move_value` of the crate `toml_edit_guide`.
+    /// From `move_value` of the crate `example_calls`.
     pub fn push_formatted(&mut self, value: Value) -> Result<(), NoMemory<Value>>
         ensures items { OnOk result
             (items_of self.new ≡ pushed (value_view value) (items_of self.old)) }
@@ -493,7 +493,7 @@ impl Array {
     /// array.insert(at, value).map_err(no_memory)
     /// ```
     ///
-    /// From `insert_or_push` of the crate `toml_edit_guide`.
+    /// From `insert_or_push` of the crate `example_calls`.
     pub fn insert(&mut self, at: usize, value: Value) -> Result<(), NoMemory<Value>>
         requires { at ≤ length (items_of self.old) }
         ensures items { OnOk result
@@ -522,7 +522,7 @@ impl Array {
     /// }
     /// ```
     ///
-    /// From `put_formatted` of the crate `toml_edit_guide`.
+    /// From `put_formatted` of the crate `example_calls`.
     pub fn insert_formatted(&mut self, at: usize, value: Value) -> Result<(), NoMemory<Value>>
         requires { at ≤ length (items_of self.old) }
         ensures items { OnOk result
@@ -553,7 +553,7 @@ impl Array {
     /// drop(array.replace(at, value).map_err(no_memory)?);
     /// ```
     ///
-    /// From `replace_or_push` of the crate `toml_edit_guide`.
+    /// From `replace_or_push` of the crate `example_calls`.
     pub fn replace(&mut self, at: usize, value: Value) -> Result<Value, NoMemory<Value>>
         requires { IsSome (value_at at (items_of self.old)) }
         ensures value { IfOk result
@@ -598,7 +598,7 @@ impl Array {
     /// drop(array.replace_formatted(at, value));
     /// ```
     ///
-    /// From `put_formatted` of the crate `toml_edit_guide`.
+    /// From `put_formatted` of the crate `example_calls`.
     pub fn replace_formatted(&mut self, at: usize, value: Value) -> Value
         requires { IsSome (value_at at (items_of self.old)) }
         ensures value { Some (value_view result) ≡ value_at at (items_of self.old) }
@@ -620,7 +620,7 @@ impl Array {
     /// to.push_formatted(value)?;
     /// ```
     ///
-    /// From `move_value` of the crate `toml_edit_guide`.
+    /// From `move_value` of the crate `example_calls`.
     pub fn remove(&mut self, at: usize) -> Value
         requires { IsSome (value_at at (items_of self.old)) }
         ensures value { Some (value_view result) ≡ value_at at (items_of self.old) }
@@ -642,7 +642,7 @@ impl Array {
     /// array.is_empty()
     /// ```
     ///
-    /// From `remove_string` of the crate `toml_edit_guide`.
+    /// From `remove_string` of the crate `example_calls`.
     pub fn retain<F: Fn(&Value) -> bool>(&mut self, keep: F)
     where
         F: Drop,

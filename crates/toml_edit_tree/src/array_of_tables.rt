@@ -46,7 +46,7 @@ use toml_edit_slots::{NoMemory, list};
 /// drop(root.insert(name, item).map_err(no_memory)?);
 /// ```
 ///
-/// From `add_element` of the crate `toml_edit_guide`.
+/// From `add_element` of the crate `example_calls`.
 #[cycle(tree)]
 #[derive(Debug)]
 pub struct ArrayOfTables {
@@ -80,7 +80,7 @@ impl ArrayOfTables {
     /// tables.push(element).map_err(no_memory)?;
     /// ```
     ///
-    /// From `add_element` of the crate `toml_edit_guide`.
+    /// From `add_element` of the crate `example_calls`.
     pub fn new(alloc: Global) -> ArrayOfTables
         ensures { tables_view result ≡ record { extent = None; items = no_items } }
     {
@@ -275,7 +275,7 @@ impl ArrayOfTables {
     /// }
     /// ```
     ///
-    /// From `push_element` of the crate `toml_edit_guide`.
+    /// From `push_element` of the crate `example_calls`.
     pub fn push(&mut self, table: Table) -> Result<(), NoMemory<Table>>
         ensures items { OnOk result
             (tables_of self.new ≡ pushed (table_node (table_view table)) (tables_of self.old)) }
@@ -319,7 +319,7 @@ impl ArrayOfTables {
     /// Some(tables.replace(at, element))
     /// ```
     ///
-    /// From `replace_element` of the crate `toml_edit_guide`.
+    /// From `replace_element` of the crate `example_calls`.
     pub fn replace(&mut self, at: usize, table: Table) -> Table
         requires { IsSome (table_at at (tables_of self.old)) }
         ensures table { Some (table_node (table_view result)) ≡ table_at at (tables_of self.old) }
@@ -434,7 +434,7 @@ fn push_element(items: &mut Vec<Item>, element: Item) -> Mem<()>
 /// tables.iter().next()
 /// ```
 ///
-/// From `first_table` of the crate `toml_edit_guide`.
+/// From `first_table` of the crate `example_calls`.
 #[derive(Drop)]
 pub struct ArrayOfTablesIter<'a> {
     items: slice::Iter<'a, Item>,
@@ -477,7 +477,7 @@ impl<'a> IntoIterator for &'a ArrayOfTables {
 /// tables.into_iter().next()
 /// ```
 ///
-/// From `into_table` of the crate `toml_edit_guide`.
+/// From `into_table` of the crate `example_calls`.
 #[derive(Drop)]
 pub struct ArrayOfTablesIntoIter {
     items: vec::IntoIter<Item>,

@@ -33,7 +33,7 @@ use toml_edit_slots::{NoMemory, Slot, Slots};
 /// table.index_or_insert(alloc, key)?;
 /// ```
 ///
-/// From `make_slot` of the crate `toml_edit_guide`.
+/// From `make_slot` of the crate `example_calls`.
 #[derive(Clone, Copy, Debug, PartialEq, Eq, Hash)]
 pub enum IndexFault {
     /// The item is neither a table, an inline table nor a placeholder.
@@ -95,7 +95,7 @@ impl<T: Drop> From<NoMemory<T>> for IndexFault {
 /// root.get(table)?.get(key)?.as_integer()
 /// ```
 ///
-/// From `integer_at` of the crate `toml_edit_guide`.
+/// From `integer_at` of the crate `example_calls`.
 pub trait Index: Drop {
     /// What the index means: a number or a text.
     ghost stands_for: { Self → indexing.Index };

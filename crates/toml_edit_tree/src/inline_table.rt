@@ -66,7 +66,7 @@ mod spans;
 /// drop(dependency.insert("version", version).map_err(no_memory)?);
 /// ```
 ///
-/// From `add_dependency` of the crate `toml_edit_guide`.
+/// From `add_dependency` of the crate `example_calls`.
 #[cycle(tree)]
 #[derive(Debug)]
 pub struct InlineTable {
@@ -114,7 +114,7 @@ impl InlineTable {
     /// let mut dependency = InlineTable::new(alloc);
     /// ```
     ///
-    /// From `add_dependency` of the crate `toml_edit_guide`.
+    /// From `add_dependency` of the crate `example_calls`.
     pub fn new(alloc: Global) -> InlineTable
         ensures { inline_view result ≡ record { fields = new_inline; slots = no_slots } }
     {
@@ -224,7 +224,7 @@ impl InlineTable {
     /// drop(below.insert(inner, value).map_err(no_memory)?);
     /// ```
     ///
-    /// From `add_dotted` of the crate `toml_edit_guide`.
+    /// From `add_dotted` of the crate `example_calls`.
     pub fn set_dotted(&mut self, dotted: bool)
         ensures { inline_view self.new ≡ inline_with_dotted dotted (inline_view self.old) }
     {
@@ -527,7 +527,7 @@ impl InlineTable {
     /// drop(dependency.insert("version", version).map_err(no_memory)?);
     /// ```
     ///
-    /// From `add_dependency` of the crate `toml_edit_guide`.
+    /// From `add_dependency` of the crate `example_calls`.
     pub fn insert(&mut self, key: &str, value: Value) -> Result<Option<Value>, NoMemory<Value>>
         ensures old { IfOk result
             (λ old. option_map value_view old ≡ old_value key.now (inline_slots_of self.old)) }

@@ -47,7 +47,7 @@ use toml_edit_slots::Slots;
 /// root.get(table)?.get(key)?.as_integer()
 /// ```
 ///
-/// From `integer_at` of the crate `toml_edit_guide`.
+/// From `integer_at` of the crate `example_calls`.
 #[cycle(tree)]
 #[derive(Debug, Drop)]
 pub enum Item {
@@ -110,7 +110,7 @@ impl Item {
     /// root.get(table)?.get(key)?.as_integer()
     /// ```
     ///
-    /// From `integer_at` of the crate `toml_edit_guide`.
+    /// From `integer_at` of the crate `example_calls`.
     pub fn get<I: Index>(&self, index: I) -> Option<&Item>
         ensures { option_map (λ x. item_view x.now) result
             ≡ indexed (I.stands_for index) (item_view self.now) }
@@ -421,7 +421,7 @@ impl Item {
     /// let table = root.get_mut(table).and_then(|item| item.as_table_mut());
     /// ```
     ///
-    /// From `set_value` of the crate `toml_edit_guide`.
+    /// From `set_value` of the crate `example_calls`.
     pub fn as_table_mut(&mut self) -> Option<&mut Table>
         ensures* writes_back { sem 𝓛 (LendsTable self.entry result) }
         ensures table { option_map (λ t. table_view t.now) result ≡ table_in (item_view self.old) }
@@ -494,7 +494,7 @@ impl Item {
     /// root.get(table)?.get(key)?.as_integer()
     /// ```
     ///
-    /// From `integer_at` of the crate `toml_edit_guide`.
+    /// From `integer_at` of the crate `example_calls`.
     pub fn as_integer(&self) -> Option<i64>
         ensures { result ≡ integer_in (item_view self.now) }
     {
@@ -683,7 +683,7 @@ impl Item {
     /// root.get(key)?.span()
     /// ```
     ///
-    /// From `span_at` of the crate `toml_edit_guide`.
+    /// From `span_at` of the crate `example_calls`.
     pub fn span(&self) -> Option<Range<usize>>
         ensures { result ≡ item_span (item_view self.now) }
     {

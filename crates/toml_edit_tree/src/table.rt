@@ -60,7 +60,7 @@ mod spans;
 /// drop(root.insert(name, Item::Table(table)).map_err(no_memory)?);
 /// ```
 ///
-/// From `add_table` of the crate `toml_edit_guide`.
+/// From `add_table` of the crate `example_calls`.
 #[cycle(tree)]
 #[derive(Debug)]
 pub struct Table {
@@ -107,7 +107,7 @@ impl Table {
     /// drop(table.insert(key, Item::Value(value)).map_err(no_memory)?);
     /// ```
     ///
-    /// From `add_table` of the crate `toml_edit_guide`.
+    /// From `add_table` of the crate `example_calls`.
     pub fn new(alloc: Global) -> Table
         ensures { table_view result ≡ record { fields = new_table; slots = no_slots } }
     {
@@ -182,7 +182,7 @@ impl Table {
     /// drop(above.insert(inner, Item::Table(table)).map_err(no_memory)?);
     /// ```
     ///
-    /// From `add_nested` of the crate `toml_edit_guide`.
+    /// From `add_nested` of the crate `example_calls`.
     pub fn set_implicit(&mut self, implicit: bool)
         ensures { table_view self.new ≡ table_with_implicit implicit (table_view self.old) }
     {
@@ -233,7 +233,7 @@ impl Table {
     /// Some(tables.replace(at, element))
     /// ```
     ///
-    /// From `replace_element` of the crate `toml_edit_guide`.
+    /// From `replace_element` of the crate `example_calls`.
     pub fn set_position(&mut self, position: Option<isize>)
         ensures { table_view self.new ≡ table_with_position position (table_view self.old) }
     {
@@ -309,7 +309,7 @@ impl Table {
     /// }
     /// ```
     ///
-    /// From `names` of the crate `toml_edit_guide`.
+    /// From `names` of the crate `example_calls`.
     pub fn iter(&self) -> Iter<'_>
         ensures { held_left result ≡ filled_pairs (slots_of self.now) }
     {
@@ -382,7 +382,7 @@ impl Table {
     /// let item = table.and_then(|table| table.get_mut(key));
     /// ```
     ///
-    /// From `set_value` of the crate `toml_edit_guide`.
+    /// From `set_value` of the crate `example_calls`.
     pub fn get_mut(&mut self, key: &str) -> Option<&mut Item>
         ensures* writes_back { sem 𝓛 (LendsHeld self.entry key.now result) }
         ensures item { option_map (λ x. item_view x.now) result ≡ get key.now (slots_of self.old) }
@@ -555,7 +555,7 @@ impl Table {
     /// drop(root.insert(name, Item::Table(table)).map_err(no_memory)?);
     /// ```
     ///
-    /// From `add_table` of the crate `toml_edit_guide`.
+    /// From `add_table` of the crate `example_calls`.
     pub fn insert(&mut self, key: &str, item: Item) -> Result<Option<Item>, NoMemory<Item>>
         ensures old { IfOk result
             (λ old. option_map item_view old ≡ lookup key.now (slots_of self.old)) }
@@ -588,7 +588,7 @@ impl Table {
     /// drop(from.remove(name));
     /// ```
     ///
-    /// From `move_table` of the crate `toml_edit_recipes`.
+    /// From `move_table` of the crate `example_tasks`.
     pub fn insert_formatted(
         &mut self,
         key: &Key,
@@ -632,7 +632,7 @@ impl Table {
     ///     Some((key, item)) => {
     /// ```
     ///
-    /// From `exchange` of the crate `toml_edit_guide`.
+    /// From `exchange` of the crate `example_calls`.
     pub fn remove_entry(&mut self, key: &str) -> Option<(Key, Item)>
         ensures slot { option_map slot_taken result ≡ lookup_slot key.now (slots_of self.old) }
         ensures slots { slots_of self.new ≡ without key.now (slots_of self.old) }

@@ -48,7 +48,7 @@ use toml_edit_token::Scalar;
 /// names.push(name).map_err(no_memory)?;
 /// ```
 ///
-/// From `add_dependency` of the crate `toml_edit_guide`.
+/// From `add_dependency` of the crate `example_calls`.
 #[cycle(tree)]
 #[derive(Debug, Drop)]
 pub enum Value {
@@ -85,7 +85,7 @@ impl Value {
     /// names.push(name).map_err(no_memory)?;
     /// ```
     ///
-    /// From `add_dependency` of the crate `toml_edit_guide`.
+    /// From `add_dependency` of the crate `example_calls`.
     pub fn string(alloc: Global, text: &str) -> Mem<Value>
         ensures { IfOk result (λ v. value_view v ≡ leaf (string text.now) None unset) }
     {
@@ -181,7 +181,7 @@ impl Value {
     /// array.sort_by(|a, b| a.as_str().cmp(&b.as_str()))
     /// ```
     ///
-    /// From `sort_strings` of the crate `toml_edit_guide`.
+    /// From `sort_strings` of the crate `example_calls`.
     pub fn as_str(&self) -> Option<&str>
         ensures { option_map (λ t. t.now) result ≡ text_in (value_view self.now) }
     {
@@ -259,7 +259,7 @@ impl Value {
     /// Some(value.as_datetime()?.date()?.year())
     /// ```
     ///
-    /// From `year_of` of the crate `toml_edit_guide`.
+    /// From `year_of` of the crate `example_calls`.
     pub fn as_datetime(&self) -> Option<&Datetime>
         ensures { option_map (λ x. datetime_view x.now) result ≡ datetime_in (value_view self.now) }
     {
@@ -359,7 +359,7 @@ impl Value {
     /// array.get(array.len().saturating_sub(1))?.decor().prefix()
     /// ```
     ///
-    /// From `before_last` of the crate `toml_edit_guide`.
+    /// From `before_last` of the crate `example_calls`.
     pub fn decor(&self) -> &Decor
         ensures { result.now ≡ node_decor (value_view self.now) }
     {
@@ -383,7 +383,7 @@ impl Value {
     /// mem::swap(old, &mut value);
     /// ```
     ///
-    /// From `replace_value` of the crate `toml_edit_guide`.
+    /// From `replace_value` of the crate `example_calls`.
     pub fn decor_mut(&mut self) -> &mut Decor
         ensures* writes_back { sem 𝓛 (LendsDecor self.entry result) }
         ensures decor { result.now ≡ node_decor (value_view self.old) }
@@ -424,7 +424,7 @@ impl Value {
     /// let value = Value::string(alloc, text)?.decorated(prefix, RawString::default());
     /// ```
     ///
-    /// From `push_line` of the crate `toml_edit_guide`.
+    /// From `push_line` of the crate `example_calls`.
     pub fn decorated(self, prefix: RawString, suffix: RawString) -> Value
         ensures { value_view result ≡ with_decor (both_sides prefix suffix) (value_view self) }
     {

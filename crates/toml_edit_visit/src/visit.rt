@@ -29,7 +29,7 @@ use toml_edit_tree::{Item, Table, Value};
 /// true
 /// ```
 ///
-/// From `visit` of the crate `toml_edit_recipes`.
+/// From `visit` of the crate `example_tasks`.
 pub trait Visit {
     // What a visit does: the visitor before it, the steps to the item and the item, whether the
     // walk goes on, and the visitor after it.
@@ -58,7 +58,7 @@ pub trait Visit {
 /// Ok(lint.report)
 /// ```
 ///
-/// From `lint` of the crate `toml_edit_recipes`.
+/// From `lint` of the crate `example_tasks`.
 pub fn visit_table<V: Visit>(visitor: &mut V, table: &Table) -> bool
     ensures { VisitsInOrder V.visits (items_below [] (table_node (table_view table.now)))
         visitor.old result visitor.new }

@@ -30,7 +30,7 @@ use toml_edit_tree::Path;
 /// document.print_to(alloc, output)
 /// ```
 ///
-/// From `write_to` of the crate `toml_edit_guide`.
+/// From `write_to` of the crate `example_calls`.
 #[derive(Clone, Copy, Debug, PartialEq, Eq)]
 pub enum PrintFault {
     /// Out of memory. Nothing was written.
@@ -165,7 +165,7 @@ impl DocumentMut {
     /// document.print_to(alloc, output)
     /// ```
     ///
-    /// From `write_to` of the crate `toml_edit_guide`.
+    /// From `write_to` of the crate `example_calls`.
     pub fn print_to<W: Output>(&self, alloc: Global, out: &mut W) -> Result<(), PrintFault>
         requires { W.has_failed out.old ≡ false }
         ensures prints { OnOk result

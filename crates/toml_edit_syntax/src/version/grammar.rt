@@ -11,7 +11,7 @@
 /// DocumentMut::from_str_with(alloc, text, ParseOptions::new().version(Version::V1_0))
 /// ```
 ///
-/// From `read_strictly` of the crate `toml_edit_guide`.
+/// From `read_strictly` of the crate `example_calls`.
 #[derive(Clone, Copy, Debug, PartialEq, Eq)]
 pub enum Version {
     /// TOML 1.0.0.

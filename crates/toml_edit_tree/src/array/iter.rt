@@ -22,7 +22,7 @@ use std::{slice, vec};
 /// array.iter().next()
 /// ```
 ///
-/// From `first_value` of the crate `toml_edit_guide`.
+/// From `first_value` of the crate `example_calls`.
 #[derive(Drop)]
 pub struct ArrayIter<'a> {
     pub(crate) items: slice::Iter<'a, Item>,
@@ -65,7 +65,7 @@ impl<'a> IntoIterator for &'a Array {
 /// array.into_iter().next()
 /// ```
 ///
-/// From `into_value` of the crate `toml_edit_guide`.
+/// From `into_value` of the crate `example_calls`.
 #[derive(Drop)]
 pub struct ArrayIntoIter {
     items: vec::IntoIter<Item>,

@@ -28,7 +28,7 @@ impl Array {
     /// array.sort_by(|a, b| a.as_str().cmp(&b.as_str()))
     /// ```
     ///
-    /// From `sort_strings` of the crate `toml_edit_guide`.
+    /// From `sort_strings` of the crate `example_calls`.
     pub fn sort_by<F: Fn(&Value, &Value) -> Ordering>(&mut self, compare: F) -> Mem<()>
     where
         F: Drop,

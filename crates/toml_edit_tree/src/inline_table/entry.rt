@@ -44,7 +44,7 @@ use toml_edit_slots::{NoMemory, Slot};
 /// }
 /// ```
 ///
-/// From `describe_inline` of the crate `toml_edit_guide`.
+/// From `describe_inline` of the crate `example_calls`.
 #[derive(Drop)]
 pub enum InlineEntry<'a> {
     /// The key has a slot, with a value.
@@ -144,7 +144,7 @@ impl<'a> InlineEntry<'a> {
 /// InlineEntry::Occupied(slot) => format!(in alloc; "replaces {}", slot.key()),
 /// ```
 ///
-/// From `describe_inline` of the crate `toml_edit_guide`.
+/// From `describe_inline` of the crate `example_calls`.
 #[derive(Drop)]
 pub struct InlineOccupiedEntry<'a> {
     table: &'a mut InlineTable,
@@ -164,7 +164,7 @@ impl<'a> InlineOccupiedEntry<'a> {
     /// InlineEntry::Occupied(slot) => format!(in alloc; "replaces {}", slot.key()),
     /// ```
     ///
-    /// From `describe_inline` of the crate `toml_edit_guide`.
+    /// From `describe_inline` of the crate `example_calls`.
     pub fn key(&self) -> &str
         ensures { Some result.now ≡ option_map (λ key. key.name) (inline_key (Occupied self.now)) }
     {
@@ -332,7 +332,7 @@ impl<'a> InlineOccupiedEntry<'a> {
 /// InlineEntry::Vacant(place) => format!(in alloc; "adds {}", place.key()),
 /// ```
 ///
-/// From `describe_inline` of the crate `toml_edit_guide`.
+/// From `describe_inline` of the crate `example_calls`.
 #[derive(Drop)]
 pub struct InlineVacantEntry<'a> {
     table: &'a mut InlineTable,
@@ -352,7 +352,7 @@ impl<'a> InlineVacantEntry<'a> {
     /// InlineEntry::Vacant(place) => format!(in alloc; "adds {}", place.key()),
     /// ```
     ///
-    /// From `describe_inline` of the crate `toml_edit_guide`.
+    /// From `describe_inline` of the crate `example_calls`.
     pub fn key(&self) -> &str
         ensures { Some result.now ≡ option_map (λ key. key.name) (inline_key (Vacant self.now)) }
     {

@@ -22,7 +22,7 @@ use toml_edit_slots::Slot;
 /// table.iter().next()
 /// ```
 ///
-/// From `first_pair` of the crate `toml_edit_guide`.
+/// From `first_pair` of the crate `example_calls`.
 #[derive(Drop)]
 pub struct InlineTableIter<'a> {
     pub(crate) slots: slice::Iter<'a, Slot<Item>>,
@@ -68,7 +68,7 @@ impl<'a> IntoIterator for &'a InlineTable {
 /// table.into_iter().next()
 /// ```
 ///
-/// From `into_pair` of the crate `toml_edit_guide`.
+/// From `into_pair` of the crate `example_calls`.
 #[derive(Drop)]
 pub struct InlineTableIntoIter {
     slots: vec::IntoIter<Slot<Item>>,

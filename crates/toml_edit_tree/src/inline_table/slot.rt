@@ -36,7 +36,7 @@ use toml_edit_repr::Decor;
 /// pub fn key_in<'a>(slot: &'a InlineSlotMut<'_>) -> &'a Key
 /// ```
 ///
-/// From `key_in` of the crate `toml_edit_guide`.
+/// From `key_in` of the crate `example_calls`.
 #[derive(Drop)]
 pub struct InlineSlotMut<'a> {
     table: &'a mut InlineTable,

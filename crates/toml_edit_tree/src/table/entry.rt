@@ -33,7 +33,7 @@ use toml_edit_slots::{NoMemory, Slot};
 /// table.entry(key)?.or_insert(item)?;
 /// ```
 ///
-/// From `set_default` of the crate `toml_edit_guide`.
+/// From `set_default` of the crate `example_calls`.
 #[derive(Drop)]
 pub enum Entry<'a> {
     /// The key has a slot, which may be a placeholder.
@@ -53,7 +53,7 @@ impl<'a> Entry<'a> {
     /// entry.key()
     /// ```
     ///
-    /// From `name_of` of the crate `toml_edit_guide`.
+    /// From `name_of` of the crate `example_calls`.
     pub fn key(&self) -> &str
         ensures { Some result.now ≡ option_map (λ key. key.name) (entry_key self.now) }
     {
@@ -79,7 +79,7 @@ impl<'a> Entry<'a> {
     /// table.entry(key)?.or_insert(item)?;
     /// ```
     ///
-    /// From `set_default` of the crate `toml_edit_guide`.
+    /// From `set_default` of the crate `example_calls`.
     pub fn or_insert(self, item: Item) -> Result<&'a mut Item, NoMemory<Item>>
         ensures* writes_back { sem 𝓛 (EntryLendsOk self.entry result) }
         ensures item { IfOk result (λ x. x.now ≡ unwrap_or (entry_item self.entry) item) }
@@ -153,7 +153,7 @@ impl<'a> Entry<'a> {
 /// }
 /// ```
 ///
-/// From `set_comment` of the crate `toml_edit_guide`.
+/// From `set_comment` of the crate `example_calls`.
 #[derive(Drop)]
 pub struct OccupiedEntry<'a> {
     table: &'a mut Table,
@@ -173,7 +173,7 @@ impl<'a> OccupiedEntry<'a> {
     /// Entry::Occupied(slot) => format!(in alloc; "replaces {}", slot.key()),
     /// ```
     ///
-    /// From `describe` of the crate `toml_edit_guide`.
+    /// From `describe` of the crate `example_calls`.
     pub fn key(&self) -> &str
         ensures { Some result.now ≡ option_map (λ key. key.name) (entry_key (Occupied self.now)) }
     {
@@ -337,7 +337,7 @@ impl<'a> OccupiedEntry<'a> {
 /// Entry::Vacant(place) => format!(in alloc; "adds {}", place.key()),
 /// ```
 ///
-/// From `describe` of the crate `toml_edit_guide`.
+/// From `describe` of the crate `example_calls`.
 #[derive(Drop)]
 pub struct VacantEntry<'a> {
     table: &'a mut Table,
@@ -357,7 +357,7 @@ impl<'a> VacantEntry<'a> {
     /// Entry::Vacant(place) => format!(in alloc; "adds {}", place.key()),
     /// ```
     ///
-    /// From `describe` of the crate `toml_edit_guide`.
+    /// From `describe` of the crate `example_calls`.
     pub fn key(&self) -> &str
         ensures { Some result.now ≡ option_map (λ key. key.name) (entry_key (Vacant self.now)) }
     {
@@ -409,7 +409,7 @@ impl Table {
     /// table.entry(key)?.or_insert(item)?;
     /// ```
     ///
-    /// From `set_default` of the crate `toml_edit_guide`.
+    /// From `set_default` of the crate `example_calls`.
     pub fn entry(&mut self, key: &str) -> Mem<Entry<'_>>
         ensures* refused { sem 𝓛 (RestsIfRefused self.entry result) }
         ensures same_table { IfOk result (λ e. (entry_ref e).ghost_name ≡ self.entry.ghost_name) }
@@ -462,7 +462,7 @@ impl Table {
     /// }
     /// ```
     ///
-    /// From `set_comment` of the crate `toml_edit_guide`.
+    /// From `set_comment` of the crate `example_calls`.
     pub fn slot_mut(&mut self, key: &str) -> Option<OccupiedEntry<'_>>
         ensures* absent { sem 𝓛 (RestsIfAbsent self.entry result) }
         ensures same_table { IfSome result

@@ -27,7 +27,7 @@ use toml_edit_slots::Slot;
 /// }
 /// ```
 ///
-/// From `names` of the crate `toml_edit_guide`.
+/// From `names` of the crate `example_calls`.
 #[derive(Drop)]
 pub struct Iter<'a> {
     pub(crate) slots: slice::Iter<'a, Slot<Item>>,
@@ -85,7 +85,7 @@ impl<'a> IntoIterator for &'a Table {
 /// table.into_iter().next()
 /// ```
 ///
-/// From `into_slot` of the crate `toml_edit_guide`.
+/// From `into_slot` of the crate `example_calls`.
 #[derive(Drop)]
 pub struct IntoIter {
     slots: vec::IntoIter<Slot<Item>>,

@@ -1,6 +1,0 @@
--- Each call has a shorter path.
-use Rattle.std.proofs.Common.{length}
-use Rattle.toml_edit_programs.proofs.migrate.+slots_at.Given as goal
-
-abbrev pub decreases-slots_at : goal.decreases-slots_at
-decreases-slots_at l = length l.path.now

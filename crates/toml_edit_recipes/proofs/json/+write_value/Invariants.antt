@@ -1,5 +1,0 @@
--- Each call is a level lower.
-use Rattle.toml_edit_recipes.proofs.json.+write_value.Given as goal
-
-abbrev pub decreases-write_value : goal.decreases-write_value
-decreases-write_value l = l.levels
