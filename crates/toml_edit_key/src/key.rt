@@ -1,5 +1,5 @@
 //! Keys, and mutable references to all of a key but its name.
-ghost use Rattle.std.specs.Prelude.{◌≡◌, ◌<◌, ◌^◌, Some, IsSome, IsOkAnd, IfOk, OnOk, IfSome, option_map, option_and_then, refl, bytes_eq, string_bytes};
+ghost use Rattle.std.specs.Prelude.{◌≡◌, ◌<◌, ◌^◌, Some, IsSome, IsOkAnd, IfOk, OnOk, IfSome, map, option_map, option_and_then, refl, bytes_eq, string_bytes};
 ghost use Rattle.std.specs.Option.{option_copied};
 ghost use Rattle.std.specs.Cow.{cow_str_bytes, IsBorrowedStr};
 ghost use Rattle.std.specs.Fmt.{WritesInCalls};
@@ -141,6 +141,23 @@ impl Key {
         ensures { IfOk result (λ key. key ≡ new_key text.now) }
     {
         Ok(Key::new(String::from_str(alloc, text)?))
+    }
+
+    /// Makes a path of these names: a key of each, with the default spelling and no decor.
+    ///
+    /// To read a path as TOML spells it, use `parse` of the trait `ParsePath`.
+    ///
+    /// # Errors
+    ///
+    /// Returns an `AllocError` if out of memory.
+    pub fn path(alloc: Global, names: &[&str]) -> Mem<Vec<Key>>
+        ensures { IfOk result (λ path. path.items ≡ map (λ name. new_key name.now) names.now) }
+    {
+        let mut path = Vec::new(alloc);
+        'names: for name in names {
+            path.push(Key::from_text(alloc, *name)?)?;
+        }
+        Ok(path)
     }
 
     /// Makes a key that was parsed, spelled by the bytes of the source from `start` up to `end`.
