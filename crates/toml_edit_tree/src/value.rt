@@ -16,7 +16,7 @@ ghost use Rattle.toml_edit_tree.specs.Casts.{LendsDecor, array_in, both_sides, d
 ghost use Rattle.toml_edit_tree.specs.ContainerParts.{LendsArray, LendsInline};
 ghost use Rattle.toml_edit_tree.specs.Containers.{array_node, inline_node};
 ghost use Rattle.toml_edit_tree.specs.Indexed.{LendsValueSlots, value_slots};
-ghost use Rattle.toml_edit_tree.specs.InlineSlots.{value_taken};
+ghost use Rattle.toml_edit_tree.specs.InlineSlots.{slots_of_pairs, value_taken};
 ghost use Rattle.toml_edit_tree.specs.View.{array_view, inline_view, value_view};
 
 use crate::array::Array;
@@ -92,6 +92,23 @@ impl Value {
         Ok(Value::String(Formatted::new(String::from_str(alloc, text)?)))
     }
 
+    /// Creates an array of the strings, in order, each with the default spelling and no decor.
+    ///
+    /// # Errors
+    ///
+    /// Returns an `AllocError` if out of memory.
+    pub fn strings(alloc: Global, texts: &[&str]) -> Mem<Value>
+        ensures { IfOk result (λ value. value_view value
+            ≡ list new_array (items_from
+            (map (λ text. leaf (string text.now) None unset) texts.now))) }
+    {
+        let mut array = Array::new(alloc);
+        'texts: for text in texts {
+            array.push(Value::string(alloc, *text)?)?;
+        }
+        Ok(Value::Array(array))
+    }
+
     /// Creates an array of the values, in order and each with its decor.
     ///
     /// # Errors
@@ -109,6 +126,26 @@ impl Value {
             Ok(array) => Ok(Value::Array(array)),
             Err(refused) => Err(refused),
         }
+    }
+
+    /// Creates an inline table of these names and values, in order, each key with the default
+    /// spelling and no decor.
+    ///
+    /// Where a name comes again, the later value takes the place of the earlier one.
+    ///
+    /// # Errors
+    ///
+    /// Returns an `AllocError` if out of memory.
+    pub fn pairs(alloc: Global, pairs: Vec<(&str, Value)>) -> Mem<Value>
+        ensures { IfOk result (λ value. value_view value
+            ≡ inline new_inline (slots_from (slots_of_pairs
+            (map (λ p. (p.0.now, value_view p.1)) pairs.entry.items)))) }
+    {
+        let mut table = InlineTable::new(alloc);
+        for (name, value) in pairs {
+            drop(table.insert(name, value)?);
+        }
+        Ok(Value::InlineTable(table))
     }
 
     /// Creates an inline table of the pairs, inserted one after another.
