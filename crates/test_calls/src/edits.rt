@@ -1,9 +1,9 @@
 //! The guide's edits by paths, on texts that are written by hand.
 use crate::guide::{is_edited, is_missing, is_present, is_refused};
 use crate::paths::path;
-use std::alloc::Global;
 use example_calls::edits::{release, set_two};
 use example_calls::fault::EditFault;
+use std::alloc::Global;
 
 const PACKAGE: &str =
     "# a crate\n[package]\nname = 'x'  # its name\nversion  = '0.1.0' # the first\nold.way = 1 # gone\n\n[[bin]]\n# the program\nname = 'b'\n";

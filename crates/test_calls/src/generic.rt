@@ -7,10 +7,6 @@ ghost use Rattle.toml_edit.specs.tree.View.{value_view};
 use crate::guide::done;
 use crate::holding::is_text;
 use crate::streams::{Drip, Short};
-use std::alloc::{AllocError, Global};
-use toml_edit::{
-    Document, DocumentMut, Item, Mem, Printed, Sink, Table, TableLike, Value, Watched,
-};
 use example_calls::adding::{make_slot, name_of};
 use example_calls::first::{
     first_pair, first_table, first_value, into_pair, into_slot, into_table, into_value,
@@ -18,6 +14,10 @@ use example_calls::first::{
 use example_calls::generic::{
     count_slots, default_of, first_key, has_key, is_new, item_in, key_in, print_to_writer,
     put_default, put_text, read_piece, read_value, source_of,
+};
+use std::alloc::{AllocError, Global};
+use toml_edit::{
+    Document, DocumentMut, Item, Mem, Printed, Sink, Table, TableLike, Value, Watched,
 };
 use toml_edit_io::print;
 

@@ -1,7 +1,5 @@
 //! Each function of the guide, on documents whose texts before and after are written by hand.
 use crate::holding::is_text;
-use std::alloc::{AllocError, Global};
-use toml_edit::{Array, Document, DocumentMut, Item, Mem, ParseFault, Renamed, Table, Value};
 use example_calls::adding::{
     add_dependency, add_element, add_table, push_line, set_default, try_insert,
 };
@@ -15,6 +13,8 @@ use example_calls::fault::EditFault;
 use example_calls::normalizing::{normalize, reload};
 use example_calls::reading::{integer_at, names, span_at};
 use example_calls::removing::remove_key;
+use std::alloc::{AllocError, Global};
+use toml_edit::{Array, Document, DocumentMut, Item, Mem, ParseFault, Renamed, Table, Value};
 
 const SERVER: &str = "title = 'x'\n\n# two servers\n[server]\nport = 80  # http\nhost = 'a'\n";
 

@@ -2,8 +2,6 @@
 use crate::guide::{array_mut, done};
 use crate::holding::is_text;
 use crate::paths::{path, sets};
-use std::alloc::{AllocError, Global};
-use toml_edit::{Document, DocumentMut, Item, Mem, ParseFault, RawString, Table, Value};
 use example_tasks::add::add_sorted;
 use example_tasks::comments::{comment_of, explain};
 use example_tasks::convert::give_header;
@@ -12,6 +10,8 @@ use example_tasks::lint::{empty_strings, misfit};
 use example_tasks::paths::configure;
 use example_tasks::relocate::move_table;
 use example_tasks::rename::rename;
+use std::alloc::{AllocError, Global};
+use toml_edit::{Document, DocumentMut, Item, Mem, ParseFault, RawString, Table, Value};
 
 /// Returns the table under a key.
 pub fn table_mut<'a>(root: &'a mut Table, key: &str) -> Option<&'a mut Table> {

@@ -1,7 +1,7 @@
 //! Calls that move their argument in or out, and errors that are made and not met.
 use crate::holding::{holds, holds_moved, shows};
 use std::alloc::Global;
-use toml_edit::{Decor, Document, Formatted, Key, ParseFault, RawString, Value, value};
+use toml_edit::{Decor, Document, Formatted, Key, Mem, ParseFault, RawString, Value, value};
 
 fn moves_text(_alloc: Global, text: String) -> bool {
     holds(Some(RawString::from(text)), is_moved)
@@ -78,6 +78,41 @@ fn makes_items_of_what_converts_into_a_value(rt: HostRuntime) {
     assert!(rt; shows(rt.alloc(), value(42), "42"));
     assert!(rt; shows(rt.alloc(), value(true), "true"));
     assert!(rt; shows(rt.alloc(), value(Value::from(7)), "7"));
+}
+
+fn dependency(alloc: Global) -> Mem<Value> {
+    let version = Value::string(alloc, "1.0")?;
+    let features = Value::strings(alloc, &["derive", "rc"])?;
+    let old = Value::from(0);
+    let pairs = [
+        ("version", old),
+        ("features", features),
+        ("version", version),
+    ];
+    Value::pairs(alloc, Vec::from_array(alloc, pairs)?)
+}
+
+#[test]
+fn makes_values_of_names_and_strings(rt: HostRuntime) {
+    assert!(rt; holds_moved(rt.alloc(), dependency(rt.alloc()).ok(), is_dependency));
+}
+
+fn is_dependency(alloc: Global, value: Value) -> bool {
+    shows(
+        alloc,
+        value,
+        "{ version = \"1.0\", features = [\"derive\", \"rc\"] }",
+    )
+}
+
+#[test]
+fn makes_paths_of_names(rt: HostRuntime) {
+    let names = Key::path(rt.alloc(), &["a b", "c"]);
+    assert!(rt; holds(names.ok(), has_both_names));
+}
+
+fn has_both_names(path: &Vec<Key>) -> bool {
+    path.len() == 2 && path[0].get() == "a b" && path[1].get() == "c"
 }
 
 #[test]

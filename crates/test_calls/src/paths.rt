@@ -1,9 +1,9 @@
 //! Calls that only this library has, on documents whose texts before and after are written by hand.
 use crate::holding::is_text;
 use crate::spans::is_done;
+use example_tasks::paths::{set_string_at, string_at};
 use std::alloc::{AllocError, Global};
 use toml_edit::{DocumentMut, Item, Key, Mem, ParsePath, Value};
-use example_tasks::paths::{set_string_at, string_at};
 
 /// Returns the path that the text spells.
 pub fn path(alloc: Global, text: &str) -> Mem<Vec<Key>> {

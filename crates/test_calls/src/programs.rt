@@ -1,8 +1,6 @@
 //! Each program on a document, with the text that it has to leave.
 use crate::guide::done;
 use crate::holding::is_text;
-use std::alloc::{AllocError, Global};
-use toml_edit::{Document, DocumentMut, Mem, ParseFault};
 use example_tools::add_member::add_member;
 use example_tools::bump::bump;
 use example_tools::count_values::count_values;
@@ -10,6 +8,8 @@ use example_tools::lint::lint;
 use example_tools::merge::merge;
 use example_tools::migrate::migrate;
 use example_tools::sort_deps::sort_deps;
+use std::alloc::{AllocError, Global};
+use toml_edit::{Document, DocumentMut, Mem, ParseFault};
 
 /// Runs the migration of this name.
 fn migrates(alloc: Global, document: &mut DocumentMut, name: &str) -> bool {

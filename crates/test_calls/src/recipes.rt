@@ -3,8 +3,6 @@ use crate::guide::{array_mut, done};
 use crate::holding::is_text;
 use crate::paths::{path, puts};
 use crate::spans::is_done;
-use std::alloc::{AllocError, Global};
-use toml_edit::{Document, DocumentMut, FromStr, Mem, ParseFault, Table, Value};
 use example_tasks::comments::explain_key;
 use example_tasks::float::float_in;
 use example_tasks::headers::set_width;
@@ -14,6 +12,8 @@ use example_tasks::rename::rename;
 use example_tasks::sorting::sort_dependencies;
 use example_tasks::version::set_version;
 use example_tasks::visiting::lint;
+use std::alloc::{AllocError, Global};
+use toml_edit::{Document, DocumentMut, FromStr, Mem, ParseFault, Table, Value};
 
 fn drop_two(root: &mut Table) -> Mem<()> {
     match array_mut(root, "all") {

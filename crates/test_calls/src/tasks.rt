@@ -2,11 +2,6 @@
 use crate::guide::{array_mut, done};
 use crate::holding::is_text;
 use crate::streams::Short;
-use std::alloc::{AllocError, Global};
-use toml_edit::{
-    Array, DocumentMut, Entry, InlineEntry, InlineTable, Item, Mem, ParseFault, Table, Value,
-    Watched,
-};
 use example_calls::adding::{add_dotted, add_nested, describe, describe_inline, no_memory};
 use example_calls::dates::{float_of, set_date_time, utc, year_of};
 use example_calls::documents::write_to;
@@ -15,6 +10,11 @@ use example_calls::lists::{
     insert_or_push, move_value, put_formatted, remove_string, replace_element, replace_or_push,
 };
 use example_calls::spelling::{make_decimal, set_comment, set_spelled, spelling_of};
+use std::alloc::{AllocError, Global};
+use toml_edit::{
+    Array, DocumentMut, Entry, InlineEntry, InlineTable, Item, Mem, ParseFault, Table, Value,
+    Watched,
+};
 
 fn insert_utc(root: &mut Table) -> Mem<()> {
     let is_refused = utc(2023, 2, 29, 7, 30).is_none() && utc(2024, 2, 29, 24, 0).is_none();
