@@ -6,3 +6,4 @@ pub mod path_calls
 pub mod fitting
 pub mod fitting_inside
 pub mod headers
+pub mod means

@@ -4,6 +4,5 @@ pub mod InBlock
 pub mod Inserting
 pub mod Moving
 pub mod MovingLines
-pub mod Facts
 pub mod Meaning
 pub mod Inside

@@ -14,5 +14,6 @@ pub mod HeaderAdds
 pub mod Fitting
 pub mod FittingInside
 pub mod CallsFit
+pub mod Means
 -- Worked examples: nothing cites them.
 pub mod examples

@@ -3,6 +3,8 @@ use Rattle.std.specs.Prelude.{◌≡◌, ◌⊎◌, ℕ, true, false, List, [], 
 use Rattle.toml_edit_model.specs.Mode.{Mode}
 use Rattle.toml_edit_model.specs.Text.{Text, is_empty}
 use Rattle.toml_edit_model.specs.Paths.{Path, to_key}
+use Rattle.toml_edit_model.specs.Meaning.{SameFacts}
+use Rattle.toml_edit_model.specs.Shown.{inside_facts, is_shown, node_facts, shown_meaning}
 use Rattle.toml_edit_model.specs.Tree.{Key, TableFields, Node, table, Slots, SlotsAreWellMade, IsWellMade, Tree, is_value_node}
 use Rattle.toml_edit_model.specs.HeaderOrder.{Visit, visit_of}
 use Rattle.toml_edit_model.specs.Print.{lines_of}
@@ -13,11 +15,13 @@ use Rattle.toml_edit_model.specs.Slots.{Slot, keyed, lookup_slot}
 use Rattle.toml_edit_model.specs.Lists.{slot_list}
 use Rattle.toml_edit_laws.specs.Locality.{Turn, Leads, root_visit, edited, is_plain_value, has_block}
 use Rattle.toml_edit_laws.specs.EditLists.{Edit, replace, add, remove, remove_element, after, Applies}
-use Rattle.toml_edit_edit_laws.specs.Commands.{Answer, done, number_of, item_at, set_at, remove_at}
+use Rattle.toml_edit_edit_laws.specs.Commands.{Answer, done, refused, number_of, item_at, set_at, remove_at, remove_child}
 use Rattle.toml_edit_edit_laws.specs.KeyCalls.{move_at, rename_at}
-use Rattle.toml_edit_edit_laws.specs.CommandLaws.{AreSpelled, Goes, NamesTable, made_below}
+use Rattle.toml_edit_edit_laws.specs.CommandLaws.{AreSpelled, Goes, NamesTable, is_listing, made_below}
 use Rattle.toml_edit_edit_laws.specs.DottedAdds.{OneLineMore}
+use Rattle.toml_edit_edit_laws.specs.Means.{Loses, MeansWith, meant_at, shown_at}
 use Rattle.toml_edit_edit_laws.specs.Places.{place_of}
+use Rattle.toml_edit_edit_laws.specs.Renaming.{renamed_fact}
 use Rattle.toml_edit_edit_laws.specs.Staying.{StaysButAt}
 
 -- ---- calls
@@ -34,6 +38,15 @@ called (sets path v) t = set_at path v t
 called (removes path) t = remove_at path t
 called (renames path u) t = rename_at path u t
 called (moves path i) t = move_at path i t
+
+-- calls one after another, up to the first that refuses
+abbrev pub answer_and_then : {A B : Type 0} → (A → Answer B) → Answer A → Answer B
+answer_and_then f (done a) = f a
+answer_and_then f (refused r) = refused r
+
+abbrev pub all_called : List PathCall → Tree → Answer Tree
+all_called [] t = done t
+all_called (c ∷ cs) t = answer_and_then (all_called cs) (called c t)
 
 abbrev pub path_of_call : PathCall → List Text
 path_of_call (sets path v) = names path
@@ -58,12 +71,35 @@ paths_of_call (moves path i) = path ∷ []
 abbrev pub places_of_call : PathCall → Tree → List Path
 places_of_call c t = map (place_of t) (paths_of_call c)
 
--- each call is done on the tree that those before it left, at its places, and the last leaves the
--- second tree
+-- What a removal changes in the meaning. Of a slot, the facts go. Of an element, those of its array
+-- become those of what is left, or go with the last one of an array of tables.
+pub record RemovalMeans (path : List Text) (t u : Tree) : Type 0 where
+  pub slot : (front : List Text) (k : Text) (n : Node) → path ≡ front ++ (k ∷ [])
+      → item_at front t ≡ Some n → is_listing n ≡ false → Loses (meant_at t path) t u
+  pub element : (front : List Text) (x : Text) (n m : Node) → path ≡ front ++ (x ∷ [])
+      → shown_at front t ≡ Some n → is_listing n ≡ true → remove_child x n ≡ done m
+      → is_shown m ≡ true
+      → MeansWith (meant_at t front) (node_facts m (meant_at t front)) t u
+  pub last : (front : List Text) (x : Text) (n m : Node) → path ≡ front ++ (x ∷ [])
+      → item_at front t ≡ Some n → is_listing n ≡ true → remove_child x n ≡ done m
+      → is_shown m ≡ false → Loses (meant_at t front) t u
+
+-- what a call that is done changes in the meaning
+abbrev pub CallMeans : PathCall → Tree → Tree → Type 0
+CallMeans (sets path v) t u =
+    let p = meant_at t (names path) in MeansWith p (inside_facts v p) t u
+CallMeans (removes path) t u = RemovalMeans path t u
+CallMeans (renames path name) t u =
+    SameFacts (shown_meaning u) (map (renamed_fact (meant_at t path) name) (shown_meaning t))
+CallMeans (moves path i) t u = SameFacts (shown_meaning u) (shown_meaning t)
+
+-- each call is done on the tree that those before it left, at its places, and changes its meaning so;
+-- the last leaves the second tree
 abbrev pub AreDone : List PathCall → List (List Path) → Tree → Tree → Type 0
 AreDone [] [] t w = w ≡ t
 AreDone (c ∷ cs) (ps ∷ more) t w =
-    (u : Tree) × (called c t ≡ done u) × (ps ≡ places_of_call c t) × AreDone cs more u w
+    (u : Tree) × (called c t ≡ done u) × (ps ≡ places_of_call c t) × CallMeans c t u
+    × AreDone cs more u w
 AreDone _ _ t w = ⊥
 
 -- ---- which edit a call is
@@ -179,7 +215,7 @@ module _ (mode : Mode) where
 abbrev pub OneCallMore : Type 0
 OneCallMore =
     (cs : List PathCall) (more : List (List Path)) (t u w : Tree) (c : PathCall) (ps : List Path)
-    → AreDone cs more t u → called c u ≡ done w → ps ≡ places_of_call c u
+    → AreDone cs more t u → called c u ≡ done w → ps ≡ places_of_call c u → CallMeans c u w
     → AreDone (cs ++ (c ∷ [])) (more ++ (ps ∷ [])) t w
 
 -- ---- tables by their paths

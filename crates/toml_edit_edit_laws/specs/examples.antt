@@ -9,3 +9,4 @@ pub mod KeyCalls
 pub mod Headed
 pub mod Fitting
 pub mod CallsFit
+pub mod Means

@@ -10,6 +10,7 @@ ghost use Rattle.toml_edit_edit_laws.specs.DottedAdds.{AddedAfterLines};
 ghost use Rattle.toml_edit_edit_laws.specs.Fitting.{ScalarsFitAnywhere, StillFits, StillFitsAfterAll, StillFitsAfterLines};
 ghost use Rattle.toml_edit_edit_laws.specs.FittingInside.{HeldValuesFit, RemoveInsideFits, SetInsideFits};
 ghost use Rattle.toml_edit_edit_laws.specs.HeaderAdds.{SetAddsTable};
+ghost use Rattle.toml_edit_edit_laws.specs.Means.{AbsentMeans, AddMeans, HolderIsMeant, ItemAfterSet, MoveMeans, NamedPath, PrintedIsMeant, RemoveElementMeans, RemoveKeepsRest, RemoveLastMeans, RemoveMeans, RenameMeans, ReorderMeans, SetMeans, SortMeans, SortedReorders, ValueIsMeant, WellMadeAfterSet};
 ghost use Rattle.toml_edit_edit_laws.specs.PathEdits.{MoveEdits, OneCallMore, RemoveEdits, RenameEdits, RootIsNamed, SetAddsAfterLines, SetAddsUnder, SetReplaces, TablesAreNamed};
 ghost use Rattle.toml_edit_edit_laws.specs.Placing.{AbsentStays, InsertedAt, InsertedMeans, InsertedStands, InsertedStaysMade, MovedInside, MovedLine, MovedMeans, MovedOthers, MovedStands, MovedStaysMade, PlacedStays};
 ghost use Rattle.toml_edit_edit_laws.specs.Renaming.{Renamed, RenamedLine, RenamedMeans, RenamedOthers, RenamedStaysMade, RenameRefused};
@@ -197,4 +198,47 @@ pub fn command_paths()
     ensures ways { WaysHavePaths }
     ensures tables { (mode : Mode) → PathsHaveWays mode }
     ensures filled { (mode : Mode) → ReadHasNoPlaceholders mode }
+{}
+
+/// Says what calls by paths leave to be found, and what they change in the meaning of a tree.
+pub fn path_means()
+    // After a `set_at`, the value is at its path, and has the decor of what was there.
+    ensures found { ItemAfterSet }
+    // The tree stays well made.
+    ensures made { WellMadeAfterSet }
+
+    // After a `set_at`, the facts of the value are all that is at its path or below it.
+    ensures sets { SetMeans }
+    // Those of a new key are added.
+    ensures adds { AddMeans }
+    // A `rename_at` changes the name in each fact that is at the path or below it.
+    ensures renames { RenameMeans }
+    // The meaning stays after a `move_at`.
+    ensures moves { MoveMeans }
+    // After a `remove_at` of a slot, all facts at its path or below it are gone, and no others but
+    // those of tables above it that nothing is left in.
+    ensures removes { RemoveMeans }
+    // No others are gone where what held it is still shown.
+    ensures removes_only { RemoveKeepsRest }
+    // After that of an element, the facts of the array are those of what is left.
+    ensures removes_element { RemoveElementMeans }
+    // After that of the last element of an array of tables, they are gone.
+    ensures removes_last { RemoveLastMeans }
+    // The meaning stays where slots are in another order.
+    ensures reorders { ReorderMeans }
+    // So it does after a sort.
+    ensures sorts { SortMeans }
+    // The sort by names leaves the slots that there were.
+    ensures sorted { SortedReorders }
+
+    // A table that the walk enters has its facts at its own path.
+    ensures named { NamedPath }
+    // It is shown if its header is printed, or a line of it.
+    ensures printed { PrintedIsMeant }
+    // So are values, also inside values.
+    ensures values { ValueIsMeant }
+    // So is what holds what is shown.
+    ensures holders { HolderIsMeant }
+    // Where a path leads to nothing, there are no facts.
+    ensures absent { AbsentMeans }
 {}

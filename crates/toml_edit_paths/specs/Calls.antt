@@ -5,9 +5,9 @@ use Rattle.std.specs.Prelude.{◌≡◌, Bool, false, List, [], ◌∷◌, Optio
 use Rattle.toml_edit_model.specs.Keys.{new_key}
 use Rattle.toml_edit_model.specs.Slots.{Slot, lookup_slot}
 use Rattle.toml_edit_model.specs.Text.{Text}
-use Rattle.toml_edit_model.specs.Tree.{Node, Tree}
-use Rattle.toml_edit_edit_laws.specs.Commands.{Answer, done, mapped, present, second, and_then, item_below, element_of, change_slot}
-use Rattle.toml_edit_edit_laws.specs.Commands.{change_element, child_changed, root_item, with_slots}
+use Rattle.toml_edit_model.specs.Tree.{Node}
+use Rattle.toml_edit_edit_laws.specs.Commands.{Answer, done, present, second, and_then, item_below, element_of, change_slot, change_element}
+pub use Rattle.toml_edit_edit_laws.specs.Commands.{replaced_below, replaced_at}
 use Rattle.toml_edit_tree.specs.View.{item_view}
 use Rattle.toml_edit_tree.specs.declared.item.Item.{Item}
 
@@ -15,15 +15,6 @@ use Rattle.toml_edit_tree.specs.declared.item.Item.{Item}
 abbrev pub item_inside : List Text → Node → Option Node
 item_inside [] n = None
 item_inside (k ∷ path) n = item_below (k ∷ path) n
-
--- another item in place of the one at the path
-abbrev pub replaced_below : List Text → Node → Node → Answer Node
-replaced_below [] m n = done m
-replaced_below (k ∷ path) m n = child_changed false (new_key k) (replaced_below path m) n
-
--- the tree with it
-abbrev pub replaced_at : List Text → Node → Tree → Answer Tree
-replaced_at path m t = mapped (with_slots t) (replaced_below path m (root_item t))
 
 -- a closure that is called once on a `&mut Item`
 abbrev pub Change : Type 0 → Type 0 → Type 1

@@ -4,6 +4,7 @@ pub mod Changes
 pub mod Elements
 pub mod Faults
 pub mod Lines
+pub mod Tables
 -- Cited by private contracts.
 pub mod Items
 pub mod Setting

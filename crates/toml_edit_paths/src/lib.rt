@@ -15,7 +15,7 @@ mod take_line;
 pub use alter::change;
 pub use element::number_of;
 pub use fault::ChangeFault;
-pub use find::get;
+pub use find::{get, get_shown, get_through_tables};
 pub use keys::{move_to, rename, reset_keys};
 pub use put::{set, set_with_headers};
 pub use take::remove;

@@ -1,5 +1,5 @@
 -- What `get` finds after `set`, and what `remove` finds.
-use Rattle.std.proofs.Common.{◌≡◌, refl, sym, ◌∙◌, ap, subst, ℕ, Bool, true, false, List, [], ◌∷◌, ◌++◌, Option, Some, None}
+use Rattle.std.proofs.Common.{◌≡◌, refl, sym, ◌∙◌, ap, ℕ, Bool, true, false, List, [], ◌∷◌, ◌++◌, Option, Some, None}
 use Rattle.std.specs.Prelude.{if◌then◌else◌}
 use Rattle.std.specs.Fmt.{decimal}
 use Rattle.std.specs.Str.Parse.{digits_value}
@@ -7,21 +7,22 @@ use Rattle.std.proofs.lemmas.Fmt.{decimal_is_IsNumeral}
 use Rattle.toml_edit_model.specs.Mode.{plain}
 use Rattle.toml_edit_model.specs.Text.{Text, newline, same_text}
 use Rattle.toml_edit_model.specs.Syntax.{value_text}
-use Rattle.toml_edit_model.specs.Tree.{Decor, Key, Node, nothing, leaf, list, inline, table, tables, Items, Slots, no_slots, slot, is_value_node}
+use Rattle.toml_edit_model.specs.Tree.{Decor, Key, Node, nothing, leaf, list, inline, table, tables, Items, Slots, no_slots, slot, is_value_node, node_decor}
 use Rattle.toml_edit_model.specs.Print.{value_of}
 use Rattle.toml_edit_model.specs.Conversions.{new_inline, with_decor}
 use Rattle.toml_edit_model.specs.Keys.{cleared_key, names as names_of, new_key}
 use Rattle.toml_edit_model.specs.Slots.{Slot, keyed, with_item, lookup_slot, changed}
-use Rattle.toml_edit_model.specs.Lists.{slot_list, slots_from, item_list, items_from, is_item}
+use Rattle.toml_edit_model.specs.Lists.{slot_list, slots_from, item_list, items_from, is_item, only}
 use Rattle.toml_edit_model.specs.ArrayCalls.{written_at}
 use Rattle.toml_edit_model.specs.Shown.{is_table_node}
 use Rattle.toml_edit_laws.specs.Locality.{into_table, into_element}
 use Rattle.toml_edit_edit_laws.specs.Commands.{Refusal, no_such_path, Answer, done, refused, mapped, element_of, present, second, child}
 use Rattle.toml_edit_edit_laws.specs.Commands.{and_then, item_below, missing, change_slot, change_element, child_changed, set_here, set_below}
 use Rattle.toml_edit_edit_laws.specs.Commands.{drop_slot, drop_element, remove_child, remove_below, root_item, with_slots, shown_item, shown_or}
-use Rattle.toml_edit_edit_laws.specs.Commands.{get_text}
+use Rattle.toml_edit_edit_laws.specs.Commands.{item_at}
 use Rattle.toml_edit_edit_laws.specs.CommandLaws.{OneTextNames, DecimalsName, WaysHavePaths, GetAfterSet, RemoveFinds, RemovedWasThere}
 use Rattle.toml_edit_edit_laws.specs.CommandLaws.{RemoveRefuses}
+use Rattle.toml_edit_edit_laws.specs.Means.{in_place_of, ItemAfterSet}
 use Rattle.toml_edit_laws.proofs.common.Tests.{if-true, same_text-refl}
 use Rattle.toml_edit_laws.proofs.locality.Slots.{slot_list-from, item_list-from}
 use Rattle.toml_edit_edit_laws.proofs.commands.Setting.{was-mapped, done-is}
@@ -49,24 +50,41 @@ ways_have_paths (into_element k i ∷ way) h = (refl, decimals_name i h.0, ways_
 
 -- ---- get after set
 
+value-item : (n : Node) → is_value_node n ≡ true → is_item n ≡ true
+value-item (leaf s r d) h = refl
+value-item (list f xs) h = refl
+value-item (inline f ss) h = refl
+value-item (table f ss) h = refl
+value-item (tables e xs) h = refl
+value-item nothing h = absurd cc
+
+table-item : (n : Node) → is_table_node n ≡ true → is_item n ≡ true
+table-item (table f ss) h = refl
+table-item (leaf s r d) h = absurd cc
+table-item (list f xs) h = absurd cc
+table-item (inline f ss) h = absurd cc
+table-item (tables e xs) h = absurd cc
+table-item nothing h = absurd cc
+
 module _ (makes : Bool) (k : Key) (go : Node → Answer Node)
     (fills : (a b : Node) → go a ≡ done b → is_item b ≡ true)
     (keeps_value : (a b : Node) → go a ≡ done b → is_value_node a ≡ true → is_value_node b ≡ true)
     (keeps_table : (a b : Node) → go a ≡ done b → is_table_node a ≡ true → is_table_node b ≡ true) where
   -- what a segment leads to was changed
-  record WentTo (o : Option Node) : Type 0 where
+  record WentTo (o was : Option Node) : Type 0 where
     old : Node
     new : Node
     is : go old ≡ done new
     there : o ≡ Some new
+    held : was ≡ only is_item old
 
   slot-went : (ss : Slots) (o : Option (Slot Node)) (xs : List (Slot Node)) → lookup_slot k.name (slot_list ss) ≡ o
       → change_slot makes k go (slot_list ss) o ≡ done xs
-      → WentTo (present (lookup_slot k.name xs))
+      → WentTo (present (lookup_slot k.name xs)) (present o)
   slot-went ss None xs e h = by_makes makes h
     where
       by_makes : (b : Bool) → mapped (λ m. slot_list ss ++ (keyed (cleared_key k) m ∷ [])) (missing b (go nothing)) ≡ done xs
-          → WentTo (present (lookup_slot k.name xs))
+          → WentTo (present (lookup_slot k.name xs)) None
       by_makes false h = absurd cc
       by_makes true h =
           let m = was-mapped (λ m. slot_list ss ++ (keyed (cleared_key k) m ∷ [])) (go nothing) xs h in
@@ -76,6 +94,7 @@ module _ (makes : Bool) (k : Key) (go : Node → Answer Node)
             is = m.is;
             there = ap (λ ys. present (lookup_slot k.name ys)) m.gives ∙ ap present (slot-last k m.from (slot_list ss) e)
                 ∙ item-present (cleared_key k) m.from (fills nothing m.from m.is);
+            held = refl;
           }
   slot-went ss (Some s) xs e h =
       let m = was-mapped (λ m. changed k.name (with_item m) (slot_list ss)) (go s.item) xs h in
@@ -85,13 +104,15 @@ module _ (makes : Bool) (k : Key) (go : Node → Answer Node)
         is = m.is;
         there = ap (λ ys. present (lookup_slot k.name ys)) m.gives ∙ ap present (slot-same k.name m.from (slot_list ss) s e)
             ∙ item-present s.key m.from (fills s.item m.from m.is);
+        held = refl;
       }
 
   item-went : (is : Node → Bool) → ((a b : Node) → go a ≡ done b → is a ≡ true → is b ≡ true)
+      → ((a : Node) → is a ≡ true → is_item a ≡ true)
       → (xs : Items) (o : Option (ℕ × Node)) (ys : List Node)
-      → element_of is k.name (item_list xs) ≡ o → change_element go (item_list xs) o ≡ done ys → WentTo (second (element_of is k.name ys))
-  item-went is keeps xs None ys e h = absurd cc
-  item-went is keeps xs (Some y) ys e h =
+      → element_of is k.name (item_list xs) ≡ o → change_element go (item_list xs) o ≡ done ys → WentTo (second (element_of is k.name ys)) (second o)
+  item-went is keeps some xs None ys e h = absurd cc
+  item-went is keeps some xs (Some y) ys e h =
       let m = was-mapped (λ m. written_at y.0 m (item_list xs)) (go y.1) ys h in
       let r = named is k.name (item_list xs) y e in
       record {
@@ -101,9 +122,10 @@ module _ (makes : Bool) (k : Key) (go : Node → Answer Node)
         there = ap (λ zs. second (element_of is k.name zs)) m.gives
             ∙ ap second (names is k.name (written_at y.0 m.from (item_list xs)) y.0 m.from r.number
             (place-same y.0 (λ old. m.from) (item_list xs) y.1 r.item) (keeps y.1 m.from m.is r.kind));
+        held = sym (if-true (is_item y.1) (Some y.1) None (some y.1 r.kind));
       }
 
-  went : (n m : Node) → child_changed makes k go n ≡ done m → WentTo (child k.name m)
+  went : (n m : Node) → child_changed makes k go n ≡ done m → WentTo (child k.name m) (child k.name n)
   went (table f ss) m h =
       let b = was-mapped (λ xs. table f (slots_from xs)) (change_slot makes k go (slot_list ss) (lookup_slot k.name (slot_list ss))) m h in
       let w = slot-went ss (lookup_slot k.name (slot_list ss)) b.from refl b.is in
@@ -113,6 +135,7 @@ module _ (makes : Bool) (k : Key) (go : Node → Answer Node)
         is = w.is;
         there = ap (child k.name) b.gives
             ∙ ap (λ xs. present (lookup_slot k.name xs)) (slot_list-from b.from) ∙ w.there;
+        held = w.held;
       }
   went (inline f ss) m h =
       let b = was-mapped (λ xs. inline f (slots_from xs)) (change_slot makes k go (slot_list ss) (lookup_slot k.name (slot_list ss))) m h in
@@ -123,34 +146,37 @@ module _ (makes : Bool) (k : Key) (go : Node → Answer Node)
         is = w.is;
         there = ap (child k.name) b.gives
             ∙ ap (λ xs. present (lookup_slot k.name xs)) (slot_list-from b.from) ∙ w.there;
+        held = w.held;
       }
   went (list f xs) m h =
       let b = was-mapped (λ ns. list f (items_from ns)) (change_element go (item_list xs) (element_of is_value_node k.name (item_list xs))) m
       h in
-      let w = item-went is_value_node keeps_value xs (element_of is_value_node k.name (item_list xs)) b.from refl b.is in
+      let w = item-went is_value_node keeps_value value-item xs (element_of is_value_node k.name (item_list xs)) b.from refl b.is in
       record {
         old = w.old;
         new = w.new;
         is = w.is;
         there = ap (child k.name) b.gives
             ∙ ap (λ ys. second (element_of is_value_node k.name ys)) (item_list-from b.from) ∙ w.there;
+        held = w.held;
       }
   went (tables e xs) m h =
       let b = was-mapped (λ ns. tables e (items_from ns)) (change_element go (item_list xs) (element_of is_table_node k.name (item_list xs))) m
       h in
-      let w = item-went is_table_node keeps_table xs (element_of is_table_node k.name (item_list xs)) b.from refl b.is in
+      let w = item-went is_table_node keeps_table table-item xs (element_of is_table_node k.name (item_list xs)) b.from refl b.is in
       record {
         old = w.old;
         new = w.new;
         is = w.is;
         there = ap (child k.name) b.gives
             ∙ ap (λ ys. second (element_of is_table_node k.name ys)) (item_list-from b.from) ∙ w.there;
+        held = w.held;
       }
   went (leaf s r d) m h = absurd cc
   went nothing m h = by_makes makes h
     where
       by_makes : (b : Bool) → mapped (λ x. inline new_inline (slot (cleared_key k) x no_slots)) (missing b (go nothing)) ≡ done m
-          → WentTo (child k.name m)
+          → WentTo (child k.name m) None
       by_makes false h = absurd cc
       by_makes true h =
           let b = was-mapped (λ x. inline new_inline (slot (cleared_key k) x no_slots)) (go nothing) m h in
@@ -160,17 +186,10 @@ module _ (makes : Bool) (k : Key) (go : Node → Answer Node)
             is = b.is;
             there = ap (child k.name) b.gives ∙ ap present (if-true (same_text k.name k.name) (Some (keyed (cleared_key k) b.from)) None (same_text-refl k.name))
                 ∙ item-present (cleared_key k) b.from (fills nothing b.from b.is);
+            held = refl;
           }
 
 -- the item after `set` is a value where one was set, and never a placeholder
-value-item : (n : Node) → is_value_node n ≡ true → is_item n ≡ true
-value-item (leaf s r d) h = refl
-value-item (list f xs) h = refl
-value-item (inline f ss) h = refl
-value-item (table f ss) h = refl
-value-item (tables e xs) h = refl
-value-item nothing h = absurd cc
-
 decor-value : (d : Decor) (v : Node) → is_value_node v ≡ true → is_value_node (with_decor d v) ≡ true
 decor-value d (leaf s r e) h = refl
 decor-value d (list f xs) h = refl
@@ -179,42 +198,33 @@ decor-value d (table f ss) h = absurd cc
 decor-value d (tables e xs) h = absurd cc
 decor-value d nothing h = absurd cc
 
-abbrev IsShown : Node → Node → Type 0
-IsShown v n = shown_item n ≡ value_text (value_of plain v) ++ newline
+-- a value in the place of what was there is a value, and is shown as before
+placed-value : (o : Option Node) (v : Node) → is_value_node v ≡ true → is_value_node (in_place_of o v) ≡ true
+placed-value None v h = h
+placed-value (Some n) v h = decor-value (node_decor n) v h
 
-decor-shown : (d : Decor) (v : Node) → is_value_node v ≡ true → IsShown v (with_decor d v)
-decor-shown d (leaf s r e) h = refl
-decor-shown d (list f xs) h = refl
-decor-shown d (inline f ss) h = refl
-decor-shown d (table f ss) h = absurd cc
-decor-shown d (tables e xs) h = absurd cc
-decor-shown d nothing h = absurd cc
-
-value-shown : (v : Node) → is_value_node v ≡ true → IsShown v v
-value-shown (leaf s r e) h = refl
-value-shown (list f xs) h = refl
-value-shown (inline f ss) h = refl
-value-shown (table f ss) h = absurd cc
-value-shown (tables e xs) h = absurd cc
-value-shown nothing h = absurd cc
+placed-shown : (o : Option Node) (v : Node) → is_value_node v ≡ true → shown_item (in_place_of o v) ≡ value_text (value_of plain v) ++ newline
+placed-shown None (leaf s r e) h = refl
+placed-shown None (list f xs) h = refl
+placed-shown None (inline f ss) h = refl
+placed-shown (Some n) (leaf s r e) h = refl
+placed-shown (Some n) (list f xs) h = refl
+placed-shown (Some n) (inline f ss) h = refl
+placed-shown o (table f ss) h = absurd cc
+placed-shown o (tables e xs) h = absurd cc
+placed-shown o nothing h = absurd cc
 
 -- what stands where the path ends
-here-is : (v n m : Node) → is_value_node v ≡ true → set_here v n ≡ done m → (is_value_node m ≡ true) × IsShown v m
-here-is v nothing m is h = subst (λ x. (is_value_node x ≡ true) × IsShown v x) (done-is v m h) (is, value-shown v is)
-here-is v (table f ss) m is h = absurd cc
-here-is v (tables e xs) m is h = absurd cc
-here-is v (leaf s r d) m is h =
-    subst (λ x. (is_value_node x ≡ true) × IsShown v x) (done-is (with_decor d v) m h) (decor-value d v is, decor-shown d v is)
-here-is v (list f xs) m is h =
-    subst (λ x. (is_value_node x ≡ true) × IsShown v x) (done-is (with_decor f.decor v) m h) (
-      decor-value f.decor v is,
-      decor-shown f.decor v is,
-    )
-here-is v (inline f ss) m is h =
-    subst (λ x. (is_value_node x ≡ true) × IsShown v x) (done-is (with_decor f.decor v) m h) (
-      decor-value f.decor v is,
-      decor-shown f.decor v is,
-    )
+here-is : (v n m : Node) → set_here v n ≡ done m → m ≡ in_place_of (only is_item n) v
+here-is v nothing m h = sym (done-is v m h)
+here-is v (table f ss) m h = absurd cc
+here-is v (tables e xs) m h = absurd cc
+here-is v (leaf s r d) m h = sym (done-is (with_decor d v) m h)
+here-is v (list f xs) m h = sym (done-is (with_decor f.decor v) m h)
+here-is v (inline f ss) m h = sym (done-is (with_decor f.decor v) m h)
+
+here-value : (v n m : Node) → is_value_node v ≡ true → set_here v n ≡ done m → is_value_node m ≡ true
+here-value v n m is h = ap is_value_node (here-is v n m h) ∙ placed-value (only is_item n) v is
 
 here-no-table : (v n m : Node) → set_here v n ≡ done m → is_table_node n ≡ true → is_table_node m ≡ true
 here-no-table v nothing m h t = absurd cc
@@ -241,38 +251,56 @@ below-fills makes k go nothing m h =
     ap is_item (was-mapped (λ x. inline new_inline (slot (cleared_key k) x no_slots)) (missing makes (go nothing)) m h).gives
 
 set-fills : (v : Node) → is_value_node v ≡ true → (path : List Key) (n m : Node) → set_below v path n ≡ done m → is_item m ≡ true
-set-fills v is [] n m h = value-item m (here-is v n m is h).0
+set-fills v is [] n m h = value-item m (here-value v n m is h)
 set-fills v is (k ∷ path) n m h = below-fills true k (set_below v path) n m h
 
 set-value : (v : Node) → is_value_node v ≡ true → (path : List Key) (n m : Node) → set_below v path n ≡ done m → is_value_node n ≡ true
     → is_value_node m ≡ true
-set-value v is [] n m h x = (here-is v n m is h).0
+set-value v is [] n m h x = here-value v n m is h
 set-value v is (k ∷ path) n m h x = value-stays true k (set_below v path) n m h x
 
 set-table : (v : Node) (path : List Key) (n m : Node) → set_below v path n ≡ done m → is_table_node n ≡ true → is_table_node m ≡ true
 set-table v [] n m h x = here-no-table v n m h x
 set-table v (k ∷ path) n m h x = table-stays true k (set_below v path) n m h x
 
-record Shows (v : Node) (path : List Key) (m : Node) : Type 0 where
-  item : Node
-  there : item_below (names_of path) m ≡ Some item
-  shown : IsShown v item
+-- what a path leads to, where it is no placeholder
+abbrev found_at : List Text → Node → Option Node
+found_at [] n = only is_item n
+found_at (k ∷ path) n = item_below (k ∷ path) n
 
-set-shows : (v : Node) → is_value_node v ≡ true → (path : List Key) (n m : Node) → set_below v path n ≡ done m → Shows v path m
-set-shows v is [] n m h = record { item = m; there = refl; shown = (here-is v n m is h).1 }
-set-shows v is (k ∷ path) n m h =
+found-below : (path : List Text) (n : Node) → and_then (item_below path) (only is_item n) ≡ found_at path n
+found-below [] nothing = refl
+found-below (k ∷ path) nothing = refl
+found-below [] (leaf s r d) = refl
+found-below (k ∷ path) (leaf s r d) = refl
+found-below [] (list f xs) = refl
+found-below (k ∷ path) (list f xs) = refl
+found-below [] (inline f ss) = refl
+found-below (k ∷ path) (inline f ss) = refl
+found-below [] (table f ss) = refl
+found-below (k ∷ path) (table f ss) = refl
+found-below [] (tables e xs) = refl
+found-below (k ∷ path) (tables e xs) = refl
+
+set-item : (v : Node) → is_value_node v ≡ true → (path : List Key) (n m : Node) → set_below v path n ≡ done m
+    → item_below (names_of path) m ≡ Some (in_place_of (found_at (names_of path) n) v)
+set-item v is [] n m h = ap Some (here-is v n m h)
+set-item v is (k ∷ path) n m h =
     let w = went true k (set_below v path) (set-fills v is path) (set-value v is path) (set-table v path) n m h in
-    let r = set-shows v is path w.old w.new w.is in
-    record { item = r.item; there = ap (and_then (item_below (names_of path))) w.there ∙ r.there; shown = r.shown }
+    ap (and_then (item_below (names_of path))) w.there ∙ set-item v is path w.old w.new w.is
+    ∙ ap (λ o. Some (in_place_of o v)) (sym (ap (and_then (item_below (names_of path))) w.held ∙ found-below (names_of path) w.old))
+
+pub item_after_set : ItemAfterSet
+item_after_set t u [] v is h = absurd cc
+item_after_set t u (k ∷ path) v is h =
+    let m = was-mapped (with_slots t) (set_below v (k ∷ path) (root_item t)) u h in
+    ap (item_at (names_of (k ∷ path))) m.gives
+    ∙ ap (item_below (names_of (k ∷ path))) (sym (root-down true k (set_below v path) t m.from m.is))
+    ∙ set-item v is (k ∷ path) (root_item t) m.from m.is
 
 pub get_after_set : GetAfterSet
-get_after_set t u [] v is h = absurd cc
-get_after_set t u (k ∷ path) v is h =
-    let m = was-mapped (with_slots t) (set_below v (k ∷ path) (root_item t)) u h in
-    let r = set-shows v is (k ∷ path) (root_item t) m.from m.is in
-    ap (get_text (names_of (k ∷ path))) m.gives
-    ∙ ap (λ n. shown_or (item_below (names_of (k ∷ path)) n)) (sym (root-down true k (set_below v path) t m.from m.is))
-    ∙ ap shown_or r.there ∙ ap (λ x. done x) r.shown
+get_after_set t u path v is h =
+    ap shown_or (item_after_set t u path v is h) ∙ ap done (placed-shown (item_at (names_of path) t) v is)
 
 -- ---- what remove finds
 

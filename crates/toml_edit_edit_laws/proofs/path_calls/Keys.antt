@@ -128,7 +128,7 @@ module _ (g : Text → List (Slot Node) → Answer (List (Slot Node))) (f : Text
   last-there k (leaf s r d) m h = absurd cc
   last-there k nothing m h = absurd cc
 
-  was-there : (path : List Text) (n m : Node) → key_changed g path n ≡ done m → (x : Node) × (item_below path n ≡ Some x)
+  pub was-there : (path : List Text) (n m : Node) → key_changed g path n ≡ done m → (x : Node) × (item_below path n ≡ Some x)
   was-there [] n m h = absurd cc
   was-there (k ∷ []) n m h = let r = last-there k n m h in (r.0, ap (and_then (item_below [])) r.1)
   was-there (k ∷ l ∷ path) n m h =
@@ -318,18 +318,18 @@ own-place t path s made =
 
 -- ---- moving
 
-moved-gives : (i : ℕ) (k : Text) (xs ys : List (Slot Node)) → moved_where i k xs ≡ done ys → ys ≡ moved_slot k i xs
+pub moved-gives : (i : ℕ) (k : Text) (xs ys : List (Slot Node)) → moved_where i k xs ≡ done ys → ys ≡ moved_slot k i xs
 moved-gives i k xs ys h = by_item (present (lookup_slot k xs)) h
   where
     by_item : (o : Option Node) → where_present o (done (moved_slot k i xs)) ≡ done ys → ys ≡ moved_slot k i xs
     by_item None h = absurd cc
     by_item (Some n) h = sym (done-is (moved_slot k i xs) ys h)
 
-present-so : (o : Option Node) (a : Answer (List (Slot Node))) (ys : List (Slot Node)) → where_present o a ≡ done ys → (n : Node) × (o ≡ Some n)
+pub present-so : (o : Option Node) (a : Answer (List (Slot Node))) (ys : List (Slot Node)) → where_present o a ≡ done ys → (n : Node) × (o ≡ Some n)
 present-so None a ys h = absurd cc
 present-so (Some n) a ys h = (n, refl)
 
-moved-keeps : (i : ℕ) (k : Text) (ss : Slots) (ys : List (Slot Node)) → SlotsAreWellMade ss → moved_where i k (slot_list ss) ≡ done ys
+pub moved-keeps : (i : ℕ) (k : Text) (ss : Slots) (ys : List (Slot Node)) → SlotsAreWellMade ss → moved_where i k (slot_list ss) ≡ done ys
     → SlotsAreWellMade (slots_from ys)
 moved-keeps i k ss ys w h =
     let n = present-so (present (lookup_slot k (slot_list ss))) (done (moved_slot k i (slot_list ss))) ys h in
@@ -343,7 +343,7 @@ moved-keeps i k ss ys w h =
 
 -- ---- renaming
 
-renamed-gives : (u k : Text) (xs ys : List (Slot Node)) → renamed_where u k xs ≡ done ys → (is_free k u xs ≡ true) × (ys ≡ renamed_slot k u xs)
+pub renamed-gives : (u k : Text) (xs ys : List (Slot Node)) → renamed_where u k xs ≡ done ys → (is_free k u xs ≡ true) × (ys ≡ renamed_slot k u xs)
 renamed-gives u k xs ys h = by_item (present (lookup_slot k xs)) h
   where
     by_test : (b : Bool) → is_free k u xs ≡ b → (if b then done (renamed_slot k u xs) else refused taken) ≡ done ys
@@ -356,12 +356,12 @@ renamed-gives u k xs ys h = by_item (present (lookup_slot k xs)) h
     by_item None h = absurd cc
     by_item (Some n) h = by_test (is_free k u xs) refl h
 
-renamed-there : (u k : Text) (xs ys : List (Slot Node)) → renamed_where u k xs ≡ done ys → (n : Node)
+pub renamed-there : (u k : Text) (xs ys : List (Slot Node)) → renamed_where u k xs ≡ done ys → (n : Node)
     × (present (lookup_slot k xs) ≡ Some n)
 renamed-there u k xs ys h =
     present-so (present (lookup_slot k xs)) (if is_free k u xs then done (renamed_slot k u xs) else refused taken) ys h
 
-renamed-keeps : (u k : Text) (ss : Slots) (ys : List (Slot Node)) → SlotsAreWellMade ss → renamed_where u k (slot_list ss) ≡ done ys
+pub renamed-keeps : (u k : Text) (ss : Slots) (ys : List (Slot Node)) → SlotsAreWellMade ss → renamed_where u k (slot_list ss) ≡ done ys
     → SlotsAreWellMade (slots_from ys)
 renamed-keeps u k ss ys w h =
     let r = renamed-gives u k (slot_list ss) ys h in

@@ -1,15 +1,15 @@
 -- Paths to the root, and to a table under a named one.
-use Rattle.std.proofs.Common.{◌≡◌, refl, ◌∙◌, ap, subst, true, false, List, [], ◌∷◌, ◌++◌, Some}
+use Rattle.std.proofs.Common.{◌≡◌, refl, sym, ◌∙◌, ap, subst, true, false, List, [], ◌∷◌, ◌++◌, Some}
 use Rattle.toml_edit_model.specs.Text.{Text}
-use Rattle.toml_edit_model.specs.Paths.{to_key, to_element}
-use Rattle.toml_edit_model.specs.Tree.{Key, TableFields, table, Slots}
+use Rattle.toml_edit_model.specs.Paths.{Path, to_key, to_element}
+use Rattle.toml_edit_model.specs.Tree.{Key, TableFields, table, Slots, Tree}
 use Rattle.toml_edit_model.specs.HeaderOrder.{Visit, visit_of}
 use Rattle.toml_edit_model.specs.Slots.{keyed, lookup_slot}
 use Rattle.toml_edit_model.specs.Lists.{slot_list}
 use Rattle.toml_edit_laws.specs.Locality.{Turn, into_table, into_element, Leads, root_visit, element_count}
 use Rattle.toml_edit_edit_laws.specs.CommandLaws.{Goes}
 use Rattle.toml_edit_edit_laws.specs.Commands.{done}
-use Rattle.toml_edit_edit_laws.specs.PathEdits.{called, places_of_call, OneCallMore, RootIsNamed, TablesAreNamed}
+use Rattle.toml_edit_edit_laws.specs.PathEdits.{AreDone, CallMeans, PathCall, all_called, answer_and_then, called, places_of_call, OneCallMore, RootIsNamed, TablesAreNamed}
 
 pub root_is_named : RootIsNamed
 root_is_named t = record { way = []; goes = tt; leads = refl }
@@ -60,8 +60,17 @@ tables_are_named t path v k l f ss n there =
 -- ---- calls after calls
 
 pub one_call_more : OneCallMore
-one_call_more [] [] t u w c p is is_done at = (w, subst (λ x. called c x ≡ done w) is is_done, at ∙ ap (places_of_call c) is, refl)
-one_call_more [] (q ∷ ps) t u w c p is is_done at = absurd is
-one_call_more (d ∷ cs) [] t u w c p is is_done at = absurd is
-one_call_more (d ∷ cs) (q ∷ ps) t u w c p (m, first, here, rest) is_done at =
-    (m, first, here, one_call_more cs ps m u w c p rest is_done at)
+one_call_more [] [] t u w c p is is_done at means =
+    (w, subst (λ x. called c x ≡ done w) is is_done, at ∙ ap (places_of_call c) is, subst (λ x. CallMeans c x w) is means, refl)
+one_call_more [] (q ∷ ps) t u w c p is is_done at means = absurd is
+one_call_more (d ∷ cs) [] t u w c p is is_done at means = absurd is
+one_call_more (d ∷ cs) (q ∷ ps) t u w c p (m, first, here, meant, rest) is_done at means =
+    (m, first, here, meant, one_call_more cs ps m u w c p rest is_done at means)
+
+-- what is done call by call, the fold does
+pub all_are_called : (cs : List PathCall) (pss : List (List Path)) (t w : Tree) → AreDone cs pss t w → all_called cs t ≡ done w
+all_are_called [] [] t w is = ap done (sym is)
+all_are_called [] (ps ∷ pss) t w is = absurd is
+all_are_called (c ∷ cs) [] t w is = absurd is
+all_are_called (c ∷ cs) (ps ∷ pss) t w (u, first, here, means, rest) =
+    ap (answer_and_then (all_called cs)) first ∙ all_are_called cs pss u w rest

@@ -52,7 +52,7 @@ module _ (G : Path → Path) where
   if-goes false xs ys us vs e d = d
 
   mutual
-    inside-goes : (n : Node) (p q : Path) → Goes p q → inside_facts n q ≡ map (on_path G) (inside_facts n p)
+    pub inside-goes : (n : Node) (p q : Path) → Goes p q → inside_facts n q ≡ map (on_path G) (inside_facts n p)
     inside-goes (leaf s r d) p q h = ap (λ z. z ∷ []) (ap (λ z. fact z (a_scalar s)) (goes-there p q h))
     inside-goes (list f xs) p q h = ap (λ z. fact z an_array ∷ list_facts xs q 0) (goes-there p q h)
         ∙ ap (λ zs. fact (G p) an_array ∷ zs) (list-goes xs p q 0 h)

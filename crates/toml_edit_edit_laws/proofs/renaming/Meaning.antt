@@ -18,7 +18,7 @@ use Rattle.toml_edit_edit_laws.proofs.renaming.Names.{renamed-is}
 use Rattle.toml_edit_edit_laws.specs.Renaming.{renamed_path, RenamedMeans}
 
 -- a path that isn't at or below the renamed one stays
-renamed-stays : (p : Path) (u : Text) (q : Path) → is_front p q ≡ false → renamed_path p u q ≡ q
+pub renamed-stays : (p : Path) (u : Text) (q : Path) → is_front p q ≡ false → renamed_path p u q ≡ q
 renamed-stays [] u q h = refl
 renamed-stays (s ∷ []) u [] h = refl
 renamed-stays (s ∷ t ∷ p) u [] h = refl
@@ -35,7 +35,7 @@ renamed-stays (s ∷ t ∷ p) u (r ∷ q) h = by_test (same_step s r) h (renamed
     by_test false e ih = refl
 
 -- one at or below it has the new name
-renamed-goes : (p : Path) (k u : Text) (r : Path) → renamed_path (to_key p k) u (to_key p k ++ r) ≡ to_key p u ++ r
+pub renamed-goes : (p : Path) (k u : Text) (r : Path) → renamed_path (to_key p k) u (to_key p k ++ r) ≡ to_key p u ++ r
 renamed-goes [] k u r = if-true (same_step (at_key k) (at_key k)) (at_key u ∷ r) (at_key k ∷ r) (same_step-refl (at_key k))
 renamed-goes (s ∷ []) k u r =
     if-true (same_step s s) (s ∷ renamed_path (at_key k ∷ []) u (at_key k ∷ r)) (s ∷ at_key k ∷ r) (same_step-refl s)

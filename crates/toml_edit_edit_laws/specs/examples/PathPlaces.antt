@@ -9,17 +9,17 @@ use Rattle.toml_edit_model.specs.Tree.{Node, Tree, item, no_items, no_slots, own
 use Rattle.toml_edit_model.specs.examples.Parts.{plain_int}
 use Rattle.toml_edit_edit_laws.specs.Places.{place_of}
 
-abbrev a : Text
+abbrev pub a : Text
 a = codes "a"
 
-abbrev b : Text
+abbrev pub b : Text
 b = codes "b"
 
 -- `[[a]]` twice, each with the line `b = 1`
-abbrev element : Node
+abbrev pub element : Node
 element = table new_table (slot (new_key b) (plain_int 1) no_slots)
 
-abbrev two : Tree
+abbrev pub two : Tree
 two = record {
   root = new_table;
   slots = slot (new_key a) (tables None (item element (item element no_items))) no_slots;

@@ -1,0 +1,13 @@
+pub mod Changes
+pub mod Facts
+pub mod Parts
+pub mod Along
+pub mod Outside
+pub mod Absent
+pub mod Setting
+pub mod Holders
+pub mod Keys
+pub mod Removing
+pub mod Reordering
+pub mod Meant
+pub mod Calls
