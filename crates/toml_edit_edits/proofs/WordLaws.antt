@@ -14,11 +14,11 @@ use Rattle.toml_edit_edits.specs.Said.{IsNoKeys, IsNoName, IsWrong, SaysEdit, Sa
 use Rattle.toml_edit_edits.specs.declared.edit.Edit.{Edit}
 use Rattle.toml_edit_edits.specs.declared.fault.WordFault.{WordFault}
 use Rattle.toml_edit_edits.specs.declared.fault.WordFault.TheVariants as faults
-use Rattle.toml_edit_edits.specs.declared.verb.PathVerb.TheVariants.{Remove, Sort}
-use Rattle.toml_edit_edits.specs.declared.verb.TextVerb.TheVariants.{String as OfString, Comment}
-use Rattle.toml_edit_edits.specs.declared.verb.ValueVerb.TheVariants.{Set, Header, Append, Insert, Take, Table}
-use Rattle.toml_edit_edits.specs.declared.verb.Verb.{Verb}
-use Rattle.toml_edit_edits.specs.declared.verb.Verb.TheVariants.{Path, Value, Text as OfText, Rename, Move}
+use Rattle.toml_edit_edits.specs.declared.edit.PathVerb.TheVariants.{Remove, Sort}
+use Rattle.toml_edit_edits.specs.declared.edit.TextVerb.TheVariants.{String as OfString, Comment}
+use Rattle.toml_edit_edits.specs.declared.edit.ValueVerb.TheVariants.{Set, Header, Append, Insert, Take, Table}
+use Rattle.toml_edit_edits.specs.declared.edit.Verb.{Verb}
+use Rattle.toml_edit_edits.specs.declared.edit.Verb.TheVariants.{Path, Value, Text as OfText, Rename, Move}
 
 -- ---- paths and names
 

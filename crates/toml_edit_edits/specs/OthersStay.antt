@@ -20,7 +20,6 @@ use Rattle.toml_edit_edit_laws.specs.HeaderAdds.{OneTableMore, last_table}
 use Rattle.toml_edit_edit_laws.specs.PathEdits.{with_last}
 use Rattle.toml_edit_edit_laws.specs.Staying.{StaysButAt}
 use Rattle.toml_edit_tree.specs.View.{value_view}
-use Rattle.toml_edit.specs.Edited.{IsPlainValue}
 use Rattle.toml_edit_edits.specs.Effects.{changed_below, headed}
 use Rattle.toml_edit_edits.specs.Elements.{inserted, is_tables_at}
 use Rattle.toml_edit_edits.specs.FirstTable.{tabled}
@@ -69,6 +68,10 @@ AreSorts [] t = Unit {0}
 AreSorts (e ∷ es) t = IsSort e t × ((u : Tree) → effect e t ≡ Ok u → AreSorts es u)
 
 -- ---- which edits leave a steady tree
+
+-- a well-made value that is no dotted inline table
+abbrev pub IsPlainValue : Node → Type 0
+IsPlainValue n = (is_plain_value n ≡ true) × IsWellMade n
 
 -- ---- tables of the pairs of inline tables
 

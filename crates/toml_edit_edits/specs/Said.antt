@@ -13,14 +13,14 @@ use Rattle.toml_edit_edits.specs.declared.edit.Edit.TheVariants as edits
 use Rattle.toml_edit_edits.specs.declared.fault.WordFault.{WordFault}
 use Rattle.toml_edit_edits.specs.declared.fault.WordFault.TheVariants as faults
 use Rattle.toml_edit_edits.specs.declared.fault.WordsFault.{WordsFault}
-use Rattle.toml_edit_edits.specs.declared.verb.PathVerb.{PathVerb}
-use Rattle.toml_edit_edits.specs.declared.verb.PathVerb.TheVariants.{Remove, Sort}
-use Rattle.toml_edit_edits.specs.declared.verb.TextVerb.{TextVerb}
-use Rattle.toml_edit_edits.specs.declared.verb.TextVerb.TheVariants.{String, Comment}
-use Rattle.toml_edit_edits.specs.declared.verb.ValueVerb.{ValueVerb}
-use Rattle.toml_edit_edits.specs.declared.verb.ValueVerb.TheVariants.{Set, Header, Append, Insert, Take, Table}
-use Rattle.toml_edit_edits.specs.declared.verb.Verb.{Verb}
-use Rattle.toml_edit_edits.specs.declared.verb.Verb.TheVariants.{Path, Value, Text as OfText, Rename, Move}
+use Rattle.toml_edit_edits.specs.declared.edit.PathVerb.{PathVerb}
+use Rattle.toml_edit_edits.specs.declared.edit.PathVerb.TheVariants.{Remove, Sort}
+use Rattle.toml_edit_edits.specs.declared.edit.TextVerb.{TextVerb}
+use Rattle.toml_edit_edits.specs.declared.edit.TextVerb.TheVariants.{String, Comment}
+use Rattle.toml_edit_edits.specs.declared.edit.ValueVerb.{ValueVerb}
+use Rattle.toml_edit_edits.specs.declared.edit.ValueVerb.TheVariants.{Set, Header, Append, Insert, Take, Table}
+use Rattle.toml_edit_edits.specs.declared.edit.Verb.{Verb}
+use Rattle.toml_edit_edits.specs.declared.edit.Verb.TheVariants.{Path, Value, Text as OfText, Rename, Move}
 
 -- ---- the names of edits, and how many words follow them
 

@@ -1,7 +1,7 @@
 //! Why an edit is refused, and why words are none.
 ghost use Rattle.std.specs.Prelude.{◌≡◌};
 
-use crate::verb::Verb;
+use crate::edit::Verb;
 use std::alloc::AllocError;
 use toml_edit::{ChangeFault, CommentFault, NoMemory, TomlError};
 

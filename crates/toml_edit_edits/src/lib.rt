@@ -15,12 +15,10 @@ mod read_edit;
 mod removes;
 mod same;
 mod script;
-mod verb;
 
-pub use edit::Edit;
+pub use edit::{Edit, PathVerb, TextVerb, VERBS, ValueVerb, Verb};
 pub use fault::{EditFault, ScriptFault, WordFault, WordsFault};
 pub use keys::comment_text;
 pub use read_edit::{edits_of, keys_of, next_edit};
 pub use same::same_value;
 pub use script::{apply, apply_edit};
-pub use verb::{PathVerb, TextVerb, VERBS, ValueVerb, Verb};

@@ -7,12 +7,11 @@ ghost use Rattle.toml_edit_parser.specs.Options.{version_of};
 ghost use Rattle.toml_edit_tree.specs.View.{value_view};
 ghost use Rattle.toml_edit_words.specs.Spelled.{SpellsValue};
 ghost use Rattle.toml_edit_edits.specs.Said.{IsNoKeys, IsNoName, IsWrong, SaysEdit, SaysEdits, SpellsKeys, SpellsName, StopsEdit, StopsEdits, StopsOperands, Takes, name_of, operands, path_name, text_name, value_name};
-ghost use Rattle.toml_edit_edits.specs.declared.verb.Verb.TheVariants as verbs;
+ghost use Rattle.toml_edit_edits.specs.declared.edit.Verb.TheVariants as verbs;
 
-use crate::edit::Edit;
+use crate::edit::{Edit, PathVerb, TextVerb, ValueVerb, Verb};
 use crate::fault::{WordFault, WordsFault};
 use crate::keys::comment_text;
-use crate::verb::{PathVerb, TextVerb, ValueVerb, Verb};
 use std::alloc::Global;
 use toml_edit::{Key, ParseFault, ParseOptions, Value};
 use toml_edit_paths::reset_keys;

@@ -9,9 +9,9 @@ use Rattle.toml_edit_edits.specs.Said.{SaysEdit, StopsEdit, name_of}
 use Rattle.toml_edit_edits.specs.declared.edit.Edit.{Edit}
 use Rattle.toml_edit_edits.specs.declared.fault.WordFault.{WordFault}
 use Rattle.toml_edit_edits.specs.declared.fault.WordFault.TheVariants.{Memory}
-use Rattle.toml_edit_edits.specs.declared.verb.PathVerb.TheVariants.{Sort}
-use Rattle.toml_edit_edits.specs.declared.verb.Verb.{Verb}
-use Rattle.toml_edit_edits.specs.declared.verb.Verb.TheVariants.{Path, Text as OfText}
+use Rattle.toml_edit_edits.specs.declared.edit.PathVerb.TheVariants.{Sort}
+use Rattle.toml_edit_edits.specs.declared.edit.Verb.{Verb}
+use Rattle.toml_edit_edits.specs.declared.edit.Verb.TheVariants.{Path, Text as OfText}
 
 -- the quote that is open behind a byte, and whether the next byte is escaped
 abbrev pub quoting : Option ℕ → Bool → ℕ → Option ℕ × Bool

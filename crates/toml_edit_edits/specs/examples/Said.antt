@@ -8,8 +8,8 @@ use Rattle.toml_edit_model.specs.Version.{v1_1}
 use Rattle.toml_edit_edits.specs.Said.{SaysEdit, StopsEdit}
 use Rattle.toml_edit_edits.specs.declared.edit.Edit.TheVariants as edits
 use Rattle.toml_edit_edits.specs.declared.fault.WordFault.TheVariants as faults
-use Rattle.toml_edit_edits.specs.declared.verb.ValueVerb.TheVariants.{Set}
-use Rattle.toml_edit_edits.specs.declared.verb.Verb.TheVariants.{Value}
+use Rattle.toml_edit_edits.specs.declared.edit.ValueVerb.TheVariants.{Set}
+use Rattle.toml_edit_edits.specs.declared.edit.Verb.TheVariants.{Value}
 
 -- the empty path is that of the root
 root_is_sorted : (path : Vec Key Global) → path.items ≡ [] → SaysEdit v1_1 (codes "sort" ∷ [] ∷ []) (edits.Sort path)

@@ -3,7 +3,7 @@ use Rattle.std.proofs.Common.{◌∷◌, [], refl, take}
 use Rattle.std.proofs.lemmas.Result.{IfErr-weaker}
 use Rattle.toml_edit_parser.specs.Options.{version_of}
 use Rattle.toml_edit_edits.specs.Said.{IsWrong, StopsOperands, operands}
-use Rattle.toml_edit_edits.specs.declared.verb.Verb.TheVariants as verbs
+use Rattle.toml_edit_edits.specs.declared.edit.Verb.TheVariants as verbs
 use Rattle.toml_edit_edits.proofs.WordLaws.{lone, pair, taken, word_at, wrong-front}
 use Rattle.toml_edit_edits.proofs.read_edit.edit_of.Goals as goal
 

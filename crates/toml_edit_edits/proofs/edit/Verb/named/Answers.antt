@@ -2,7 +2,7 @@
 use Rattle.std.proofs.Common.{◌≤◌, arith, sym}
 use Rattle.std.proofs.lemmas.Grind.{common_steps}
 use Rattle.toml_edit_edits.proofs.WordLaws.{no-verb, none-named}
-use Rattle.toml_edit_edits.proofs.verb.Verb.named.Goals as goal
+use Rattle.toml_edit_edits.proofs.edit.Verb.named.Goals as goal
 
 pub returns-clause-none : goal.returns-clause-none
 returns-clause-none c =
