@@ -5,12 +5,13 @@
 
 Libraries that the gate has proved on this machine are put into `out/rlib` of their crates, if the kit keeps them; else those that are there
 are taken. Of crates below that are not proved the contracts are taken: in a copy of their sources, in `out/stubs`, the proof of each function
-is a hole. The flags are those of `rattle check`; FUNCTION is a path, as `document::DocumentMut::set_at`, a module or a type. What is checked
-is kept in `out/early`. Without `--only` the functions of the copies count, too, which takes long.
+is a hole; the first line names these crates. The flags are those of `rattle check`; FUNCTION is a path, as `document::DocumentMut::set_at`, a
+module or a type. What is checked is kept in `out/early`. Without `--only` the functions of the copies count, too, which takes long.
 
 It proves nothing for the gate. Its last line says how many functions of the crate were read and names those that are not proved over these
 contracts; it ends with status 1 if there is one, or if an answer was refused.
 """
+import fcntl
 import functools
 import glob
 import importlib.machinery
@@ -168,13 +169,18 @@ def main():
         print(__doc__)
         return 0 if sys.argv[1:] == ["--help"] else 2
     os.chdir(TOP)
-    crate, had = below(sys.argv[1])
-    if crate is None:
-        print("no crate is named %s" % sys.argv[1])
-        return 2
-    os.makedirs(crate.folder + "/out/early", exist_ok=True)
+    with open(__file__, encoding="utf-8") as this:
+        # Two at once would place the same libraries and write the same copies.
+        fcntl.flock(this, fcntl.LOCK_EX)
+        crate, had = below(sys.argv[1])
+        if crate is None:
+            print("no crate is named %s" % sys.argv[1])
+            return 2
+        os.makedirs(crate.folder + "/out/early", exist_ok=True)
+        words = [*command(crate, had), "--allow-holes", *sys.argv[2:]]
+    if read_anew := [each.name for each in crate.below() if each.name not in had]:
+        print("early: %s: no library is kept, so their sources are read, which takes long" % ", ".join(read_anew), flush=True)
     read, errors = {}, 0
-    words = [*command(crate, had), "--allow-holes", *sys.argv[2:]]
     with subprocess.Popen(words, cwd=crate.folder, stdout=subprocess.PIPE, stderr=subprocess.STDOUT, text=True) as check:
         for line in check.stdout:
             print(line, end="", flush=True)
