@@ -321,7 +321,7 @@ class Check:
 
     def edit_words(self):
         """Where users read the words of edits, they are those of the code, in its order and with what each takes."""
-        code = read(TOP + "/crates/toml_edit_edits/src/verb.rt")
+        code = read(TOP + "/crates/toml_edit_edits/src/edit.rt")
         names = dict(re.findall(r'(Verb::[\w:()]+) => "([a-z]+)"', code))
         operands = dict(re.findall(r'Verb::(\w+)(?:\(_\))? => "(PATH[A-Z ]*)"', code))
         verbs = re.findall(r"^    (Verb::[\w:()]+),$", code, re.M)

@@ -1,14 +1,14 @@
 //! Editing the text of a document by paths, and saying what stays.
-ghost use Rattle.std.specs.Prelude.{[], ◌∷◌, IfOk, IsTrue, OnOk, string_bytes};
-ghost use Rattle.toml_edit.specs.DocumentView.{tree_owned};
-ghost use Rattle.toml_edit.specs.Edited.{EditsBy, IsEditedText, MayBePut};
+ghost use Rattle.std.specs.Prelude.{[], ◌∷◌, IfOk, OnOk, string_bytes};
+ghost use Rattle.toml_edit.specs.Edited.{EditsBy, IsEditedText};
 ghost use Rattle.toml_edit.specs.edits.PathEdits.{removes, sets};
 ghost use Rattle.toml_edit.specs.model.Keys.{names, new_key};
+ghost use Rattle.toml_edit.specs.model.Tree.{Tree};
 ghost use Rattle.example_calls.specs.Values.{flag_node, string_node, version_path};
 
 use crate::fault::EditFault;
 use std::alloc::Global;
-use toml_edit::laws::{edited_prints, path_edits};
+use toml_edit::laws::edited_prints;
 use toml_edit::{DocumentMut, Key, Value};
 
 /// Replaces the version of a package, and returns the text in its normal form: all other statements
@@ -18,8 +18,8 @@ use toml_edit::{DocumentMut, Key, Value};
 ///
 /// As [`set_two`].
 pub fn set_version(alloc: Global, text: &str, version: &str) -> Result<String, EditFault>
-    ensures { IfOk result (λ s. ∥ IsEditedText text.now
-        (sets version_path (string_node version.now) ∷ []) (string_bytes s) ∥₁) }
+    ensures { IfOk result (λ s. ∥ ((tree : Tree) × IsEditedText text.now tree
+        (sets version_path (string_node version.now) ∷ []) (string_bytes s)) ∥₁) }
 {
     edited_prints();
     let mut document = DocumentMut::from_str(alloc, text)?;
@@ -31,12 +31,12 @@ pub fn set_version(alloc: Global, text: &str, version: &str) -> Result<String, E
     Ok(document.print(alloc)?)
 }
 
-/// Replaces two strings, and returns the text in its normal form: all other statements are as they
+/// Replaces two values by strings, and returns the text in its normal form: all other statements are as they
 /// were.
 ///
 /// # Errors
 ///
-/// [`EditFault::Toml`] if the text is refused, [`EditFault::Missing`] if there is no string at a
+/// [`EditFault::Toml`] if the text is refused, [`EditFault::Missing`] if there is no value at a
 /// path, and [`EditFault::Memory`] if out of memory.
 pub fn set_two(
     alloc: Global,
@@ -46,9 +46,9 @@ pub fn set_two(
     second: &[Key],
     two: &str,
 ) -> Result<String, EditFault>
-    ensures { IfOk result (λ s. ∥ IsEditedText text.now
+    ensures { IfOk result (λ s. ∥ ((tree : Tree) × IsEditedText text.now tree
         (sets first.now (string_node one.now) ∷ sets second.now (string_node two.now) ∷ [])
-        (string_bytes s) ∥₁) }
+        (string_bytes s)) ∥₁) }
 {
     edited_prints();
     let mut document = DocumentMut::from_str(alloc, text)?;
@@ -72,9 +72,9 @@ pub fn release(
     flag: &str,
     gone: &[Key],
 ) -> Result<String, EditFault>
-    ensures { IfOk result (λ s. ∥ IsEditedText text.now
+    ensures { IfOk result (λ s. ∥ ((tree : Tree) × IsEditedText text.now tree
         (sets version.now (string_node value.now) ∷ sets (new_key flag.now ∷ []) flag_node
-        ∷ removes (names gone.now) ∷ []) (string_bytes s) ∥₁) }
+        ∷ removes (names gone.now) ∷ []) (string_bytes s)) ∥₁) }
 {
     edited_prints();
     let mut document = DocumentMut::from_str(alloc, text)?;
@@ -84,7 +84,7 @@ pub fn release(
     Ok(document.print(alloc)?)
 }
 
-/// Replaces the string at a path.
+/// Replaces the value at a path by a string.
 fn replace(
     alloc: Global,
     document: &mut DocumentMut,
@@ -94,21 +94,8 @@ fn replace(
     ensures { OnOk result
         (EditsBy (sets path.now (string_node text.now)) document.old document.new) }
 {
-    if !has_string(document, path) {
-        return Err(EditFault::Missing);
-    }
-    document.set_at(path, Value::string(alloc, text)?)?;
+    document.replace_at(path, Value::string(alloc, text)?)?;
     Ok(())
-}
-
-/// Returns whether there is a string at a path.
-fn has_string(document: &DocumentMut, path: &[Key]) -> bool
-    ensures { IsTrue result → MayBePut (tree_owned document.now) path.now }
-{
-    match document.get_at(path) {
-        Some(item) => item.is_str(),
-        None => false,
-    }
 }
 
 /// Adds `true` under a new key of the root.
@@ -116,11 +103,13 @@ fn add_flag(alloc: Global, document: &mut DocumentMut, name: &str) -> Result<(),
     ensures { OnOk result
         (EditsBy (sets (new_key name.now ∷ []) flag_node) document.old document.new) }
 {
-    path_edits();
-    if document.as_table().key(name).is_some() {
+    let path = [Key::from_text(alloc, name)?];
+    if document.get_at(&path).is_some() {
         return Err(EditFault::Present);
     }
-    let path = [Key::from_text(alloc, name)?];
+    if !document.may_put(&path) {
+        return Err(EditFault::Missing);
+    }
     document.set_at(&path, Value::from(true))?;
     Ok(())
 }

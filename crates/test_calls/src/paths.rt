@@ -3,7 +3,7 @@ use crate::holding::is_text;
 use crate::spans::is_done;
 use example_tasks::paths::{set_string_at, string_at};
 use std::alloc::{AllocError, Global};
-use toml_edit::{DocumentMut, Item, Key, Mem, ParsePath, Value};
+use toml_edit::{ChangeFault, DocumentMut, Item, Key, Mem, ParsePath, Value};
 
 /// Returns the path that the text spells.
 pub fn path(alloc: Global, text: &str) -> Mem<Vec<Key>> {
@@ -52,6 +52,50 @@ fn sets_and_removes_at_paths(rt: HostRuntime) {
     match DocumentMut::from_str(rt.alloc(), BINARIES) {
         Ok(mut document) => {
             assert!(rt; sets_strings(rt.alloc(), &mut document));
+            assert!(rt; is_text(document.print(rt.alloc()), wanted));
+        }
+        Err(_) => assert!(rt; false),
+    }
+}
+
+/// Returns `true` if a value may be put at the path.
+fn may_put(alloc: Global, document: &DocumentMut, at: &str) -> Mem<bool> {
+    Ok(document.may_put(&path(alloc, at)?))
+}
+
+/// Returns the fault of a value that replaces what is at the path, if it is refused.
+fn replaces(alloc: Global, document: &mut DocumentMut, at: &str) -> Mem<Option<ChangeFault>> {
+    Ok(document.replace_at(&path(alloc, at)?, Value::from(2)).err())
+}
+
+const LAYERS: &str = "a = { b.c = 1, d = [1] } # a\n[e]\nf.g = 1\n[h.i]\n[[j]]\n[[j]]\nk = 1\n";
+
+#[test]
+fn tells_where_values_may_be_put(rt: HostRuntime) {
+    match DocumentMut::from_str(rt.alloc(), LAYERS) {
+        Ok(document) => {
+            for at in "a a.d a.d.0 a.b.c new e.new e.f.new h.i.new j.0.new".split(' ') {
+                assert!(rt; is_done(may_put(rt.alloc(), &document, at)));
+            }
+            for at in "a.b a.new a.d.1 e h.new j j.0 j.2.new new.new".split(' ') {
+                assert!(rt; matches!(may_put(rt.alloc(), &document, at), Ok(false)));
+            }
+        }
+        Err(_) => assert!(rt; false),
+    }
+}
+
+#[test]
+fn replaces_values_alone(rt: HostRuntime) {
+    let wanted = "a = { b.c = 1, d = [2] } # a\n[e]\nf.g = 1\n[h.i]\n[[j]]\n[[j]]\nk = 2\n";
+    match DocumentMut::from_str(rt.alloc(), LAYERS) {
+        Ok(mut document) => {
+            assert!(rt; matches!(replaces(rt.alloc(), &mut document, "a.d.0"), Ok(None)));
+            assert!(rt; matches!(replaces(rt.alloc(), &mut document, "j.1.k"), Ok(None)));
+            let missing = replaces(rt.alloc(), &mut document, "e.new");
+            assert!(rt; matches!(missing, Ok(Some(ChangeFault::NoSuchPath))));
+            let dotted = replaces(rt.alloc(), &mut document, "a.b");
+            assert!(rt; matches!(dotted, Ok(Some(ChangeFault::WrongKind))));
             assert!(rt; is_text(document.print(rt.alloc()), wanted));
         }
         Err(_) => assert!(rt; false),

@@ -1,5 +1,5 @@
 -- `set_at_with_headers` does what `set_at` does where no table is missing.
-use Rattle.std.proofs.Common.{◌≡◌, refl, sym, ◌∙◌, ap, subst, true, List, [], ◌∷◌, ◌++◌, Some}
+use Rattle.std.proofs.Common.{◌≡◌, refl, sym, ◌∙◌, ap, subst, false, true, List, [], ◌∷◌, ◌++◌, Some}
 use Rattle.toml_edit_model.specs.Keys.{names}
 use Rattle.toml_edit_model.specs.Lists.{slot_list, slots_from, item_list, items_from}
 use Rattle.toml_edit_model.specs.ArrayCalls.{written_at}
@@ -14,6 +14,7 @@ use Rattle.toml_edit_edit_laws.proofs.commands.Finding.{some-and, some-second}
 use Rattle.toml_edit_edit_laws.proofs.commands.Going.{item-along}
 use Rattle.toml_edit_edit_laws.proofs.commands.Keeping.{present-is}
 use Rattle.toml_edit_edit_laws.specs.Headed.{set_at_with_headers, set_headed_below}
+use Rattle.toml_edit_edit_laws.proofs.means.Meant.{shown-there}
 use Rattle.toml_edit.specs.Edited.{MayBePut, at_value, in_block, after_lines}
 
 -- two changes that do the same to the item that a key leads to
@@ -85,7 +86,8 @@ module _ (t : Tree) (v : Node) where
       ∙ sym (ap (λ q. mapped (with_slots t) (set_below v q (root_item t))) is)
 
   pub headers-not-made : (path : List Key) → MayBePut t path → set_at_with_headers path v t ≡ set_at path v t
-  headers-not-made path (at_value old there value) = ap (mapped (with_slots t)) (same-there v path (root_item t) old there)
+  headers-not-made path (at_value old there value) =
+      ap (mapped (with_slots t)) (same-there v path (root_item t) old (shown-there (names path) false (root_item t) old there))
   headers-not-made path (in_block front k w is spelled named new has) =
       above path front k is w.fields w.slots (item-along named.way (names front) (root_visit t) w named.goes named.leads)
   headers-not-made path (after_lines front k w is spelled named new some) =

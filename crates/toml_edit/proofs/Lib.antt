@@ -14,6 +14,8 @@ pub mod PlainReads
 pub mod TailLaws
 pub mod HoldLaws
 pub mod AtLaws
+pub mod SetMade
 pub mod EditedLaws
 pub mod HeadedLaws
+pub mod PutLaws
 pub mod LinesParsed

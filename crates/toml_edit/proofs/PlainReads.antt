@@ -7,7 +7,7 @@ use Rattle.toml_edit_model.specs.Syntax.{Document}
 use Rattle.toml_edit_model.specs.Text.{Text}
 use Rattle.toml_edit_model.specs.Tree.{Tree}
 use Rattle.toml_edit_model.specs.Version.{Version, v1_1}
-use Rattle.toml_edit.specs.Documents.{IsOwnedReading, IsOwnedReadingIn, IsOwnedReadingWith, IsReading, IsReadingIn, IsReadingWith, opens}
+use Rattle.toml_edit.specs.Documents.{IsOwnedReadingIn, IsReading, IsReadingIn, IsReadingWith, opens}
 
 -- what two clauses say of a result together
 pub of-both : {A E : Type 0} (r : Result A E) (P Q R : A → Type 0) → ((x : A) → P x → Q x → R x) → IfOk r P → IfOk r Q → IfOk r R
@@ -23,14 +23,13 @@ module _ (mode : Mode) (is : mode ≡ plain) (version : Version) (t : Text) (x :
   pub plain-end : IsReadingIn mode version t x is_open → is_open ≡ false
   plain-end h = h.open_end ∙ ap (λ m. opens m h.reading.document) is
 
-  pub plain-owned : IsOwnedReadingIn mode version t x is_open → IsOwnedReading t x
-  plain-owned h = subst (λ m. IsOwnedReadingWith m t x) is h.reading
-
-  pub plain-owned-end : IsOwnedReadingIn mode version t x is_open → is_open ≡ false
-  plain-owned-end h = h.open_end ∙ ap (λ m. opens m h.reading.document) is
-
 -- ---- the version
 
 pub latest-accepts : (version : Version) (t : Text) (d : Document) → version ≡ v1_1 → AcceptedAs t d → AcceptedIn version t d
 unfolding is_accepted
 latest-accepts version t d is h = subst (λ v. AcceptedIn v t d) (sym is) h
+
+pub plain-owned : (mode : Mode) (version : Version) → mode ≡ plain → version ≡ v1_1 → (t : Text) (x : Tree) (is_open : Bool)
+    → IsOwnedReadingIn mode version t x is_open → IsOwnedReadingIn plain v1_1 t x is_open
+plain-owned mode version is latest t x is_open h =
+    subst (λ m. IsOwnedReadingIn m v1_1 t x is_open) is (subst (λ v. IsOwnedReadingIn mode v t x is_open) latest h)

@@ -424,6 +424,7 @@ impl DocumentMut {
     ghost use Rattle.toml_edit_fits.specs.MisfitViews.{misfit_view};
     ghost use Rattle.toml_edit_model.specs.Tree.{SlotsAreWellMade};
     ghost use Rattle.toml_edit_model.specs.Mode as model;
+    ghost use Rattle.toml_edit_model.specs.Version.{v1_1};
     ghost use Rattle.toml_edit_model.specs.Syntax.{Document as Cut};
     ghost use Rattle.toml_edit_model.specs.Accepted.{AcceptedAs, AcceptedIn};
     ghost use Rattle.std.specs.Borrow.{sem};
@@ -431,7 +432,7 @@ impl DocumentMut {
     ghost use Rattle.toml_edit.specs.DocumentLending.{LendsRoot};
     ghost use Rattle.toml_edit.specs.DocumentView.{IsPlain, IsPrintedAs, mode_owned, open_owned, print_of, tree_owned};
     ghost use Rattle.toml_edit.specs.Edited.{IsEditedFrom};
-    ghost use Rattle.toml_edit.specs.Documents.{IsOwnedReading, IsOwnedReadingIn, IsRefusal, IsRefusalIn, MeansWhatIsShown, new_tree};
+    ghost use Rattle.toml_edit.specs.Documents.{IsOwnedReadingIn, IsRefusal, IsRefusalIn, MeansWhatIsShown, new_tree};
     ghost use Rattle.toml_edit_parser.specs.Options.{mode_of, version_of};
     ghost use Rattle.toml_edit_edit_laws.specs.Commands.{root_item};
     ghost use Rattle.toml_edit_tree.specs.Held.{held_left};
@@ -471,9 +472,10 @@ impl DocumentMut {
     ///
     /// From `report` of the crate `example_calls`.
     pub fn from_str(alloc: Global, text: &str) -> Result<DocumentMut, ParseFault>
-        ensures accepted { IfOk result (λ m. IsOwnedReading text.now (tree_owned m)) }
+        ensures accepted { IfOk result
+            (λ m. IsOwnedReadingIn model.plain v1_1 text.now (tree_owned m) (open_owned m)) }
         ensures plain { IfOk result (λ m. IsPlain m) }
-        ensures edits { IfOk result (λ m. IsEditedFrom text.now [] m) }
+        ensures edits { IfOk result (λ m. IsEditedFrom text.now (tree_owned m) [] m) }
         // An accepted text is never refused.
         ensures every { (d : Cut) → AcceptedAs text.now d
             → IsOk result ⊎ IsErrOf result ParseFault.Memory }

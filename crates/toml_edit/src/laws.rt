@@ -8,8 +8,8 @@ ghost use Rattle.toml_edit.specs.Edited.{EditedPrints};
 ghost use Rattle.toml_edit.specs.LinesReparse.{ArraysAreParsed, InsertedIsOwnParse, ParsedAnywhere, ParsedAsOne, RemovedIsOwnParse};
 
 pub use toml_edit_edit_laws::{
-    added_after_lines, calls_still_fit, commented, inserted, moved, others_stay, path_edits,
-    renamed, still_fits,
+    added_after_lines, calls_still_fit, command_paths, command_removes, command_sets, commented,
+    inserted, moved, others_stay, path_edits, path_means, renamed, still_fits,
 };
 pub use toml_edit_fits::broken;
 pub use toml_edit_laws::{

@@ -1,18 +1,22 @@
 //! Access to items by paths of keys.
-ghost use Rattle.std.specs.Prelude.{◌≡◌, IfErr, IfOk, IsTrue, OnOk, option_map};
+ghost use Rattle.std.specs.Prelude.{◌≡◌, ◌↔◌, IfErr, IfOk, IsTrue, OnOk, option_map};
 ghost use Rattle.toml_edit_edit_laws.specs.Commands.{item_at, remove_at, root_item, set_at};
-ghost use Rattle.toml_edit_tree.specs.View.{item_view, value_view};
+ghost use Rattle.toml_edit_tree.specs.View.{fields_view, item_view, table_slots, value_view};
 ghost use Rattle.toml_edit_paths.specs.Calls.{ChangesFound, TakesFound, item_inside, replaced_at};
 ghost use Rattle.toml_edit_paths.specs.Changes.{Changes, Moves, Renames};
 ghost use Rattle.toml_edit_edit_laws.specs.Headed.{set_at_with_headers};
 ghost use Rattle.toml_edit_paths.specs.Lines.{remove_line_at};
 ghost use Rattle.toml_edit_paths.specs.declared.fault.ChangeFault.TheVariants.{NoSuchPath};
 ghost use Rattle.toml_edit.specs.DocumentView.{IsPrintedAs, tree_owned};
-ghost use Rattle.toml_edit.specs.Edited.{AddsTable, EditsBy, IsPlainValue, MayBePut};
+ghost use Rattle.toml_edit.specs.Edited.{AddsTable, EditsBy, IsPlainValue, MayBePut, replace_at, takes_key, takes_line};
+ghost use Rattle.toml_edit_laws.specs.Locality.{is_plain_value};
 ghost use Rattle.toml_edit_edit_laws.specs.KeyCalls.{move_at, rename_at};
+ghost use Rattle.toml_edit_edit_laws.specs.Means.{shown_at};
 ghost use Rattle.toml_edit_edit_laws.specs.PathEdits.{moves, removes, renames, sets};
 ghost use Rattle.toml_edit_slots.specs.declared.slots.rearrange.Renamed.TheVariants.{Done};
 ghost use Rattle.toml_edit_model.specs.Keys.{names};
+ghost use Rattle.toml_edit_model.specs.Spelling.{SpellsKey};
+ghost use Rattle.toml_edit_model.specs.Tree.{HasTrueSpelling};
 
 use super::DocumentMut;
 use toml_edit_edit_laws::{calls_still_fit, others_stay, path_edits};
@@ -20,7 +24,7 @@ use toml_edit_key::Key;
 use toml_edit_paths::ChangeFault;
 use toml_edit_repr::Mem;
 use toml_edit_slots::Renamed;
-use toml_edit_tree::{Item, Value};
+use toml_edit_tree::{Item, Table, Value, table_has_lines};
 
 /// # Paths
 ///
@@ -59,7 +63,7 @@ impl DocumentMut {
             (tree_owned self.old) (tree_owned self.new) result }
         ensures printed { IsPrintedAs self.new self.old }
         // At most one statement changes or is added where the value may be put.
-        ensures edits { OnOk result (IsPlainValue (value_view value)
+        ensures edits { OnOk result (IsPlainValue (value_view value) (tree_owned self.new)
             → MayBePut (tree_owned self.old) path.now
             → EditsBy (sets path.now (value_view value)) self.old self.new) }
     {
@@ -92,7 +96,7 @@ impl DocumentMut {
             (tree_owned self.old) (tree_owned self.new) result }
         ensures printed { IsPrintedAs self.new self.old }
         // Where no table is missing, it is the edit that `set_at` is.
-        ensures edits { OnOk result (IsPlainValue (value_view value)
+        ensures edits { OnOk result (IsPlainValue (value_view value) (tree_owned self.new)
             → MayBePut (tree_owned self.old) path.now
             → EditsBy (sets path.now (value_view value)) self.old self.new) }
         // Where one is, a header and the line of the value are added, and all other statements stay.
@@ -104,6 +108,65 @@ impl DocumentMut {
         path_edits();
         let alloc = self.as_table().slots.allocator();
         toml_edit_paths::set_with_headers(alloc, self.as_table_mut(), path, value)
+    }
+
+    /// Replaces the value at `path`, whose decor stays, and makes no keys. Only the statement with the
+    /// path changes.
+    ///
+    /// # Errors
+    ///
+    /// Fails with [`ChangeFault::NoSuchPath`] if nothing is at the path, or only in an array of tables
+    /// inside a value, which is not printed; with [`ChangeFault::WrongKind`] for a table, an array of
+    /// tables or a dotted inline table there; and with [`ChangeFault::Memory`] if out of memory. The
+    /// document is unchanged then.
+    pub fn replace_at(&mut self, path: &[Key], value: Value) -> Result<(), ChangeFault>
+        ensures changes { Changes
+            (replace_at path.now (value_view value) (tree_owned self.old))
+            (tree_owned self.old) (tree_owned self.new) result }
+        ensures printed { IsPrintedAs self.new self.old }
+        ensures edits { OnOk result (IsPlainValue (value_view value) (tree_owned self.new)
+            → EditsBy (sets path.now (value_view value)) self.old self.new) }
+    {
+        match self.is_plain_at(path) {
+            Some(true) => self.set_at(path, value),
+            Some(false) => {
+                drop(value);
+                Err(ChangeFault::WrongKind)
+            }
+            None => {
+                drop(value);
+                Err(ChangeFault::NoSuchPath)
+            }
+        }
+    }
+
+    /// Returns `true` if [`set_at`](Self::set_at) at `path` changes or adds one statement.
+    ///
+    /// A value is there that is shown, so in no array of tables inside another value, and is no dotted
+    /// inline table; or the last key is missing in the root, in a table whose header is printed, or in
+    /// one that has lines, as a dotted table has.
+    pub fn may_put(&self, path: &[Key]) -> bool
+        ensures { IsTrue result ↔ MayBePut (tree_owned self.now) path.now }
+    {
+        match self.is_plain_at(path) {
+            Some(is_plain) => is_plain,
+            None => match path.split_last() {
+                Some((key, above)) => takes_key(self.as_item(), above, key),
+                None => false,
+            },
+        }
+    }
+
+    /// Returns whether the item at `path` is a value, but no dotted inline table, or `None` if there
+    /// is none that is shown.
+    fn is_plain_at(&self, path: &[Key]) -> Option<bool>
+        ensures { result ≡ option_map is_plain_value
+            (shown_at (names path.now) (tree_owned self.now)) }
+    {
+        match toml_edit_paths::get_shown(self.as_item(), path) {
+            Some(item) => Some(is_plain(item)),
+            None => None,
+        }
     }
 
     /// Calls the closure on the item at `path`, and returns its result, or `None` if there is no
@@ -212,4 +275,37 @@ impl DocumentMut {
     {
         toml_edit_paths::remove_line(self.as_table_mut(), path)
     }
+}
+
+/// Returns `true` if the item is a value, but no dotted inline table.
+fn is_plain(item: &Item) -> bool
+    ensures { result ≡ is_plain_value (item_view item.now) }
+{
+    match item.as_inline_table() {
+        Some(table) => !table.is_dotted(),
+        None => item.is_value(),
+    }
+}
+
+/// Returns `true` if the key is missing in the table at the path below the root, and the table can
+/// have one line more.
+fn takes_key(root: &Item, above: &[Key], key: &Key) -> bool
+    ensures takes { result ≡ takes_key key.now.name (names above.now) (item_view root.now) }
+    ensures spelled { ∥ HasTrueSpelling (SpellsKey key.now.name) key.now.spelling ∥₁ }
+{
+    let name = key.get();
+    match toml_edit_paths::get_through_tables(root, above) {
+        Some((Item::Table(table), is_element)) => {
+            table.key(name).is_none() && takes_line(table, above.is_empty(), is_element)
+        }
+        _ => false,
+    }
+}
+
+/// Returns `true` if the table can have one line more: it has lines, or a header, or is the root.
+fn takes_line(table: &Table, is_root: bool, is_element: bool) -> bool
+    ensures { result ≡ takes_line is_root is_element (fields_view table.now)
+        (table_slots table.now) }
+{
+    is_root || table_has_lines(table) || !table.is_dotted() && (is_element || !table.is_implicit())
 }

@@ -18,7 +18,7 @@ returns-in_err-document-clause-fails c =
 pub returns-then-not-replace_in_document-clause-fails : goal.returns-then-not-replace_in_document-clause-fails
 returns-then-not-replace_in_document-clause-fails c = (
   tree_owned c.in_ok-document.document,
-  c.in_ok-document.ensures.accepted,
+  c.in_ok-document.ensures.accepted.reading,
   none-of _ (sym c.replace_in_document.ensures.found ∙ c.if-not-replace_in_document.true),
 )
 
@@ -30,5 +30,5 @@ returns-clause-set c =
     let sets = subst (λ (n : Node). SetsInTree c.args.name.now c.args.key.now n (tree_owned d) (tree_owned e)) c.in_ok-value.ensures set in
     let out = string_bytes c.in_ok-print_fitting.field-0 in
     ∣ told c.args.text.now c.args.name.now c.args.key.now c.args.value.now out (tree_owned d) (tree_owned e) c.edits.ensures
-    c.replaced.ensures.frame c.still_fits.ensures.edits c.still_fits.ensures.scalars c.in_ok-document.ensures.accepted sets
+    c.replaced.ensures.frame c.still_fits.ensures.edits c.still_fits.ensures.scalars c.in_ok-document.ensures.accepted.reading sets
     (printed-plain d e out c.in_ok-document.ensures.plain c.replace_in_document.ensures.printed c.in_ok-print_fitting.ensures) ∣₁

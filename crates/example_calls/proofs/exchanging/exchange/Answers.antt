@@ -21,7 +21,7 @@ returns-in_err-exchange_in_document-clause-fails c =
     let r = c.from_residual-in_err-exchange_in_document in
     passed-on r.result c.in_err-exchange_in_document.field-0.0 (ExchangeFails c.args.text.now c.args.table.now c.args.key.now) r.ensures.1
     (stays-exchange c.args.text.now c.args.table.now c.args.key.now (tree_owned c.in_ok-document.document)
-    c.in_ok-document.ensures.accepted c.in_err-exchange_in_document.field-0.0 c.in_err-exchange_in_document.ensures.fails)
+    c.in_ok-document.ensures.accepted.reading c.in_err-exchange_in_document.field-0.0 c.in_err-exchange_in_document.ensures.fails)
 
 pub returns-clause-exchanged : goal.returns-clause-exchanged
 returns-clause-exchanged c =
@@ -32,5 +32,5 @@ returns-clause-exchanged c =
     c.in_ok-exchange_in_document.ensures.tree in
     let out = string_bytes c.in_ok-print_fitting.field-0 in
     ∣ told c.args.text.now c.args.table.now c.args.key.now c.args.value.now out (tree_owned d) (tree_owned e) c.edits.ensures
-    c.still_fits.ensures.edits c.still_fits.ensures.scalars c.in_ok-document.ensures.accepted sets
+    c.still_fits.ensures.edits c.still_fits.ensures.scalars c.in_ok-document.ensures.accepted.reading sets
     (printed-plain d e out c.in_ok-document.ensures.plain c.exchange_in_document.ensures.printed c.in_ok-print_fitting.ensures) ∣₁

@@ -10,6 +10,6 @@ pub returns-clause-normal : goal.returns-clause-normal
 returns-clause-normal c =
     let d = c.in_ok-document.document in
     normalized c.args.text.now (string_bytes c.in_ok-print.field-0) (tree_owned d) c.normal.ensures.texts c.cut.ensures.one
-    c.in_ok-document.ensures.accepted
+    c.in_ok-document.ensures.accepted.reading
     (c.in_ok-print.ensures ∙ ap (λ (m : Mode). print_in m (open_owned d) (tree_owned d)) c.in_ok-document.ensures.plain.0
     ∙ ap (λ (b : Bool). print_in plain b (tree_owned d)) c.in_ok-document.ensures.plain.1)

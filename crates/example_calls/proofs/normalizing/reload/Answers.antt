@@ -23,4 +23,4 @@ returns-clause-reloaded c =
     ∥∥₁_map c.in_ok-fits.ensures.made
     (λ made. reloaded (mode_owned d) (open_owned d) (tree_owned d) (tree_owned c.in_ok-reloaded.reloaded) c.as_str.result.now
     (c.in_ok-fits.ensures.fits.0 c.if-not-branch.false) made (c.as_str.ensures.value ∙ back.0, back.1)
-    c.in_ok-reloaded.ensures.accepted)
+    c.in_ok-reloaded.ensures.accepted.reading)

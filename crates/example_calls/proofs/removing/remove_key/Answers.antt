@@ -19,7 +19,7 @@ returns-in_err-document-clause-fails c =
 pub returns-then-not-remove_in_document-clause-fails : goal.returns-then-not-remove_in_document-clause-fails
 returns-then-not-remove_in_document-clause-fails c = (
   tree_owned c.in_ok-document.document,
-  c.in_ok-document.ensures.accepted,
+  c.in_ok-document.ensures.accepted.reading,
   none-of _ (sym c.remove_in_document.ensures.found ∙ c.if-not-remove_in_document.true),
 )
 
@@ -30,6 +30,6 @@ returns-clause-removed c =
     let there = sym c.remove_in_document.ensures.found ∙ c.if-not-remove_in_document.false in
     let out = string_bytes c.in_ok-print_fitting.field-0 in
     ∣ told c.args.text.now c.args.name.now out (tree_owned d) c.removed.ensures.slot c.removed.ensures.slot_made c.still_fits.ensures.edit
-    c.in_ok-document.ensures.accepted there
+    c.in_ok-document.ensures.accepted.reading there
     (subst (λ (t : Tree). ReadsBack plain false t out) c.remove_in_document.ensures.tree
     (printed-plain d e out c.in_ok-document.ensures.plain c.remove_in_document.ensures.printed c.in_ok-print_fitting.ensures)) ∣₁

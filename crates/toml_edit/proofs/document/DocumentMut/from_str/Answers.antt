@@ -7,13 +7,14 @@ use Rattle.toml_edit.specs.DocumentView.{open_owned, tree_owned}
 use Rattle.toml_edit.specs.Documents.{IsRefusalIn}
 use Rattle.toml_edit_parser.specs.Options.{mode_of, version_of}
 use Rattle.toml_edit.proofs.EditedLaws.{read-so}
-use Rattle.toml_edit.proofs.PlainReads.{latest-accepts, of-both, plain-owned, plain-owned-end}
+use Rattle.toml_edit.proofs.PlainReads.{latest-accepts, of-both, plain-owned}
 use Rattle.toml_edit.proofs.document.DocumentMut.from_str.Goals as goal
 
 pub returns-clause-accepted : goal.returns-clause-accepted
 returns-clause-accepted c =
     IfOk-weaker c.from_str_with.result _ _
-    (λ m h. plain-owned (mode_of c.new.result) c.new.ensures.mode (version_of c.new.result) c.args.text.now (tree_owned m) (open_owned m) h)
+    (λ m h. plain-owned (mode_of c.new.result) (version_of c.new.result) c.new.ensures.mode c.new.ensures.version c.args.text.now (tree_owned m)
+    (open_owned m) h)
     c.from_str_with.ensures.accepted
 
 pub returns-clause-plain : goal.returns-clause-plain
@@ -21,7 +22,8 @@ returns-clause-plain c =
     of-both c.from_str_with.result _ _ _
     (λ m mode h. (
       mode ∙ c.new.ensures.mode,
-      plain-owned-end (mode_of c.new.result) c.new.ensures.mode (version_of c.new.result) c.args.text.now (tree_owned m) (open_owned m) h,
+      (plain-owned (mode_of c.new.result) (version_of c.new.result) c.new.ensures.mode c.new.ensures.version c.args.text.now (tree_owned m)
+          (open_owned m) h).open_end,
     ))
     c.from_str_with.ensures.mode c.from_str_with.ensures.accepted
 
@@ -38,9 +40,8 @@ returns-clause-refused c =
 pub returns-clause-edits : goal.returns-clause-edits
 returns-clause-edits c =
     of-both c.from_str_with.result _ _ _
-    (λ m mode h. read-so c.others_stay.ensures.none c.args.text.now m
-    (plain-owned (mode_of c.new.result) c.new.ensures.mode (version_of c.new.result) c.args.text.now (tree_owned m) (open_owned m) h) (
-      mode ∙ c.new.ensures.mode,
-      plain-owned-end (mode_of c.new.result) c.new.ensures.mode (version_of c.new.result) c.args.text.now (tree_owned m) (open_owned m) h,
-    ))
+    (λ m mode h.
+    let reading = plain-owned (mode_of c.new.result) (version_of c.new.result) c.new.ensures.mode c.new.ensures.version c.args.text.now
+    (tree_owned m) (open_owned m) h in
+    read-so c.others_stay.ensures.none c.args.text.now m reading.reading (mode ∙ c.new.ensures.mode, reading.open_end))
     c.from_str_with.ensures.mode c.from_str_with.ensures.accepted
