@@ -6,8 +6,8 @@ use Rattle.toml_edit_model.specs.Tree.{Node, is_value_node}
 use Rattle.toml_edit_edit_laws.specs.Commands.{child}
 use Rattle.toml_edit_tree.specs.Containers.{tables_in}
 
--- the item, and whether it is an element of an array of tables, as that at the empty path is where
--- the `Bool` says so
+-- the item, and whether it is an element of an array of tables; the `Bool` says that of the item at
+-- the empty path
 abbrev pub item_through_tables : List Text → Bool → Node → Option (Node × Bool)
 item_through_tables [] is_element n = Some (n, is_element)
 item_through_tables (k ∷ path) is_element n =
