@@ -10,5 +10,8 @@ mod read;
 mod tell;
 mod words;
 
-pub use act::Ending;
+pub use act::{Ending, perform};
 pub use command::{end_without_memory, run};
+pub use error::{CommandError, RunError};
+pub use read::read_document;
+pub use words::Command;
