@@ -31,8 +31,7 @@ pub fn set_version(alloc: Global, text: &str, version: &str) -> Result<String, E
     Ok(document.print(alloc)?)
 }
 
-/// Replaces two values by strings, and returns the text in its normal form: all other statements are as they
-/// were.
+/// Replaces two values by strings, and returns the normal form. All other statements stay.
 ///
 /// # Errors
 ///
