@@ -1,7 +1,7 @@
 //! Tests of what no row of `test_rows` can say: equality, order and hash, `Display`, owned texts,
 //! calls on large tables, and programs that use the library: the functions of the guide, the jobs
 //! of tools for manifests, whole programs, the first examples of the Rust crate's documentation, and
-//! prints and runs over streams that take little at a time or fail.
+//! prints over streams that take little at a time or fail.
 //!
 //! Each test fails if calls do nothing. Functions that are generic in a type own what is made, and
 //! are proved once: a test passes it to them.
@@ -39,8 +39,6 @@ mod prints;
 mod programs;
 #[cfg(test)]
 mod recipes;
-#[cfg(test)]
-mod runs;
 #[cfg(test)]
 mod slots;
 #[cfg(test)]

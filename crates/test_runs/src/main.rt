@@ -8,6 +8,9 @@
 //! `<END>` where no newline ends it. Empty lines and lines that begin with `#` are shown alone.
 #![tactic(auto)]
 
+#[cfg(test)]
+mod endings;
+
 use file_replace::Host;
 use std::alloc::Global;
 use std::io::{BufRead, BufReader};
