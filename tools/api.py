@@ -4,16 +4,19 @@
     tools/api.py            writes the pages
     tools/api.py --check    writes nothing, and prints which pages differ from what it would write
 
-A page for each public type and trait, one for each public module, one for functions and an index. The anchor of a call is its name, and that
-of a clause is `call.clause`. `tools/upstream.txt` has the names of the Rust crate; what it lacks is marked "only here". Ends with status 1 if
-a link of a doc comment leads nowhere, or if a page differs.
+A page for each public type and trait, one for each public module, one for functions and an index; so for the crates beside the library that
+programs call. The anchor of a call is its name, and that of a clause is `call.clause`. `tools/upstream.txt` has the names of the Rust crate;
+what it lacks is marked "only here". `tools/calls` has the texts before and after that calls are shown with, and `tools/base.py` makes the pages
+of definitions. Ends with status 1 if a link of a doc comment leads nowhere, or if a page differs.
 """
 import dataclasses
+import difflib
 import glob
 import os
 import re
 import sys
 
+import base
 import sources
 from sources import TOP, Item, Module
 
@@ -24,6 +27,26 @@ TYPES = ("struct", "enum", "trait", "type")
 OUTER = ("std", "core", "fmt", "arrayvec", "bumpalo", "memchr", "itoa", "jiff")
 # The calls of upstream's trait are in two traits here.
 ALSO = {"AnyTable": "TableLike"}
+# Crates beside the library that programs call.
+BESIDE = ("toml_edit_fmt", "toml_edit_edits", "toml_edit_json", "file_replace")
+# What stands for a call of upstream.
+INSTEAD = {
+    "as_float": "[`as_float_text`](%s.md#as_float_text)",
+    "as_item_mut": "[`as_table_mut`](%s.md#as_table_mut)",
+    "clone": "[`parse`](%s.md#parse) of [`raw`](%s.md#raw)",
+    "default": "[`new`](%s.md#new)",
+    "index_mut": "[`get_mut`](Table.md#get_mut), which inserts nothing, and [`index_or_insert`](Table.md#index_or_insert)",
+    "iter_mut": "a loop over places, with [`get_mut`](%s.md#get_mut)",
+}
+INSTEAD_AT = {
+    "InlineTable::iter_mut": "a loop over places, with [`key_value_at_mut`](InlineTable.md#key_value_at_mut)",
+    "Table::iter_mut": "a loop over places, with [`key_value_at_mut`](Table.md#key_value_at_mut)",
+    "TableLike::iter_mut": "a loop over places, with [`key_value_at_mut`](TableLike.md#key_value_at_mut)",
+    "Item::index_mut": "[`get_mut`](Item.md#get_mut), which inserts nothing, and [`index_or_insert`](Item.md#index_or_insert)",
+    "Document::default": "[`new`](Document.md#new), of the empty text",
+}
+# The groups of the calls of a type, by how they take it.
+GROUPS = {"": "Make", "&self": "Ask", "&mut self": "Change", "self": "Take"}
 
 
 @dataclasses.dataclass
@@ -47,15 +70,20 @@ class Pages:
     """The public items of a library, their pages, and the faults that were found in making them."""
 
     def __init__(self, library=None):
-        self.library = library or sources.Library(sources.libraries())
+        self.library = library or sources.Library(sources.crates())
         self.root = self.library.roots["toml_edit"]
         self.faults = []
+        self.base = base.Pages(self.library)
         self.upstream = [name for name in sources.read(TOP + "/tools/upstream.txt").split("\n") if name and name[0] != "#"]
         self.known = set(self.upstream)
         self.types, self.functions, self.modules = {}, [], {}
         self.collect(self.root, "")
+        self.own, self.beside = list(self.types.values()), {}
+        for crate in BESIDE:
+            self.collect_beside(crate)
+        self.examples = examples()
         self.impls = {}
-        names = sources.libraries()
+        names = [*sources.libraries(), *BESIDE]
         for module in self.library.modules():
             for item in module.items if module.crate in names else ():
                 if item.kind == "impl" and not item.is_hidden and "cfg(test)" not in item.attributes:
@@ -81,6 +109,18 @@ class Pages:
                 self.functions.append(item)
             elif item.kind != "fn":
                 self.types.setdefault(item.name, item)
+
+    def collect_beside(self, crate):
+        """Finds what a crate beside the library gives out: types with pages of their own, and functions and laws with one of the crate."""
+        root = self.library.roots[crate]
+        given = [item for item in root.items if item.is_public and item.kind in TYPES + ("fn",)]
+        found = [self.library.find(root, path) for path, is_public, is_hidden in root.uses.values() if is_public and not is_hidden]
+        given += [one[0] for one in found if one and not one[1]]
+        laws = [item for item in root.modules["laws"].items if item.kind == "fn" and item.is_public]
+        for item in given:
+            if item.kind in TYPES and not item.is_hidden:
+                self.types.setdefault(item.name, item)
+        self.beside[crate] = [item for item in given if item.kind == "fn" and not item.is_hidden], laws, [item for item in given if item.kind in TYPES and not item.is_hidden]
 
     def place(self, module, item):
         """Puts an impl to its type and to its trait, where these have pages."""
@@ -142,6 +182,11 @@ class Pages:
             return ""
         found = self.library.find(module, path) or self.library.find(self.root, path)
         item, rest = found if found else (None, ())
+        for crate, (functions, laws, _) in self.beside.items():
+            if not rest and any(item is known for known in functions + laws):
+                return "%s.md#%s" % (crate, item.name)
+            if isinstance(item, Module) and item.crate == crate:
+                return crate + ".md"
         if isinstance(item, Module):
             names = [name for name, (known, _) in self.modules.items() if known is item]
             return page_of_module(names[0]) if names else None
@@ -232,7 +277,8 @@ class Pages:
         where = "%s:%d" % (call.file, call.line)
         text = "### `%s`\n\n" % call.name + code(call.head)
         text += ("*Only here.*\n\n" if is_new else "") + self.prose(call.docs, call.module, owner, where)
-        return text + contract(call.name, call.clauses) + "\n"
+        shown = self.examples.get("%s::%s" % (owner.name, call.name) if owner else call.name)
+        return text + (shown_as(shown) if shown else "") + contract(call.name, call.clauses) + "\n"
 
     def words(self, items):
         """The definition files that the clauses of some items take words from, each with these."""
@@ -254,19 +300,16 @@ class Pages:
         return text
 
     def definitions(self):
-        """The definition files that the contracts of public calls lead to."""
-        calls = [(call, uses_at(call, item, self.impls.get(item.name, []))) for item in self.types.values() for _, group in self.calls(item) for call in group]
-        calls += [(item, uses_of(item.module.items)) for item in self.functions + [law for _, law in self.modules["laws"][1]]
-                  + [item for _, item in self.in_modules()]]
-        left = re.findall(r"crates/\S*?\.antt", self.words(calls))
-        found = set()
-        while left:
-            file = left.pop()
-            if file not in found and os.path.exists(TOP + "/" + file):
-                found.add(file)
-                names = re.findall(r"^ *(?:pub )?use Rattle\.(\w+)\.specs\.(\w+(?:\.[A-Za-z]\w*)*)", sources.read(TOP + "/" + file), re.M)
-                left += ["crates/%s/specs/%s.antt" % (crate, path.replace(".", "/")) for crate, path in names]
-        return sorted(found)
+        """The definitions that the contracts of public calls stand on."""
+        known, first = base.Definitions(self.library), []
+        for item in self.own:
+            around = [item] + [impl.item for impl in self.impls.get(item.name, [])]
+            for call in (call for _, group in self.calls(item) for call in group):
+                inner = next((outer.members for outer in around if any(member is call for member in outer.members)), [])
+                first += known.of_clauses(call, inner)
+        for item in self.functions + [law for _, law in self.modules["laws"][1]] + [item for _, item in self.in_modules()]:
+            first += known.of_clauses(item, [])
+        return known.below(first)
 
     def traits(self, item):
         """The traits of a type, a line each, and those that it derives."""
@@ -294,11 +337,13 @@ class Pages:
         where = "%s:%d" % (item.file, item.line)
         text = MADE + "# %s `%s`\n\n" % (item.kind.capitalize(), item.name)
         text += "In [%s](../../%s). %s\n\n" % (
-            item.file, item.file, "Upstream has it too." if item.name in self.known else "Only here.")
-        text += code(definition(item)) + self.prose(item.docs, item.module, item, where, 2) + "\n" + self.variants(item)
+            item.file, item.file, "Upstream has it too." if item.name in self.known else "Only here." if item in self.own else "Of a crate [beside](%s.md) the library." % item.module.crate)
+        text += code(definition(item)) + self.prose(item.docs, item.module, item, where, 2) + "\n"
+        text += (shown_as(self.examples[item.name]) + "\n" if item.name in self.examples else "") + self.variants(item)
         if item.kind == "trait":
             text += ghosts(item)
         groups, named = self.calls(item), []
+        text += by_group([call for _, calls in groups for call in calls])
         for title, calls in groups:
             text += "## %s\n\n" % title
             for call in calls:
@@ -324,7 +369,16 @@ class Pages:
         implied = {"clone": "Clone", "default": "Default", "from_str": "FromStr", "extend": "Extend", "from_iter": "FromIterator"}
         derived = re.findall(r"\w+", " ".join(re.findall(r"derive\(([^)]*)\)", item.attributes)))
         lost = [name for name in names if not self.anchor(item, name) and implied.get(name) not in made + derived]
-        return "\n## Not here\n\nUpstream has these too: %s.\n" % ", ".join("`%s`" % name for name in lost) if lost else ""
+        if not lost:
+            return ""
+        text = "\n## Not here\n\n| Upstream has | Here |\n|---|---|\n"
+        for name in lost:
+            there = INSTEAD_AT.get("%s::%s" % (item.name, name)) or INSTEAD.get(name)
+            if not there:
+                self.faults.append("tools/api.py: nothing stands for `%s::%s` of upstream" % (item.name, name))
+            else:
+                text += "| `%s` | %s |\n" % (name, there.replace("%s", item.name))
+        return text
 
     def unique(self, name, text):
         """Looks for two anchors of one name on a page."""
@@ -344,6 +398,22 @@ class Pages:
         self.unique(title, page)
         return page.rstrip() + "\n"
 
+    def crate(self, name):
+        """The page of a crate beside the library."""
+        functions, laws, types = self.beside[name]
+        root = self.library.roots[name]
+        text = MADE + "# Crate `%s`\n\n%s\n" % (name, self.prose(root.docs, root, None, root.file))
+        text += "A program that calls it lists it in `crates.txt`, and copies it with [those that it stands on](crates.md).\n\n"
+        for item in types:
+            text += "- [`%s`](%s.md): %s\n" % (item.name, item.name, self.first(item))
+        for title, group in (("Functions", functions), ("Laws", laws)):
+            text += "\n## %s\n\n" % title if group else ""
+            for item in group:
+                text += self.call(item, None, False)
+        text += self.words([(item, uses_of(item.module.items)) for item in functions + laws])
+        self.unique(name, text)
+        return text.rstrip() + "\n"
+
     def index(self, pages):
         """The first page: the words of the crate, modules, types, functions and all calls."""
         module, given = self.modules["toml_edit"]
@@ -352,13 +422,20 @@ class Pages:
         for name, (below, _) in self.modules.items():
             if name != "toml_edit":
                 text += "- [`%s`](%s): %s\n" % (name, page_of_module(name), self.first(below, below))
+        text += "\n## Beside the library\n\n"
+        for crate in BESIDE:
+            text += "- [`%s`](%s.md): %s\n" % (crate, crate, self.first(self.library.roots[crate], self.library.roots[crate]))
+        text += "\n## Definitions to read\n\n"
+        for name, (title, _, _) in base.PAGES.items():
+            (count, lines), _ = self.base.sizes[name]
+            text += "- [%s](%s.md): %d definitions, %d lines\n" % (title, name, count, lines)
         for title, kinds in (("Types", ("struct", "enum", "type")), ("Traits of the library", ("trait",))):
             text += "\n## %s\n\n" % title
             for name, item in sorted(self.types.items()):
-                if item.kind in kinds:
+                if item.kind in kinds and item in self.own:
                     text += "- [`%s`](%s.md)%s: %s\n" % (name, name, "" if name in self.known else " (only here)", self.first(item))
         lost = [name.rstrip("()") for name in self.upstream if "::" not in name and name.rstrip("()") not in self.types]
-        lost = [name for name in lost if name not in [item.name for item in self.functions]]
+        lost = [name for name in lost if name not in [item.name for item in self.functions + [item for _, item in self.in_modules()]]]
         text += "\nUpstream has these types too: %s. [MIGRATING](../MIGRATING.md) says what to use in their place.\n" % (
             ", ".join("`%s`" % name for name in lost))
         return text + self.index_of_calls()
@@ -370,7 +447,11 @@ class Pages:
             star = "" if item.name + "()" in self.known else r"\*"
             calls.setdefault(item.name, []).append("[`toml_edit`](functions.md#%s)%s" % (item.name, star))
         for page, item in self.in_modules():
-            calls.setdefault(item.name, []).append("[`toml_edit`](%s#%s)" % (page, item.name) + r"\*")
+            star = "" if item.name + "()" in self.known else r"\*"
+            calls.setdefault(item.name, []).append("[`toml_edit`](%s#%s)%s" % (page, item.name, star))
+        for crate, (functions, _, _) in self.beside.items():
+            for item in functions:
+                calls.setdefault(item.name, []).append("[`%s`](%s.md#%s)" % (crate, crate, item.name) + r"\*")
         for name, item in self.types.items():
             for _, group in self.calls(item):
                 for call in group:
@@ -399,7 +480,10 @@ class Pages:
                 if functions:
                     text += "\n" + self.words([(item, uses_of(item.module.items)) for item in functions])
                 pages[page_of_module(name)] = text.rstrip() + "\n"
+        for crate in BESIDE:
+            pages[crate + ".md"] = self.crate(crate)
         pages["crates.md"] = crates()
+        pages.update(self.base.texts)
         pages["README.md"] = self.index(pages)
         if len({name.lower() for name in pages}) != len(pages):
             self.faults.append("docs/api: two pages whose names differ only in case")
@@ -415,7 +499,63 @@ def crates():
         first = " ".join(docs[: docs.index("") if "" in docs else len(docs)]).replace("|", "\\|")
         below = ", ".join("`%s`" % other for other in depends)
         text += "| [`%s`](../../%s) | %s | %s |\n" % (name, root, first, below)
+    text += "\n## Who cites whose lemmas\n\nAny proof may cite lemmas of its own crate and of the crates of laws. These cite lemmas of others too.\n\n"
+    text += "| Crate | Lemmas of |\n|---|---|\n"
+    for name in listed:
+        found = cited(name)
+        text += "| `%s` | %s |\n" % (name, ", ".join("`%s`" % other for other in found)) if found else ""
     return text
+
+
+def cited(crate):
+    """The files of lemmas of other crates that proofs of a crate cite, but for the crates of laws and the kit's."""
+    found = set()
+    for path in glob.glob("%s/crates/%s/proofs/**/*.antt" % (TOP, crate), recursive=True):
+        found |= set(re.findall(r"use Rattle\.(\w+)\.(proofs\.\w+)", sources.read(path)))
+    listed = sources.crates()
+    return sorted("%s.%s" % (other, file) for other, file in found if other in listed and other != crate and not other.endswith("laws"))
+
+
+def examples():
+    """The calls of tools/calls, by their names: their code, the text before, and the text after or what the code returns."""
+    found, known = {}, None
+    for line in sources.read(TOP + "/tools/calls").split("\n"):
+        word, _, rest = line.partition(":")
+        if word in ("call", "shown"):
+            known = {"code": [], "before": [], "after": [], "gives": []}
+            if word == "call":
+                found[rest.strip()] = known
+        elif known and word in known:
+            known[word].append(rest[1:])
+    return found
+
+
+def shown_as(example):
+    """A call with the text before and after as one block, in which the lines that go and come are marked; or with what it returns."""
+    text = "```rust\n%s\n```\n\n" % "\n".join(example["code"])
+    before, after = example["before"], example["after"]
+    if example["gives"]:
+        return "\n%sOf `%s` this returns `%s`.\n" % (text, "`, `".join(before), example["gives"][0])
+    lines = [line for line in difflib.ndiff(before, after) if line[0] != "?"]
+    return "\n%s```diff\n%s\n```\n" % (text, "\n".join((line[0] + line[2:]).rstrip() for line in lines))
+
+
+def by_group(calls):
+    """The names of the calls of a page, by group, as links."""
+    if len(calls) < 6:
+        return ""
+    text = ""
+    for taken, title in GROUPS.items():
+        names = [call.name for call in calls if receiver(call) == taken]
+        if names:
+            text += "- %s: %s\n" % (title, ", ".join("[`%s`](#%s)" % (name, name) for name in names))
+    return text + "\n"
+
+
+def receiver(call):
+    """How a call takes its value, or the empty text."""
+    found = re.search(r"(&)?(?:'\w+ )?(mut )?\bself\b", " ".join(call.head))
+    return "" if not found else "&mut self" if found[1] and found[2] else "&self" if found[1] else "self"
 
 
 def quoted(found):

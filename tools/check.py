@@ -14,6 +14,7 @@
 - Each must-fail edit still fits: its file is there, has the old text once, and is changed in one function. So does each bug of tools/bugs.
 - Tables have an index of the kit's `indexmap`, in their source and in crates.txt, and DECISIONS and MIGRATING name it.
 - Help, TOMLFILE, the header of C, the manual page and the completions have the words of edits in the order of the code, with what each takes.
+- The definitions of docs/api/base-*.md are no more than they may be.
 - The list of files that share code, in DECISIONS between two comments, is that of tools/duplicates.py.
 - Pages are not too large, no sentence is too long, and no word of tools/words.txt is used.
 """
@@ -25,6 +26,7 @@ import subprocess
 import sys
 
 import api
+import base
 import duplicates
 import sources
 from sources import TOP, read
@@ -231,7 +233,10 @@ class Check:
         found["changes of definitions"] = read(TOP + "/tools/changes").count("\ntitle: ")
         examples = self.matching("crates/toml_edit_model/specs/examples*")
         models = [file for file in self.matching("crates/toml_edit_model/specs/*.antt") if file not in examples and "/Lib." not in file]
-        for word, files in (("definition %s", models), ("example %s", examples), ("definition %s of contracts", self.pages_made.definitions())):
+        found["definitions of contracts"], found["definition lines of contracts"] = base.size(self.pages_made.definitions())
+        for page, (size, _) in self.pages_made.base.sizes.items():
+            found["definitions of " + page], found["lines of " + page] = size
+        for word, files in (("definition %s", models), ("example %s", examples)):
             found[word % "files"] = len(files)
             found[word % "lines"] = sum(read(TOP + "/" + file).count("\n") for file in files)
         code = {file: read(TOP + "/" + file) for file in self.matching("crates/*/src/*.rt")}
@@ -330,6 +335,12 @@ class Check:
             found = re.findall(line, re.sub(r"\\f[BIRP]", "", read(TOP + "/" + file)), re.M)
             if found != wanted and [words.split() for words in found] != [[words.split()[0] for words in wanted]]:
                 self.fault(file, 1, "has other words of edits than the code: %s" % ", ".join(found))
+
+    def base(self):
+        """The definitions of each page are no more than they may be."""
+        for page, ((_, lines), most) in self.pages_made.base.sizes.items():
+            if lines > most:
+                self.fault("docs/api/%s.md" % page, 1, "the definitions have %d lines, and may have %d" % (lines, most))
 
     def sizes(self):
         """Pages are not too large."""
@@ -496,7 +507,7 @@ def main():
         for word, number in check.numbers().items():
             print("%s<!-- %s -->" % (format(number, ","), word))
         return 0
-    for part in (check.reference, check.shown, check.examples, check.links, check.mentions, check.counts, check.index, check.edits, check.edit_words, check.twice, check.sizes, check.sentences, check.words):
+    for part in (check.reference, check.shown, check.examples, check.links, check.mentions, check.counts, check.index, check.edits, check.edit_words, check.base, check.twice, check.sizes, check.sentences, check.words):
         part()
     for fault in check.faults:
         print(fault)
