@@ -1,5 +1,6 @@
 # The common commands. `make check C=toml_edit_key` takes the name of a crate; so do `test` and `edits`.
 C = toml_edit
+PREFIX = /usr/local
 RT = PATH="/opt/rattle/bin:$$PATH" rt
 ROWS = test_rows test_rows_tables test_rows_values
 PEERS = tomlplusplus toml11
@@ -43,6 +44,12 @@ refusals: ## refuses each allocation of each row in turn (needs the proved progr
 cost: ## runs the gate from nothing, and lists what it costs
 	tools/gate_cost.py --anew
 
+install: ## proves both programs and the library for C, and installs them, with manual pages, completions and a wheel, below PREFIX
+	(cd crates/tomled && $(RT) run -- print < /dev/null)
+	(cd crates/tomlfile && $(RT) run -- --version < /dev/null)
+	PATH="/opt/rattle/bin:$$PATH" bindings/build
+	tools/pack.py --install $(PREFIX)
+
 coverage: ## lists the functions that no row or test enters
 	tools/coverage.py
 
@@ -60,4 +67,4 @@ peers: ## builds the programs of toml++ and toml11, and counts beside them (need
 collisions: ## the same with keys that collide
 	bench/collisions.py
 
-.PHONY: help check test edits rows gate pages faults api fmt definitions refusals cost coverage planted bench peers collisions
+.PHONY: help install check test edits rows gate pages faults api fmt definitions refusals cost coverage planted bench peers collisions
