@@ -35,7 +35,7 @@ GUIDES = ("example_calls", "example_tasks", "example_tools", "example")
 SHOWING = ("README.md", "docs/GUIDE.md", "docs/PROVING.md", "docs/MIGRATING.md")
 # The most bytes that a page may have, and some together.
 SIZES = {
-    "README.md": 7000, "docs/GUIDE.md": 16500, "docs/PROVING.md": 14000, "docs/MIGRATING.md": 16000, "docs/ERRORS.md": 8000,
+    "README.md": 8500, "docs/GUIDE.md": 17000, "docs/PROVING.md": 14000, "docs/MIGRATING.md": 16000, "docs/ERRORS.md": 8000,
     "docs/ASSURANCE.md": 28000, "docs/LAWS.md": 15000, "docs/BENCH.md": 6000, "CONTRIBUTING.md docs/MAP.md docs/DECISIONS.md": 34000,
 }
 ALL = 140000

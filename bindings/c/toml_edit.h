@@ -9,9 +9,12 @@
  *         toml_edit_set(0, text, text_size, path, path_size, value, value_size, room, room_size);
  *     if (answer.status == TOML_EDIT_SHORT) { .. lend answer.needed bytes, and call again .. }
  *
- * Texts are UTF-8, without a zero byte at the end. A pointer is never null, not even of a text of
- * no bytes. What a call writes to does not overlap a text, nor each other, and no other thread reads
- * or writes any of it during the call. A call writes to nothing but the rooms, the place of
+ * Texts are UTF-8, without a zero byte at the end.
+ *
+ * A pointer is never null, not even that of a text or a room of no bytes.
+ *
+ * What a call writes to does not overlap a text, nor each other, and no other thread reads or
+ * writes any of it during the call. A call writes to nothing but the rooms, the place of
  * `toml_edit_check`, the sizes of `toml_edit_run`, and memory that it takes by `malloc` and gives
  * back before it returns.
  *
