@@ -2,10 +2,12 @@
 """Checks that what the pages say is so, without proving anything.
 
     tools/check.py              prints each fault as `file:line: what`, and ends with status 1 if there is one
+    tools/check.py --texts      compiles and runs nothing, so it takes some seconds
     tools/check.py --numbers    prints the numbers that pages may give
 
 - docs/api is as tools/api.py makes it.
-- Each function of a ```rust block in README, GUIDE, PROVING and MIGRATING is in a crate to the letter, and its imports are those of that file, group by group.
+- The blocks of code of pages compile, and what they show is what runs write: tools/blocks.py.
+- Each function of a ```rust block in README, GUIDE, PROVING and MIGRATING is in a crate to the letter, so what is proved of that one holds of it.
   A function that is shown without a contract is compared without one. So is each ```agda block, with the definitions and proofs.
 - Each example of a doc comment is in the function that the comment names.
 - Links, their anchors, paths in backticks, and pages that sources name lead somewhere.
@@ -13,8 +15,11 @@
 - Pages say how many must-fail edits, tests and rows there are, so that none is lost unseen.
 - Each must-fail edit still fits: its file is there, has the old text once, and is changed in one function. So does each bug of tools/bugs.
 - Tables have an index of the kit's `indexmap`, in their source and in crates.txt, and DECISIONS and MIGRATING name it.
-- Help, TOMLFILE, the header of C, the manual page and the completions have the words of edits in the order of the code, with what each takes.
-- The definitions of docs/api/base-*.md are no more than they may be.
+- Help, TOMLFILE, the header of C, the manual page and the completions have the words of edits in the order of the code, with what each takes, and
+  the usage and the options of each command.
+- The header of C, and what Rust declares of it, have the exports of the library, with as many parameters.
+- A page that says how much stack a call takes says what tools/stack.py and bindings/c/stack.c hold. The definitions of docs/api/base-*.md are
+  no more than they may be. What GUIDE and ASSURANCE call by `crate::name` has a page in docs/api.
 - The list of files that share code, in DECISIONS between two comments, is that of tools/duplicates.py.
 - Pages are not too large, no sentence is too long, and no word of tools/words.txt is used.
 """
@@ -27,6 +32,7 @@ import sys
 
 import api
 import base
+import blocks
 import duplicates
 import sources
 from sources import TOP, read
@@ -89,11 +95,13 @@ class Check:
     def shown(self):
         """Each function of a block is in a crate."""
         for page in SHOWING:
-            for line, language, lines in blocks(self.texts.get(page, "")):
+            for line, language, lines in blocks.blocks(self.texts.get(page, "")):
                 if language == "rust":
                     self.block(page, line, lines)
                 elif language in ("agda", "antt"):
                     self.definition(page, line, lines)
+                elif language == "text" and lines[0].startswith("ghost use "):
+                    self.ghosts(page, line, lines)
                 elif language.startswith("rust") and page != "docs/MIGRATING.md":
                     self.fault(page, line, "a block that is not checked: ```%s" % language)
 
@@ -106,14 +114,10 @@ class Check:
             items = sources.items_of(page, lines, masks, 0, len(lines), 0)
         except ValueError:
             return self.fault(page, line, "a block that is cut off")
-        imports, files = [item for item in items if item.kind == "use" or (item.kind == "ghost" and item.name == "use")], set()
-        for item in items:
-            if item.kind not in ("use", "mod") and item not in imports:
-                files |= {item.file for item in self.found(page, line + item.line, item)}
-        for item in imports:
-            if files and not any(self.imports(file, item) for file in files):
-                self.fault(page, line + item.line, "%s is not in %s" % (item.lines[0].strip(), ", ".join(sorted(files))))
-        if not files and not imports:
+        shown = [item for item in items if item.kind not in ("use", "mod") and not (item.kind == "ghost" and item.name == "use")]
+        for item in shown:
+            self.found(page, line + item.line, item)
+        if not shown:
             self.fault(page, line, "a block without a function")
         return None
 
@@ -123,6 +127,14 @@ class Check:
         files = [file for file in self.files if file.endswith(".antt") and file.split("/")[1] in GUIDES]
         if not any(wanted in "\n%s\n" % "\n".join(stripped(read(TOP + "/" + file).split("\n"))) for file in files):
             self.fault(page, line, "no crate of the guide has this definition")
+
+    def ghosts(self, page, line, lines):
+        """The `ghost use` lines of a block are in a file of the guide's crates, which may use more names by them."""
+        texts = [read(TOP + "/" + file) for file in self.files if file.endswith(".rt") and file.split("/")[1] in GUIDES]
+        known = [dict(re.findall(r"^ghost use ([\w.]+)\.\{(.*)\};$", text, re.M)) for text in texts]
+        wanted = dict(re.findall(r"^ghost use ([\w.]+)\.\{(.*)\};$", "\n".join(lines), re.M))
+        if not any(all(set(names.split(", ")) <= set(uses.get(path, "").split(", ")) for path, names in wanted.items()) for uses in known):
+            self.fault(page, line, "no file of the guide has these `ghost use` lines")
 
     def found(self, page, line, item):
         """The items of the crates that a shown one is, to the letter."""
@@ -138,15 +150,6 @@ class Check:
             self.fault(page, line, "`%s` differs from that of %s" % (item.name, ", ".join("%s:%d" % (o.file, o.line) for o in known)))
         return equal
 
-    def imports(self, file, item):
-        """Whether a file, or the root of its crate, has an import, with all names of its group."""
-        root = "/".join(file.split("/")[:3]) + "/lib.rt"
-        modules = [module for module in self.library.modules() if module.file in (file, root)]
-        if item.kind == "ghost":
-            return any(item.lines == other.lines for module in modules for other in module.items)
-        wanted = sources.uses_of([item]).items()
-        return any(wanted == sources.uses_of([other]).items() for module in modules for other in module.items if other.kind == "use")
-
     def examples(self):
         """Each example of a doc comment is in its function."""
         shown = {item for page in ["docs/GUIDE.md"] for item in self.names(page)}
@@ -157,7 +160,7 @@ class Check:
 
     def names(self, page):
         """The names of the functions that a page shows."""
-        return re.findall(r"\bfn (\w+)", "\n".join("\n".join(lines) for _, language, lines in blocks(self.texts.get(page, "")) if language == "rust"))
+        return re.findall(r"\bfn (\w+)", "\n".join("\n".join(lines) for _, language, lines in blocks.blocks(self.texts.get(page, "")) if language == "rust"))
 
     def example(self, file, line, docs, shown):
         """The examples of a doc comment."""
@@ -336,11 +339,74 @@ class Check:
             if found != wanted and [words.split() for words in found] != [[words.split()[0] for words in wanted]]:
                 self.fault(file, 1, "has other words of edits than the code: %s" % ", ".join(found))
 
+    def usages(self):
+        """The usage and the options of each command are the same in the help, on the page, in the manual page and for the shells."""
+        help_text = re.sub(r"\s+", " ", read(TOP + "/crates/toml_edit_files/src/help.rt"))
+        manual = re.sub(r"\\f[BIRP]|\\&|\s+|\.(?=B |br)", " ", read(TOP + "/tools/share/tomlfile.1").replace("\\-", "-"))
+        page = self.texts.get("docs/TOMLFILE.md", "")
+        shells = [read(TOP + "/tools/share/" + name) for name in ("tomlfile.bash", "_tomlfile", "tomlfile.fish")]
+        for command, usage in re.findall(r'_USAGE: &str = "tomlfile ([a-z]+) ([^"]+)"', help_text):
+            options = re.findall(r"--[a-z-]+", usage)
+            row = "".join(line for line in page.split("\n") if line.startswith("| `%s FILE" % command))
+            if command != "edit" and "`%s %s`" % (command, usage.replace("|", "\\|")) not in row:
+                self.fault("docs/TOMLFILE.md", 1, "has another usage of `%s` than the help: %s" % (command, usage))
+            said = re.search(r" %s ([^;]*?)(?: tomlfile | SH | \.SH )" % command, manual[manual.index("SYNOPSIS") :])
+            if not said or sorted(re.findall(r"--[a-z-]+", said[1])) != sorted(options):
+                self.fault("tools/share/tomlfile.1", 1, "has other options of `%s` than the help" % command)
+            for option in options:
+                if "`%s" % option not in page and option not in row:
+                    self.fault("docs/TOMLFILE.md", 1, "does not say what `%s` of `%s` does" % (option, command))
+                for name, text in zip(("tomlfile.bash", "_tomlfile", "tomlfile.fish"), shells):
+                    if option not in text and option.lstrip("-") not in text:
+                        self.fault("tools/share/" + name, 1, "does not know `%s` of `%s`" % (option, command))
+
+    def exports(self):
+        """What C and Rust declare is what the library exports."""
+        source = "".join(read(TOP + "/" + file) for file in self.matching("crates/toml_edit_c/src/*.rt"))
+        wanted = {}
+        for name, given in re.findall(r'^pub extern "C" fn (\w+)\((.*?)\) -> (?:Answer|u32)', source, re.M | re.S):
+            types = [part.split(":", 1)[1].strip() for part in given.split(",") if part.strip()]
+            wanted[name] = sum(0 if kind == "Global" else 2 if kind.startswith(("&[", "&mut [")) else 1 for kind in types)
+        header = re.sub(r"/\*.*?\*/", "", read(TOP + "/bindings/c/toml_edit.h"), flags=re.S) if os.path.exists(TOP + "/bindings/c/toml_edit.h") else ""
+        found = {name: given.count(",") + 1 for name, given in re.findall(r"\b(toml_edit_\w+)\(([^)]*)\);", header)}
+        if found != wanted:
+            more, lost = dict(found.items() - wanted.items()), dict(wanted.items() - found.items())
+            self.fault("bindings/c/toml_edit.h", 1, "declares %s, and the library exports %s" % (counted(more), counted(lost)))
+        file = "bindings/rust/src/lib.rs"
+        text = read(TOP + "/" + file) if os.path.exists(TOP + "/" + file) else ""
+        for name, given in re.findall(r"pub fn (toml_edit_\w+)\(([^)]*)\)", text):
+            if wanted.get(name) != len([part for part in given.split(",") if part.strip()]):
+                self.fault(file, text[: text.index(name)].count("\n") + 1, "declares `%s` otherwise than the library" % name)
+
+    def stack(self):
+        """What pages say of the stack is what is measured against."""
+        most = int(re.search(r"^LIMIT, MOST = \d+, (\d+)$", read(TOP + "/tools/stack.py"), re.M)[1])
+        texts = {name: self.texts[name] for name in self.pages}
+        for file in ("bindings/c/toml_edit.h", "bindings/c/stack.c"):
+            texts[file] = read(TOP + "/" + file) if os.path.exists(TOP + "/" + file) else ""
+        for name, text in texts.items():
+            for found in re.finditer(r"(\d+) MB(?:\]\([^)]*\))? (?:of stack|is enough)|SAID = (\d+)", text):
+                if int(found[1] or 0) * 1024 + int(found[2] or 0) != most:
+                    self.fault(name, text[: found.start()].count("\n") + 1, "says `%s`, and %d KB is what runs are held to" % (found[0], most))
+
     def base(self):
         """The definitions of each page are no more than they may be."""
         for page, ((_, lines), most) in self.pages_made.base.sizes.items():
             if lines > most:
                 self.fault("docs/api/%s.md" % page, 1, "the definitions have %d lines, and may have %d" % (lines, most))
+
+    def called(self):
+        """What GUIDE and ASSURANCE call by its crate has a page."""
+        pages = "".join(text for name, text in self.texts.items() if name.startswith("docs/api/"))
+        for name in ("docs/GUIDE.md", "docs/ASSURANCE.md"):
+            for line, words, is_code in lines_of(self.texts.get(name, "")):
+                for crate, call in re.findall(r"`(toml_edit_\w+|file_replace)::(\w+)`", words) if not is_code else ():
+                    if not re.search(r"^##+ `%s`$|^# \w+ `%s`$" % (call, call), pages, re.M):
+                        self.fault(name, line, "docs/api has no page for %s::%s" % (crate, call))
+
+    def runs(self):
+        """Blocks compile, and what they show is so."""
+        self.faults += blocks.faults()
 
     def sizes(self):
         """Pages are not too large."""
@@ -408,18 +474,9 @@ def lines_of(text):
             yield number, line, is_code or line.startswith("    ")
 
 
-def blocks(text):
-    """The blocks of code of a page: the line before the first, the language, and the lines."""
-    language, lines, start = None, [], 0
-    for number, line in enumerate(text.split("\n"), 1):
-        fence = line.strip().startswith("```")
-        if fence and language is None:
-            language, lines, start = line.strip()[3:].strip(), [], number
-        elif fence:
-            yield start, language, lines
-            language = None
-        elif language is not None:
-            lines.append(line)
+def counted(calls):
+    """Calls with the numbers of their parameters."""
+    return ", ".join("%s of %d" % call for call in sorted(calls.items())) or "nothing"
 
 
 def squeezed(lines):
@@ -507,7 +564,9 @@ def main():
         for word, number in check.numbers().items():
             print("%s<!-- %s -->" % (format(number, ","), word))
         return 0
-    for part in (check.reference, check.shown, check.examples, check.links, check.mentions, check.counts, check.index, check.edits, check.edit_words, check.base, check.twice, check.sizes, check.sentences, check.words):
+    parts = [check.reference, check.shown, check.examples, check.links, check.mentions, check.counts, check.index, check.edits, check.edit_words]
+    parts += [check.usages, check.exports, check.stack, check.base, check.called, check.twice, check.sizes, check.sentences, check.words]
+    for part in parts if "--texts" in sys.argv else [*parts, check.runs]:
         part()
     for fault in check.faults:
         print(fault)

@@ -1,7 +1,7 @@
 #!/usr/bin/env python3
 """Plants faults, each by itself, into a copy of the repository, and tries whether tools/check.py notices them.
 
-    tools/faults.py [WORD]      plants those whose names hold WORD (all)
+    tools/faults.py [WORD]      plants those whose names hold WORD (all); one, a dropped import, takes a minute to be refused
 
 Prints for each what was noticed. Ends with status 1 unless all were.
 """
@@ -15,8 +15,8 @@ import tempfile
 
 from sources import TOP
 
-NEEDED = ("*.md", "crates.txt", "docs", "tools", "bench", "bindings/c/toml_edit.h", ".ci")
-KEPT = re.compile(r".*/(src|specs|wrong)(/.*)?|.*/toml_edit_(guide|recipes|programs|example)/proofs|.*/(stdin|stdout|args|WORDS\.md)")
+NEEDED = ("*.md", "LICENSE-*", "crates.txt", "docs", "tools", "bench", "bindings", ".ci")
+KEPT = re.compile(r".*/(src|specs|proofs|wrong)|.*/(stdin|stdout|args|WORDS\.md)")
 
 
 class Copy:
@@ -29,7 +29,7 @@ class Copy:
                 target = folder + path[len(TOP) :]
                 os.makedirs(os.path.dirname(target), exist_ok=True)
                 if os.path.isdir(path):
-                    shutil.copytree(path, target, ignore=shutil.ignore_patterns("__pycache__", "target"))
+                    shutil.copytree(path, target, ignore=shutil.ignore_patterns("__pycache__", "target", "out"))
                 else:
                     shutil.copy(path, target)
         for path in glob.glob(TOP + "/crates/*/*"):
@@ -158,7 +158,29 @@ def stale_function(copy):
 
 def dropped_import(copy):
     """A block of the guide drops the trait that its call needs."""
-    copy.replace(["docs/GUIDE.md", "README.md"], r"(use toml_edit::\{.*), ParsePath", r"\1")
+    copy.replace(["docs/GUIDE.md"], r"(use toml_edit::\{.*), ParsePath", r"\1")
+
+
+def changed_output(copy):
+    """A command of the README writes something else."""
+    copy.replace(["README.md"], r"\nname = \"demo\"\n(version = \"0\.2\.0\")", r'\nname = "other"\n\1')
+
+
+def copied_crate(copy):
+    """GUIDE's commands copy a crate that the library does not need."""
+    copy.replace(["docs/GUIDE.md"], r"\^toml_edit:/q", "^toml_edit_fmt_laws:/q")
+
+
+def changed_example(copy):
+    """A call of docs/api leaves another text."""
+    copy.replace(["tools/calls"], r"after: a = 2 # one", "after: a = 2")
+    remember(copy)
+    copy.run("api.py")
+
+
+def changed_session(copy):
+    """A call from Python gives something else."""
+    copy.replace(["bindings/README.md"], r"\nversion = \"2\.0\" # ours\n```\n\n`pip", '\nversion = "2.0"  # ours\n```\n\n`pip')
 
 
 def dead_edit(copy):
@@ -208,7 +230,35 @@ def unnamed_index(copy):
     copy.replace(["docs/MIGRATING.md"], r"`indexmap`", "an index")
 
 
-# Each with words of the line that has to be printed.
+def lost_option(copy):
+    """The manual page lacks an option."""
+    copy.replace(["tools/share/tomlfile.1"], r" \[\\fB\\-\\-locked\\fR\]", "")
+
+
+def other_header(copy):
+    """The header of C has a parameter less than the library."""
+    copy.replace(["bindings/c/toml_edit.h"], r"(toml_edit_print\(\s+uint32_t flags, const uint8_t \*text), size_t text_size", r"\1")
+
+
+def other_stack(copy):
+    """A page says that less stack is enough."""
+    copy.replace(["SECURITY.md"], r"1 MB of stack", "2 MB of stack")
+
+
+def larger_base(copy):
+    """Acceptance stands on so many definitions more that an hour does not do."""
+    lines = "".join("more_%d : ℕ\nmore_%d = %s\n\n" % (at, at, "more_%d" % (at - 1) if at else "0") for at in range(20))
+    name = "crates/toml_edit_model/specs/Roles.antt"
+    copy.write(name, copy.read(name).replace("-- what a statement says", lines.replace("more_", "pub more_") + "-- what a statement says", 1) + "\nmore_last : ℕ\n")
+    copy.replace([name], r"may_meet_inline dotted_role dotted_role = true", "may_meet_inline dotted_role dotted_role = more_19 == 0")
+
+
+def lost_call(copy):
+    """GUIDE calls a function that no page of the reference has."""
+    copy.replace(["docs/GUIDE.md"], r"`toml_edit_fmt::format`", "`toml_edit_fmt::lay_out`")
+
+
+# Each with words of the line that has to be printed, and the tool that prints it.
 FAULTS = {
     stale_example: "the example is not in",
     wrong_number: "is said of rows",
@@ -220,7 +270,6 @@ FAULTS = {
     long_sentence: "a sentence of",
     unlisted_duplicate: "share code",
     stale_function: "differs from that of",
-    dropped_import: "is not in crates/",
     dead_edit: "its text 1 is in",
     edit_of_two: "make it two edits",
     missing_edit: "has other words of edits",
@@ -230,6 +279,19 @@ FAULTS = {
     unsaid_tests: "no page says how many tests",
     lost_index: "no field is an IndexMap",
     unnamed_index: "does not name `indexmap`",
+    lost_option: "has other options of `edit`",
+    other_header: "toml_edit_print of 4",
+    other_stack: "is what runs are held to",
+    larger_base: "and may have 900",
+    lost_call: "has no page for toml_edit_fmt::lay_out",
+}
+# Those of blocks, which are compiled and run.
+RUN = {
+    dropped_import: "error[",
+    changed_output: "README.md",
+    copied_crate: "which it does not need",
+    changed_example: "DocumentMut::set_at gives",
+    changed_session: "bindings/README.md",
 }
 
 
@@ -238,12 +300,14 @@ def main():
     lost = 0
     with tempfile.TemporaryDirectory() as folder:
         copy = Copy(folder)
-        known = copy.run("check.py")
-        for plant, words in FAULTS.items():
+        texts, runs = ("check.py", "--texts"), ("blocks.py",)
+        known = {tool: copy.run(*tool) for tool in (texts, runs) if tool is texts or any(word in plant.__name__ for plant in RUN)}
+        for plant, words in {**FAULTS, **RUN}.items():
             if word in plant.__name__:
+                tool = texts if plant in FAULTS else runs
                 plant(copy)
                 is_planted = any(not os.path.exists(folder + "/" + name) or copy.before[name] != copy.read(name) for name in copy.before)
-                new = sorted(line for line in copy.run("check.py") - known if words in line) if is_planted else []
+                new = sorted(line for line in copy.run(*tool) - known[tool] if words in line) if is_planted else []
                 print("%s: %s" % (plant.__name__, new[0] if new else "NOT NOTICED" if is_planted else "NOT PLANTED"), flush=True)
                 lost += not new
                 copy.restore()
