@@ -281,6 +281,8 @@ def measured(program):
 
 
 def main():
+    if "--help" in sys.argv[1:]:
+        return print(__doc__.strip())
     words = sys.argv[1:]
     if words[:1] == ["--text"]:
         kind, attack, size, count = words[1:]

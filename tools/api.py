@@ -718,6 +718,8 @@ def differing(pages):
 
 
 def main():
+    if "--help" in sys.argv[1:]:
+        return print(__doc__.strip())
     made = Pages()
     pages = made.all()
     for fault in made.faults:

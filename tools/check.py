@@ -559,6 +559,8 @@ def passages(text):
 
 
 def main():
+    if "--help" in sys.argv[1:]:
+        return print(__doc__.strip())
     check = Check()
     if "--numbers" in sys.argv:
         for word, number in check.numbers().items():

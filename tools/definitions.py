@@ -65,6 +65,8 @@ def tried(copy, change):
 
 
 def main():
+    if "--help" in sys.argv[1:]:
+        return print(__doc__.strip())
     wanted = sys.argv[1] if len(sys.argv) > 1 else ""
     is_list = wanted == "--list"
     asked = [change for change in changes() if is_list or wanted in change["file"] or wanted in change["title"]]

@@ -296,6 +296,8 @@ RUN = {
 
 
 def main():
+    if "--help" in sys.argv[1:]:
+        return print(__doc__.strip())
     word = sys.argv[1] if len(sys.argv) > 1 else ""
     lost = 0
     with tempfile.TemporaryDirectory() as folder:
