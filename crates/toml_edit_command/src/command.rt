@@ -41,7 +41,7 @@ const DONE: u8 = 0;
 ///
 /// - 0: done. Nothing is written to `errors`.
 /// - 1: the input is not TOML, or not UTF-8. `errors` gets the error's text.
-/// - 2: the words are no command; PATH is no path; VALUE is no value; nothing is at the path; what
+/// - 2: the words are not a command; PATH or VALUE is not valid; nothing is at the path; what
 ///   is there cannot be set; or the document would not fit. `errors` gets the usage, or which of
 ///   these it is.
 /// - 3: out of memory. `errors` gets that message.

@@ -3,11 +3,11 @@
 /// What is wrong with the words of a command, or with what they say of the document.
 #[derive(Clone, Copy, Debug)]
 pub enum CommandError {
-    /// The words are no command.
+    /// The words are not a command.
     Words,
-    /// PATH is no path.
+    /// PATH is not valid.
     Path,
-    /// VALUE is no value.
+    /// VALUE is not valid.
     Value,
     NoSuchPath,
     WrongKind,

@@ -16,7 +16,7 @@ use std::alloc::Global;
 use toml_edit_repr::{Decor, Mem, RawString};
 use toml_edit_tree::{Array, Item};
 
-/// Returns whether there is a value among the items.
+/// Returns `true` if there is a value among the items.
 pub(crate) fn has_values(items: &[Item]) -> bool
     ensures { result ≡ has_values (items_view items.now) }
 {
@@ -28,7 +28,7 @@ pub(crate) fn has_values(items: &[Item]) -> bool
     false
 }
 
-/// Returns whether there is a newline beside a value.
+/// Returns `true` if there is a newline beside a value.
 fn has_broken_items(items: &[Item]) -> bool
     ensures { result ≡ has_broken_items (items_view items.now) }
 {
@@ -40,7 +40,7 @@ fn has_broken_items(items: &[Item]) -> bool
     false
 }
 
-/// Returns whether there is a newline beside the value, if the item is one.
+/// Returns `true` if there is a newline beside the value, if the item is one.
 fn is_broken_item(item: &Item) -> bool
     ensures { result
         ≡ is_value_node (item_view item.now) && is_broken_decor (node_decor (item_view item.now)) }
@@ -53,14 +53,14 @@ fn is_broken_item(item: &Item) -> bool
     }
 }
 
-/// Returns whether a side of the decor has a newline.
+/// Returns `true` if a side of the decor has a newline.
 fn is_broken_beside(decor: &Decor) -> bool
     ensures { result ≡ is_broken_decor decor.now }
 {
     is_broken(side_text(decor.prefix())) || is_broken(side_text(decor.suffix()))
 }
 
-/// Returns whether the array is to be broken for its width.
+/// Returns `true` if the array is to be broken for its width.
 fn is_too_wide(alloc: Global, rules: &Rules, room: Option<usize>, array: &Array) -> Mem<bool>
     ensures { IfOk result
         (λ b. b
@@ -73,7 +73,7 @@ fn is_too_wide(alloc: Global, rules: &Rules, room: Option<usize>, array: &Array)
     }
 }
 
-/// Returns whether the array goes beyond a line of at most so many bytes, some of which are used.
+/// Returns `true` if the array goes beyond a line of at most so many bytes, some of which are used.
 fn is_over(alloc: Global, most: usize, used: usize, array: &Array) -> Mem<bool>
     ensures { IfOk result
         (λ b. b ≡ nat_lt most (used + (2 + items_width true (array_view array.now).items))) }
@@ -84,7 +84,7 @@ fn is_over(alloc: Global, most: usize, used: usize, array: &Array) -> Mem<bool>
     }
 }
 
-/// Returns whether the array is split into lines.
+/// Returns `true` if the array is split into lines.
 fn is_split(alloc: Global, rules: &Rules, room: Option<usize>, array: &Array) -> Mem<bool>
     ensures { IfOk result
         (λ b. b
@@ -142,7 +142,7 @@ fn last_suffix(items: &[Item]) -> &str
     last
 }
 
-/// Returns the text after the value, or the other one if the item is none.
+/// Returns the text after the value, or the other one if the item is not a value.
 fn suffix_or<'a>(item: &'a Item, other: &'a str) -> &'a str
     ensures { result.now ≡ suffix_or (item_view item.now) other.now }
 {
@@ -190,7 +190,7 @@ pub(crate) fn close_array(layout: Layout, has_any: bool, trailing: RawString, ar
     }
 }
 
-/// Returns whether no comma and no other value is after the item at the place.
+/// Returns `true` if no comma and no other value is after the item at the place.
 pub(crate) fn ends_array(comma: bool, items: &[Item], at: usize) -> bool
     requires { at < length items.now }
     ensures { result ≡ not (comma || has_values (items_view (drop (at + 1) items.now))) }

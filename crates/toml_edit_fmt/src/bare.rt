@@ -20,7 +20,7 @@ pub(crate) fn bare_keys(root: &mut Table)
     bare_slots(&mut root.slots);
 }
 
-/// Returns whether a key of this name can be bare.
+/// Returns `true` if a key of this name can be bare.
 fn can_be_bare(name: &str) -> bool
     ensures { result ≡ is_bare_key name.now }
 {

@@ -9,14 +9,14 @@ ghost use Rattle.toml_edit_fmt.specs.StartParts.{enter_least, is_bare, least_ele
 use toml_edit_slots::Slots;
 use toml_edit_tree::{Item, Table, table_has_lines};
 
-/// Returns whether the text has no statement.
+/// Returns `true` if the text has no statement.
 pub(crate) fn is_bare(root: &Table) -> bool
     ensures { (r : Rules) → result ≡ is_bare r (fields_view root.now) (table_slots root.now) }
 {
     begins(root) && first_place(root).is_none()
 }
 
-/// Returns whether nothing is printed before the first header.
+/// Returns `true` if nothing is printed before the first header.
 pub(crate) fn begins(root: &Table) -> bool
     ensures { result ≡ begins (fields_view root.now) (table_slots root.now) }
 {
@@ -34,7 +34,7 @@ pub(crate) fn root_place(root: &Table) -> isize
     }
 }
 
-/// Returns whether the header of the table is printed.
+/// Returns `true` if the header of the table is printed.
 pub(crate) fn has_header(table: &Table, is_element: bool) -> bool
     ensures { result
         ≡ has_own_header is_element (fields_view table.now) (table_slots table.now) }

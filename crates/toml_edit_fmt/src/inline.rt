@@ -38,7 +38,7 @@ pub(crate) fn inline_layout(rules: &Rules, table: &InlineTable) -> Layout
     )
 }
 
-/// Returns whether there is a newline beside a pair.
+/// Returns `true` if there is a newline beside a pair.
 #[cycle(broken)]
 fn has_broken_pairs(slots: &Slots<Item>) -> bool
     ensures { result ≡ has_broken_slots (slots_view slots.now) }
@@ -52,7 +52,7 @@ fn has_broken_pairs(slots: &Slots<Item>) -> bool
     false
 }
 
-/// Returns whether there is a newline beside the pair, or beside one in the item.
+/// Returns `true` if there is a newline beside the pair, or beside one in the item.
 #[cycle(broken)]
 fn is_broken_slot(key: &Key, item: &Item) -> bool
     ensures { result ≡ broken_slot key.now (item_view item.now) }
@@ -63,14 +63,14 @@ fn is_broken_slot(key: &Key, item: &Item) -> bool
     is_broken_inside(item)
 }
 
-/// Returns whether there is a newline before the key or after the value.
+/// Returns `true` if there is a newline before the key or after the value.
 fn is_broken_pair(key: &Key, item: &Item) -> bool
     ensures { result ≡ is_broken_pair key.now (item_view item.now) }
 {
     is_broken(side_text(key.leaf_decor().prefix())) || is_broken_after(item)
 }
 
-/// Returns whether there is a newline after the value.
+/// Returns `true` if there is a newline after the value.
 fn is_broken_after(item: &Item) -> bool
     ensures { result ≡ is_broken (side_text (node_decor (item_view item.now)).suffix) }
 {
@@ -82,7 +82,7 @@ fn is_broken_after(item: &Item) -> bool
     }
 }
 
-/// Returns whether there is a newline beside a pair in the item.
+/// Returns `true` if there is a newline beside a pair in the item.
 #[cycle(broken)]
 fn is_broken_inside(item: &Item) -> bool
     ensures { result ≡ is_broken_inside (item_view item.now) }
@@ -95,7 +95,7 @@ fn is_broken_inside(item: &Item) -> bool
     }
 }
 
-/// Returns whether there is a newline beside a pair in a dotted inline table.
+/// Returns `true` if there is a newline beside a pair in a dotted inline table.
 #[cycle(broken)]
 fn is_broken_dotted(value: &Value) -> bool
     ensures { result ≡ is_broken_inside (value_view value.now) }
@@ -230,7 +230,7 @@ pub(crate) fn close_inline(
     }
 }
 
-/// Returns whether the slot at the place is the last with pairs, where the last may be.
+/// Returns `true` if the slot at the place is the last with pairs, where the last may be.
 #[inline(never)]
 pub(crate) fn ends_pairs(is_last: bool, slots: &Slots<Item>, at: usize) -> bool
     requires { at < length slots.now }
@@ -239,7 +239,7 @@ pub(crate) fn ends_pairs(is_last: bool, slots: &Slots<Item>, at: usize) -> bool
     is_last && !has_pairs_from(slots.as_slice(), at + 1)
 }
 
-/// Returns whether there are pairs in the slots from the place on.
+/// Returns `true` if there are pairs in the slots from the place on.
 fn has_pairs_from(entries: &[Slot<Item>], start: usize) -> bool
     requires { start ≤ length entries.now }
     ensures { result ≡ has_inside (slots_view (drop start entries.now)) }

@@ -105,7 +105,7 @@ pub(crate) fn header_indent(alloc: Global, rules: &Rules, keys: usize) -> Mem<St
     line_indent(alloc, rules, keys.saturating_sub(1))
 }
 
-/// Returns whether what is before statements is laid out.
+/// Returns `true` if what is before statements is laid out.
 fn lays_lines(rules: &Rules) -> bool
     ensures { result ≡ lays_lines (rules_of rules.now) }
 {

@@ -8,7 +8,7 @@ ghost use Rattle.toml_edit_fmt.specs.KindView.{holds_inside};
 use toml_edit_slots::Slots;
 use toml_edit_tree::{Item, Value};
 
-/// Returns whether the item is a line of its own: a value, but no dotted inline table.
+/// Returns `true` if the item is a line of its own: a value, but no dotted inline table.
 pub(crate) fn is_line(item: &Item) -> bool
     ensures { result ≡ is_line_node (item_view item.now) }
 {
@@ -20,7 +20,7 @@ pub(crate) fn is_line(item: &Item) -> bool
     }
 }
 
-/// Returns whether the value is a pair's, and no dotted inline table.
+/// Returns `true` if the value is a pair's, and no dotted inline table.
 pub(crate) fn is_pair(value: &Value) -> bool
     ensures { result ≡ is_line_node (value_view value.now) }
 {
@@ -35,7 +35,7 @@ pub(crate) fn is_pair(value: &Value) -> bool
     }
 }
 
-/// Returns whether there are pairs in the slots.
+/// Returns `true` if there are pairs in the slots.
 #[cycle(kind)]
 pub(crate) fn has_pairs(slots: &Slots<Item>) -> bool
     ensures { result ≡ has_inside (slots_view slots.now) }
@@ -49,7 +49,7 @@ pub(crate) fn has_pairs(slots: &Slots<Item>) -> bool
     false
 }
 
-/// Returns whether the item is a pair, or there are pairs in it.
+/// Returns `true` if the item is a pair, or there are pairs in it.
 #[cycle(kind)]
 pub(crate) fn holds_pairs(item: &Item) -> bool
     ensures { result ≡ holds_inside (item_view item.now) }
@@ -57,7 +57,7 @@ pub(crate) fn holds_pairs(item: &Item) -> bool
     is_line(item) || has_pairs_inside(item)
 }
 
-/// Returns whether there are pairs in an item that is no pair.
+/// Returns `true` if there are pairs in an item that is not a pair.
 #[cycle(kind)]
 pub(crate) fn has_pairs_inside(item: &Item) -> bool
     ensures { result ≡ has_inside_of (item_view item.now) }
@@ -70,7 +70,7 @@ pub(crate) fn has_pairs_inside(item: &Item) -> bool
     }
 }
 
-/// Returns whether there are pairs in a dotted inline table.
+/// Returns `true` if there are pairs in a dotted inline table.
 #[cycle(kind)]
 fn has_dotted_pairs(value: &Value) -> bool
     ensures { result ≡ has_inside_of (value_view value.now) }

@@ -38,14 +38,14 @@ pub(crate) fn text_of_raw(raw: &RawString) -> &str
     raw.as_str().unwrap_or("")
 }
 
-/// Returns whether the text has a newline.
+/// Returns `true` if the text has a newline.
 pub(crate) fn is_broken(text: &str) -> bool
     ensures { result ≡ is_broken text.now }
 {
     text.as_bytes().contains(&b'\n')
 }
 
-/// Returns whether a line of the text has a comment.
+/// Returns `true` if a line of the text has a comment.
 pub(crate) fn has_comments(text: &str) -> bool
     ensures { result ≡ not (is_empty (comments text.now)) }
 {
@@ -66,28 +66,28 @@ fn line_words(line: &str) -> &str
     split_white(split_first_line(line).0).1
 }
 
-/// Returns whether the line has a newline and nothing else but white space.
+/// Returns `true` if the line has a newline and nothing else but white space.
 fn is_empty_line(line: &str) -> bool
     ensures { result ≡ is_empty_line line.now }
 {
     is_broken(line) && has_no_words(line)
 }
 
-/// Returns whether the line is more than white space after the last newline.
+/// Returns `true` if the line is more than white space after the last newline.
 fn is_whole_line(line: &str) -> bool
     ensures { result ≡ is_whole_line line.now }
 {
     is_broken(line) || !has_no_words(line)
 }
 
-/// Returns whether the line is white space but for its newline.
+/// Returns `true` if the line is white space but for its newline.
 fn has_no_words(line: &str) -> bool
     ensures { result ≡ is_empty (line_words line.now) }
 {
     line_words(line).is_empty()
 }
 
-/// Returns whether a line of the text is empty.
+/// Returns `true` if a line of the text is empty.
 fn has_empty_line(text: &str) -> bool
     ensures { result ≡ has_empty_line text.now }
 {
@@ -108,7 +108,7 @@ fn made_newline(rules: &Rules) -> &'static str
     if rules.returns { "\r\n" } else { "\n" }
 }
 
-/// Returns whether lines are moved in, or to the left.
+/// Returns `true` if lines are moved in, or to the left.
 pub(crate) fn moves_lines(rules: &Rules) -> bool
     ensures { result ≡ moves_lines (rules_of rules.now).indentation }
 {
@@ -153,15 +153,15 @@ fn add_line(out: &mut String, indent: Option<&str>, held: &str, line: &str) -> M
     add_laid(out, indent, line)
 }
 
-/// Returns whether the line is laid out. With an indentation, white space after the last newline is
-/// left out.
+/// Returns `true` if the line is laid out. With an indentation, white space after the last newline
+/// is left out.
 fn is_kept(indent: Option<&str>, line: &str) -> bool
     ensures { result ≡ is_none (option_copied indent.entry) || is_whole_line line.now }
 {
     indent.is_none() || is_whole_line(line)
 }
 
-/// Returns whether the line is an empty one, of which at most one may be in a row.
+/// Returns `true` if the line is an empty one, of which at most one may be in a row.
 fn is_spaced(rules: &Rules, line: &str) -> bool
     ensures { result ≡ rules.now.empty_lines && is_empty_line line.now }
 {
@@ -294,7 +294,7 @@ fn line_break(rules: &Rules, text: &str) -> &'static str
     }
 }
 
-/// Returns whether the first byte is a carriage return (CR).
+/// Returns `true` if the first byte is a carriage return (CR).
 fn begins_with_return(bytes: &[u8]) -> bool
     ensures { result ≡ begins_with_return bytes.now }
 {

@@ -38,7 +38,7 @@ pub(crate) fn layout_by(is_asked: bool, has_any: bool, is_split: bool, closing: 
     }
 }
 
-/// Returns whether each value or pair gets a line.
+/// Returns `true` if each value or pair gets a line.
 fn is_by_lines(has_any: bool, is_split: bool, closing: &str) -> bool
     ensures { result ≡ by_lines has_any is_split closing.now }
 {

@@ -38,9 +38,9 @@ use toml_edit_repr::{Mem, RawString};
 /// Returns the document formatted by the rules.
 ///
 /// It means the same. A document that was read fits again, has the same comments in the same order,
-/// each with what it belongs to, and formatted again it stays. Keys and values are spelled as they
-/// were, and the text stays at places that no rule asked for is about. So it is of an edited one that
-/// may be formatted, as [`readings`] says of those that were read. Other promises are [`laws`].
+/// each with what it belongs to, and stays if it is formatted again. Keys and values keep their
+/// spelling, and places without a rule stay byte for byte. All of this holds of a document that was
+/// read ([`readings`]); for one that was edited and may be formatted see [`laws`].
 ///
 /// # Errors
 ///

@@ -15,28 +15,28 @@ pub enum Indentation {
     ByDepth,
 }
 
-/// What a formatter is asked for. A rule that is off leaves the places as they are that it is
-/// about.
+/// What a formatter is asked for. A rule that is off, or `None`, leaves its places as they are.
 #[derive(Clone, Copy, Debug, PartialEq, Eq)]
 pub struct Rules {
     /// One space on both sides of `=`.
     pub equals: bool,
     /// No white space at dots and inside the brackets of headers.
     pub dots: bool,
-    /// So many spaces before the `#` of a comment that is after something on its line. In arrays it
-    /// needs `arrays` too, and in inline tables `inline_tables`.
+    /// This many spaces before the `#` of a comment that is after something on its line. In arrays
+    /// it needs `arrays` too, and in inline tables `inline_tables`. The default is 1.
     pub before_comment: Option<usize>,
     /// At most one empty line in a row, one before a header, and none at the ends of the text. In
     /// arrays and inline tables it needs their rules too.
     pub empty_lines: bool,
     /// How far lines and headers are indented.
     pub indentation: Indentation,
-    /// The spaces of a unit of indentation.
+    /// How many spaces a unit of indentation has, by default 2.
     pub unit: usize,
     /// Arrays on one line, or, if they have a newline or a comment, with a line for each value and
     /// a comma after the last.
     pub arrays: bool,
-    /// An array on a line that would have more bytes gets a line for each value.
+    /// An array on a line that would have more bytes gets a line for each value. The default is 80;
+    /// with `None` no array is split for its length.
     pub width: Option<usize>,
     /// Inline tables on one line, or, if they have a newline or a comment, with a line for each
     /// pair.

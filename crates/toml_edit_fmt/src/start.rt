@@ -66,7 +66,7 @@ fn start_decor(alloc: Global, rules: &Rules, decor: &mut Decor) -> Mem<()>
     set_leading(alloc, rules, true, indent.as_str(), decor)
 }
 
-/// Formats what is before the first line of the slots of a table. Returns whether there is one.
+/// Formats what is before the first line of the slots of a table. Returns `true` if there is one.
 #[cycle(lines)]
 fn start_lines(alloc: Global, rules: &Rules, slots: &mut Slots<Item>) -> Mem<bool>
     ensures slots { OnOk result
@@ -85,7 +85,7 @@ fn start_lines(alloc: Global, rules: &Rules, slots: &mut Slots<Item>) -> Mem<boo
     Ok(false)
 }
 
-/// Formats what is before the first line in a dotted table or inline table. Returns whether there
+/// Formats what is before the first line in a dotted table or inline table. Returns `true` if there
 /// is one.
 #[cycle(lines)]
 fn start_item(alloc: Global, rules: &Rules, item: &mut Item) -> Mem<bool>
@@ -101,7 +101,7 @@ fn start_item(alloc: Global, rules: &Rules, item: &mut Item) -> Mem<bool>
     }
 }
 
-/// Formats what is before the first line in a dotted table. Returns whether there is one.
+/// Formats what is before the first line in a dotted table. Returns `true` if there is one.
 #[cycle(lines)]
 fn start_dotted(alloc: Global, rules: &Rules, table: &mut Table) -> Mem<bool>
     ensures item { OnOk result
@@ -115,7 +115,7 @@ fn start_dotted(alloc: Global, rules: &Rules, table: &mut Table) -> Mem<bool>
     Ok(false)
 }
 
-/// Formats what is before the first line in a dotted inline table. Returns whether there is one.
+/// Formats what is before the first line in a dotted inline table. Returns `true` if there is one.
 fn start_value(alloc: Global, rules: &Rules, value: &mut Value) -> Mem<bool>
     ensures item { OnOk result
         (value_view value.new ≡ started_item (rules_of rules.now) (value_view value.old)) }
@@ -132,7 +132,7 @@ fn start_value(alloc: Global, rules: &Rules, value: &mut Value) -> Mem<bool>
     }
 }
 
-/// Formats what is before the first line in a dotted inline table. Returns whether there is one.
+/// Formats what is before the first line in a dotted inline table. Returns `true` if there is one.
 fn start_inline(alloc: Global, rules: &Rules, table: &mut InlineTable) -> Mem<bool>
     ensures item { OnOk result
         (inline_node (inline_view table.new)
@@ -142,7 +142,7 @@ fn start_inline(alloc: Global, rules: &Rules, table: &mut InlineTable) -> Mem<bo
     start_inside(alloc, rules, &mut table.items)
 }
 
-/// Formats what is before the first line of the slots in a dotted inline table. Returns whether
+/// Formats what is before the first line of the slots in a dotted inline table. Returns `true` if
 /// there is one.
 #[cycle(parts)]
 fn start_inside(alloc: Global, rules: &Rules, slots: &mut Slots<Item>) -> Mem<bool>
@@ -162,8 +162,8 @@ fn start_inside(alloc: Global, rules: &Rules, slots: &mut Slots<Item>) -> Mem<bo
     Ok(false)
 }
 
-/// Formats what is before the first line in an item of a dotted inline table. Returns whether there
-/// is one.
+/// Formats what is before the first line in an item of a dotted inline table. Returns `true` if
+/// there is one.
 #[cycle(parts)]
 fn start_part(alloc: Global, rules: &Rules, item: &mut Item) -> Mem<bool>
     ensures item { OnOk result
@@ -178,8 +178,8 @@ fn start_part(alloc: Global, rules: &Rules, item: &mut Item) -> Mem<bool>
     }
 }
 
-/// Formats what is before the first line in a value of a dotted inline table. Returns whether there
-/// is one.
+/// Formats what is before the first line in a value of a dotted inline table. Returns `true` if
+/// there is one.
 #[cycle(parts)]
 fn start_part_value(alloc: Global, rules: &Rules, value: &mut Value) -> Mem<bool>
     ensures item { OnOk result
@@ -197,7 +197,7 @@ fn start_part_value(alloc: Global, rules: &Rules, value: &mut Value) -> Mem<bool
     }
 }
 
-/// Formats what is before the first line in a table in a dotted inline table. Returns whether
+/// Formats what is before the first line in a table in a dotted inline table. Returns `true` if
 /// there is one.
 #[cycle(parts)]
 fn start_part_table(alloc: Global, rules: &Rules, table: &mut Table) -> Mem<bool>
@@ -209,8 +209,8 @@ fn start_part_table(alloc: Global, rules: &Rules, table: &mut Table) -> Mem<bool
     start_inside(alloc, rules, &mut table.slots)
 }
 
-/// Formats what is before the first line in an inline table in a dotted one. Returns whether there
-/// is one.
+/// Formats what is before the first line in an inline table in a dotted one. Returns `true` if
+/// there is one.
 #[cycle(parts)]
 fn start_part_inline(alloc: Global, rules: &Rules, table: &mut InlineTable) -> Mem<bool>
     ensures item { OnOk result
@@ -414,7 +414,7 @@ fn start_header_decor(alloc: Global, rules: &Rules, keys: usize, decor: &mut Dec
     set_leading(alloc, rules, true, indent.as_str(), decor)
 }
 
-/// Returns whether the table is that of the first header.
+/// Returns `true` if the table is that of the first header.
 fn is_first(target: Target, is_element: bool, search: Search, table: &Table) -> bool
     ensures { (r : TheRules) → result
         ≡ is_first r target.place is_element (fields_view table.now) (table_slots table.now)

@@ -86,7 +86,7 @@ fn format_items(alloc: Global, inside: &Inside, comma: bool, items: &mut Vec<Ite
     Ok(())
 }
 
-/// Formats a value of an array, and what is before and after it. Returns whether no value was
+/// Formats a value of an array, and what is before and after it. Returns `true` if no value was
 /// formatted yet.
 #[cycle(value)]
 fn format_item(
@@ -161,7 +161,7 @@ struct PairEnds {
     is_last: bool,
 }
 
-/// Formats the pairs of the slots. Returns whether no pair was formatted yet.
+/// Formats the pairs of the slots. Returns `true` if no pair was formatted yet.
 #[cycle(value)]
 fn format_pairs(
     alloc: Global,
@@ -189,7 +189,7 @@ fn format_pairs(
     Ok(is_first)
 }
 
-/// Formats the item of a slot: a pair's value, or the pairs in it. Returns whether no pair was
+/// Formats the item of a slot: a pair's value, or the pairs in it. Returns `true` if no pair was
 /// formatted yet.
 #[cycle(value)]
 fn format_pair(

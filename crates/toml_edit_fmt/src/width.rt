@@ -14,7 +14,7 @@ use toml_edit_repr::Mem;
 use toml_edit_slots::Slots;
 use toml_edit_tree::{Array, Item, Value};
 
-/// Returns whether the array is wider than what is left of a line.
+/// Returns `true` if the array is wider than what is left of a line.
 pub(crate) fn is_wider(alloc: Global, array: &Array, left: usize) -> Mem<bool>
     ensures { IfOk result
         (λ b. b ≡ nat_lt left (2 + items_width true (array_view array.now).items)) }
@@ -89,7 +89,7 @@ fn after_items(alloc: Global, items: &Vec<Item>, left: Option<usize>) -> Mem<Opt
     Ok(left)
 }
 
-/// Returns whether no value is up to this item.
+/// Returns `true` if no value is up to this item.
 fn is_still_first(is_first: bool, item: &Item) -> bool
     ensures { result ≡ is_first && not (is_value_node (item_view item.now)) }
 {
@@ -180,7 +180,7 @@ fn after_line(alloc: Global, item: &Item, left: Option<usize>) -> Mem<Option<usi
     }
 }
 
-/// Returns what is left after the pairs of an item that is no line.
+/// Returns what is left after the pairs of an item that is not a line.
 #[cycle(width)]
 fn after_inside(alloc: Global, item: &Item, width: usize, left: Option<usize>) -> Mem<Option<usize>>
     ensures { IfOk result

@@ -147,7 +147,7 @@ fn put_pair<S: Sink>(out: &mut S, key: &Key, item: &Item)
     put_item(out, item)
 }
 
-/// Returns `true` if the item is no placeholder.
+/// Returns `true` if the item is not a placeholder.
 fn is_filled(item: &Item) -> bool
     ensures { result ≡ is_item (item_view item.now) }
 {

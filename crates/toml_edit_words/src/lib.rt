@@ -19,7 +19,7 @@ use toml_edit::{FromStrWith, Key, ParseFault, ParseOptions, ParsePath, Value};
 ///
 /// # Errors
 ///
-/// Returns `ParseFault::Toml` if the word is no path, and `ParseFault::Memory` if out of memory.
+/// Returns `ParseFault::Toml` if the word is not a path, and `ParseFault::Memory` if out of memory.
 pub fn path_in(alloc: Global, word: &str) -> Result<Vec<Key>, ParseFault>
     ensures spelled { IfOk result (λ keys. SpellsPath word.now (names keys.items)) }
     ensures only { (path : List Text) → SpellsPath word.now path
@@ -33,7 +33,8 @@ pub fn path_in(alloc: Global, word: &str) -> Result<Vec<Key>, ParseFault>
 ///
 /// # Errors
 ///
-/// Returns `ParseFault::Toml` if the word is no value, and `ParseFault::Memory` if out of memory.
+/// Returns `ParseFault::Toml` if the word is not a value, and `ParseFault::Memory` if out of
+/// memory.
 pub fn value_in(alloc: Global, word: &str, options: ParseOptions) -> Result<Value, ParseFault>
     ensures spelled { IfOk result
         (λ value. SpellsValue (version_of options) word.now (value_view value)) }
