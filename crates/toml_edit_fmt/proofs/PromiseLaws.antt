@@ -5,12 +5,13 @@ use Rattle.std.proofs.lemmas.Bool.{and_parts}
 use Rattle.toml_edit_model.specs.Accepted.{AcceptedAs}
 use Rattle.toml_edit_model.specs.Fits.{FitsIn}
 use Rattle.toml_edit_model.specs.Meaning.{SameFacts, meaning}
-use Rattle.toml_edit_model.specs.Mode.{Mode, is_exact}
+use Rattle.toml_edit_model.specs.Mode.{Mode, is_exact, plain}
 use Rattle.toml_edit_model.specs.Normal.{has_open_end}
 use Rattle.toml_edit_model.specs.Print.{document_in, print_in}
 use Rattle.toml_edit_model.specs.Shown.{shown_meaning}
+use Rattle.toml_edit_model.specs.Syntax.{Document}
 use Rattle.toml_edit_model.specs.Tree.{Tree}
-use Rattle.toml_edit.specs.DocumentView.{IsPrintedAs, mode_owned, open_owned, print_of, tree_owned}
+use Rattle.toml_edit.specs.DocumentView.{IsPlain, IsPrintedAs, mode_owned, open_owned, print_of, tree_owned}
 use Rattle.toml_edit.specs.declared.document.DocumentMut.{DocumentMut}
 use Rattle.toml_edit_fmt_laws.specs.BareKeys.{bared, bared_document, BaredFits, BaredLaysOut, BaredRemarks, BaredShowsTheSame, BaredStaysMade, FormattedStaysBared, PrintsBared}
 use Rattle.toml_edit_fmt_laws.specs.FormattedTree.{formatted}
@@ -18,7 +19,7 @@ use Rattle.toml_edit_fmt_laws.specs.Places.{KeepsPlaces}
 use Rattle.toml_edit_fmt_laws.specs.Remarks.{remarks}
 use Rattle.toml_edit_fmt_laws.specs.Rules.{Rules}
 use Rattle.toml_edit_fmt_laws.specs.TreeLaws.{FormattedFits, FormattedPrints, FormattedTwice, PrintsFormatted, ReadLaysOut, ReadMayBeOpen, ShowsTheSame}
-use Rattle.toml_edit_fmt.specs.Promises.{Formats, MayBeFormatted, ReadMayBeFormatted, printed}
+use Rattle.toml_edit_fmt.specs.Promises.{Formats, FormatsRead, MayBeFormatted, ReadMayBeFormatted, printed}
 use Rattle.toml_edit_fmt.specs.RulesView.{asked_keys, formatted_by, rules_of}
 use Rattle.toml_edit_fmt.specs.declared.rules.Rules as code_rules
 
@@ -134,3 +135,33 @@ read_may_be_formatted lays ends mode version text t is_open is =
       lays_out = lays mode d is.reading.accepted.0.0 t of;
       ends = λ e. ends mode d is.reading.accepted.0.0 t of (and_parts (is_exact mode) (has_open_end d.statements) (sym is.open_end ∙ e)).1;
     }
+
+-- a document that was read, in the usual way
+module _ (q : code_rules.Rules) (old new : DocumentMut) (may : ReadMayBeFormatted) (formats : Formats q old new) where
+  printed-plain : IsPlain old → printed old ≡ document_in plain false (tree_owned old)
+  printed-plain is =
+      ap (λ (m : Mode). document_in m (open_owned old) (tree_owned old)) is.0
+      ∙ ap (λ (o : Bool). document_in plain o (tree_owned old)) is.1
+
+  pub formats-read : FormatsRead q old new
+  formats-read version text read is lf =
+      let here : MayBeFormatted (mode_owned old) (open_owned old) (tree_owned old) =
+      subst (λ (m : Mode). MayBeFormatted m (open_owned old) (tree_owned old)) (sym is.0)
+      (may plain version text (tree_owned old) (open_owned old) read) in
+      let f = formats here (λ _. lf) in
+      let same = printed-plain is in
+      record {
+        tree = tree_owned old;
+        reading = read.reading;
+        document = printed new;
+        accepted = f.accepted;
+        means = f.means;
+        comments = f.comments ∙ ap remarks same;
+        places = subst (λ (x : Document). KeepsPlaces (rules_of q) x (printed new))
+            (ap (λ (x : Document). if q.keys then bared_document x else x) same) f.places;
+      }
+
+pub result_reads : {E : Type 0} (q : code_rules.Rules) (old : DocumentMut) (res : Result DocumentMut E)
+    → ReadMayBeFormatted → IfOk res (λ d. Formats q old d) → IfOk res (λ d. FormatsRead q old d)
+result_reads q old (Ok d) may formats = formats-read q old d may formats
+result_reads q old (Err e) may formats = tt

@@ -25,7 +25,7 @@ mod width;
 ghost use Rattle.std.specs.Prelude.{◌≡◌, IfOk, OnOk};
 ghost use Rattle.toml_edit.specs.DocumentView.{IsPrintedAs, tree_owned};
 ghost use Rattle.toml_edit_fmt_laws.specs.FormattedTree.{formatted};
-ghost use Rattle.toml_edit_fmt.specs.Promises.{Formats, ReadMayBeFormatted};
+ghost use Rattle.toml_edit_fmt.specs.Promises.{Formats, FormatsRead, ReadMayBeFormatted};
 ghost use Rattle.toml_edit_fmt.specs.RulesView.{asked_keys, formatted_by, rules_of};
 ghost use Rattle.toml_edit_model.specs.Shown.{shown_meaning};
 
@@ -52,10 +52,12 @@ pub fn format(alloc: Global, document: DocumentMut, rules: &Rules) -> Mem<Docume
     ensures means { IfOk result
         (λ d. shown_meaning (tree_owned d) ≡ shown_meaning (tree_owned document)) }
     ensures formats { IfOk result (λ d. Formats rules.now document d) }
+    ensures read { IfOk result (λ d. FormatsRead rules.now document d) }
 {
     bared_trees();
     formatted_trees();
     formatted_prints();
+    formatted_reads();
     format_tree(alloc, document, rules)
 }
 

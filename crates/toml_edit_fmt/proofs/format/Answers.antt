@@ -1,5 +1,5 @@
 -- What formatting promises follows from the laws.
-use Rattle.toml_edit_fmt.proofs.PromiseLaws.{BaredLaws, result_formats, result_shows}
+use Rattle.toml_edit_fmt.proofs.PromiseLaws.{BaredLaws, read_may_be_formatted, result_formats, result_reads, result_shows}
 use Rattle.toml_edit_fmt.proofs.format.Goals as goal
 
 pub returns-clause-means : goal.returns-clause-means
@@ -30,3 +30,8 @@ returns-clause-formats c =
     } in
     result_formats laws c.args.rules.now c.args.document c.format_tree.result c.format_tree.ensures.tree c.format_tree.ensures.printed
     c.formatted_trees.ensures.fits c.formatted_prints.ensures.prints c.formatted_prints.ensures.twice
+
+pub returns-clause-read : goal.returns-clause-read
+returns-clause-read c =
+    result_reads c.args.rules.now c.args.document c.format_tree.result
+    (read_may_be_formatted c.formatted_reads.ensures.lays_out c.formatted_reads.ensures.ends) (returns-clause-formats c)
