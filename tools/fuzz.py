@@ -15,7 +15,7 @@ what is built, which takes some two minutes each, and what was found. It wants t
 - `calls`: up to eight calls on one document, as the steps of a row of `test_rows_tables`. The first byte says how many, and each has a byte
   for the call and one for each argument; behind them is the document. Where it fits after the calls, its print is accepted.
 
-`tests/corpus` has small inputs, each of which enters something that the others do not; `exact` has those of `print`. Ends with status 1 if
+`fuzz/corpus` has small inputs, each of which enters something that the others do not; `exact` has those of `print`. Ends with status 1 if
 an input crashes the program, takes more than ten seconds, or breaks what is said above; the input is kept.
 """
 import concurrent.futures
@@ -29,7 +29,7 @@ import unproved
 from unproved import TOP
 
 TARGETS = ("print", "exact", "set", "calls")
-CORPUS = {target: "%s/tests/corpus/%s" % (TOP, "print" if target == "exact" else target) for target in TARGETS}
+CORPUS = {target: "%s/fuzz/corpus/%s" % (TOP, "print" if target == "exact" else target) for target in TARGETS}
 PROGRAMS = {target: "test_rows_tables" if target == "calls" else "tomled" for target in TARGETS}
 PACKAGES = "Debian's packages clang and libclang-rt-14-dev"
 WATCHED = ["-O1", "-fsanitize=address", "-fsanitize-coverage=inline-8bit-counters,pc-table,trace-cmp"]
@@ -370,8 +370,8 @@ def main():
         with concurrent.futures.ThreadPoolExecutor(2) as pool:
             results = list(pool.map(lambda target: fuzz(fuzzers[PROGRAMS[target]], target, folder, seconds), targets))
         if folder == made and not all(is_well for is_well, _ in results):
-            shutil.copytree(made, TOP + "/fuzz-found", ignore=shutil.ignore_patterns("*.bc", "*.o", "new-*"), dirs_exist_ok=True)
-            print("the inputs are kept in fuzz-found")
+            shutil.copytree(made, TOP + "/fuzz/found", ignore=shutil.ignore_patterns("*.bc", "*.o", "new-*"), dirs_exist_ok=True)
+            print("the inputs are kept in fuzz/found")
     print("%s: %s" % ("corpus" if seconds is None else "%d seconds each" % seconds, ", ".join(
         "%s %d runs, %s" % (target, runs, "no fault" if is_well else "WRONG") for target, (is_well, runs) in zip(targets, results))))
     return 0 if all(is_well for is_well, _ in results) else 1
