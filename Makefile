@@ -53,7 +53,7 @@ install: ## proves both programs and the library for C, and installs them, with 
 coverage: ## lists the functions that no row or test enters
 	tools/coverage.py
 
-planted: ## plants ten bugs, each of which a tool must find
+planted: ## plants bugs, each of which has to be found
 	tools/planted.py
 
 bench: ## counts instructions and heap (needs the proved program and valgrind)

@@ -12,19 +12,14 @@ import sys
 import tempfile
 import time
 
+import run
+
+if sys.argv[1:] == ["--help"]:
+    sys.exit(print(__doc__.strip()))
 TOP = os.path.dirname(os.path.dirname(os.path.abspath(__file__)))
 sys.path.insert(0, TOP + "/bindings/python")
 import toml_edit  # noqa: E402
 from toml_edit import _core  # noqa: E402
-
-
-def documents():
-    """The functions of bench/run.py that make documents."""
-    with open(TOP + "/bench/run.py", encoding="utf-8") as file:
-        made = {"__file__": file.name}
-        # Its last line runs it.
-        exec(compile(file.read().rsplit("main()", 1)[0], file.name, "exec"), made)  # pylint: disable=exec-used
-    return made
 
 
 def mean(count, call):
@@ -104,8 +99,7 @@ def main():
         subprocess.run(words, cwd=rust_folder, env=env, check=True)
         program = folder + "/target/release/examples/time_set"
         print("The library is %s." % toml_edit.built())
-        made = documents()
-        for title, text, count in (("manifest", made["manifest"](3000), 200), ("lock file", made["lock"](1_000_000), 20)):
+        for title, text, count in (("manifest", run.manifest(3000), 200), ("lock file", run.lock(1_000_000), 20)):
             time_kind(title, text, count, folder, program, given.get("--beside"), tomlkit)
     return None
 

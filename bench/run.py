@@ -428,4 +428,5 @@ def main():
     print_kind(program, measure, base, "one table of many keys", [("%d keys" % keys, many_keys(keys)) for keys in KEYS])
 
 
-main()
+if __name__ == "__main__":
+    sys.exit(main())

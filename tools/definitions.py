@@ -6,28 +6,33 @@ A change of a definition is checked in the definition's own crate, whose worked 
 `toml_edit_laws`. It is refused by the first that is no longer proved; after the name of that crate come the first examples and lemmas that
 no longer hold. A change that the checker can't read shows nothing. The last line counts, and the status is 1 where a change is still proved
 or can't be read.
-`tools/definitions.py --list` proves nothing: it prints the changes that can't be made, since their old text isn't found once in their file.
+`tools/definitions.py --list` proves nothing: it prints the changes that can't be made, since their old text isn't found once in their file,
+and the definitions of the base, what is accepted, what it means and what is printed, that have fewer than two changes.
 """
-import os, re, shutil, subprocess, sys, tempfile
+import re, subprocess, sys, tempfile
 
-TOP = os.path.dirname(os.path.dirname(os.path.abspath(__file__)))
+import planting
+
 LAWS = "toml_edit_laws"
-FIELDS = ("title", "file", "old", "new")
+BASE = ["toml_edit_model/specs/%s.antt" % name for name in ("Accepted", "Meaning", "Print")]
 
 
 def changes():
-    """The changes, each a dictionary of its four fields."""
-    with open(TOP + "/tools/changes", encoding="utf-8") as file:
-        blocks = re.split(r"\n\n+", file.read().strip())[1:]
-    found = [dict(line.split(": ", 1) for line in block.split("\n")) for block in blocks]
-    return [{field: change[field].replace("\\n", "\n") for field in FIELDS} for change in found]
+    """The changes, in which `\\n` is a newline."""
+    return [{field: text.replace("\\n", "\n") for field, text in change.items()} for change in planting.listed("changes")]
 
 
-def changed(change):
-    """The file with the change made, or `None` where its old text isn't found once."""
-    with open(TOP + "/crates/" + change["file"], encoding="utf-8") as file:
-        text = file.read()
-    return text.replace(change["old"], change["new"]) if text.count(change["old"]) == 1 else None
+def few_changes(asked):
+    """The definitions of the base that have fewer than two changes, each with its file and how many it has."""
+    for file in BASE:
+        with open(planting.TOP + "/crates/" + file, encoding="utf-8") as source:
+            text = source.read()
+        places = [text.index(change["old"]) for change in asked if change["file"] == file]
+        starts = [(it.start(), it[1]) for it in re.finditer(r"\bpub (\w+) :", text) if re.search(r"(?m)^ *%s\b[^:;\n]*=[^;\n]*$" % it[1], text)]
+        for (start, name), (end, _) in zip(starts, starts[1:] + [(len(text), "")]):
+            count = sum(start <= place < end for place in places)
+            if count < 2:
+                yield file, name, count
 
 
 def check(copy, crate):
@@ -51,8 +56,9 @@ def tried(copy, change):
     path = copy + "/crates/" + change["file"]
     with open(path, encoding="utf-8") as file:
         before = file.read()
+    after = planting.changed(change, copy)
     with open(path, "w", encoding="utf-8") as file:
-        file.write(changed(change))
+        file.write(after)
     try:
         for crate in dict.fromkeys((change["file"].split("/")[0], LAWS)):
             is_proved, printed = check(copy, crate)
@@ -70,16 +76,16 @@ def main():
     wanted = sys.argv[1] if len(sys.argv) > 1 else ""
     is_list = wanted == "--list"
     asked = [change for change in changes() if is_list or wanted in change["file"] or wanted in change["title"]]
-    lost = [change for change in asked if changed(change) is None]
+    lost = [change for change in asked if planting.changed(change) is None]
     for change in lost:
         print("can't be made: %s: %s" % (change["file"], change["title"]))
+    for found in few_changes(asked) if is_list and not lost else []:
+        print("%s: %s has %d changes" % found)
     if is_list or lost:
         print("%d changes, of which %d can't be made" % (len(asked), len(lost)))
         return 1 if lost else 0
     with tempfile.TemporaryDirectory() as copy:
-        for name in ("crates.txt", "HANDLES"):
-            shutil.copy(TOP + "/" + name, copy)
-        shutil.copytree(TOP + "/crates", copy + "/crates", ignore=shutil.ignore_patterns("out"))
+        planting.copied(copy)
         if not check(copy, LAWS)[0]:
             print("%s isn't proved without a change" % LAWS)
             return 1

@@ -7,6 +7,7 @@ become CR LF, a mark is put in front, the last newline is left out. What is writ
 """
 import json
 import random
+import sys
 
 COUNT = 500
 chance = random.Random(20260101)
@@ -272,10 +273,18 @@ def document():
     return settled, other
 
 
-written = set()
-while len(written) < COUNT:
-    settled, other = document()
-    # Short texts come more than once.
-    if other not in written:
-        written.add(other)
-        print(json.dumps({"text": other, "prints": settled, "settles": True, "fits": True}, ensure_ascii=False))
+def main():
+    if sys.argv[1:] == ["--help"]:
+        return print(__doc__.strip())
+    written = set()
+    while len(written) < COUNT:
+        settled, other = document()
+        # Short texts come more than once.
+        if other not in written:
+            written.add(other)
+            print(json.dumps({"text": other, "prints": settled, "settles": True, "fits": True}, ensure_ascii=False))
+    return 0
+
+
+if __name__ == "__main__":
+    sys.exit(main())

@@ -7,6 +7,7 @@ same definition of three lines or more in two .antt files of specs.
 import glob
 import os
 import re
+import sys
 
 from sources import TOP, read
 
@@ -64,6 +65,13 @@ def pairs():
     return found
 
 
-if __name__ == "__main__":
+def main():
+    if sys.argv[1:] == ["--help"]:
+        return print(__doc__.strip())
     for (one, other), (first, second, text) in sorted(pairs().items()):
         print("%s:%d and %s:%d: %s" % (one, first, other, second, text))
+    return 0
+
+
+if __name__ == "__main__":
+    sys.exit(main())

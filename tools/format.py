@@ -42,6 +42,7 @@ CASES = [
     (["no-indentation"], "  a = 1\n [t]\n   # c\n\tb = 2\n", "  a = 1\n\n [t]\n   # c\n\tb = 2\n"),
     ([], "a = [ 1,2 , 3, ]\nb = [ ]\nc = [\n]\n", "a = [1, 2, 3]\nb = []\nc = []\n"),
     ([], "a = [ 1, # one\n\n\n2\n# two\n, 3 # three\n]\n", "a = [\n  1, # one\n\n  2\n  # two\n  ,\n  3, # three\n]\n"),
+    ([], "a = [\n[1\n# c\n, 2]]\n", "a = [\n  [\n    1\n    # c\n    ,\n    2,\n  ],\n]\n"),
     ([], "a = [ # head\n]\n", "a = [ # head\n]\n"),
     ([], "a = [[\n1,[2,\n3]]]\n", "a = [[\n  1,\n  [\n    2,\n    3,\n  ],\n]]\n"),
     (["narrow"], 'name = ["one", "two", "three"]\n', 'name = [\n  "one",\n  "two",\n  "three",\n]\n'),

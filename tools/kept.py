@@ -3,60 +3,16 @@
 
     tools/kept.py [MB]     a document of so many megabytes (100)
 
-It builds the program `test_tools` unproved (`tools/unproved.py`) and counts what it allocates, by a C library that comes before libc, so it
-wants a C compiler too. What a document of one number leaves is taken off. It fails if a value that is detached leaves more than its texts, or
+It builds the program `test_tools` unproved (`tools/unproved.py`) and counts what it allocates, as tools/counts.py does, so it wants a C
+compiler too. What a document of one number leaves is taken off. It fails if a value that is detached leaves more than its texts, or
 another one more than the source, or if the program prints another value.
 """
-import os
-import subprocess
 import sys
 import tempfile
 
+import counts
 import unproved
 
-COUNTING = r"""
-#define _GNU_SOURCE
-#include <dlfcn.h>
-#include <malloc.h>
-#include <stddef.h>
-#include <stdio.h>
-
-static size_t now, most;
-
-static void add(void *block) {
-    now += malloc_usable_size(block);
-    if (now > most) most = now;
-}
-
-void *malloc(size_t size) {
-    static void *(*real)(size_t);
-    if (!real) real = dlsym(RTLD_NEXT, "malloc");
-    void *block = real(size);
-    add(block);
-    return block;
-}
-
-void free(void *block) {
-    static void (*real)(void *);
-    if (!real) real = dlsym(RTLD_NEXT, "free");
-    now -= malloc_usable_size(block);
-    real(block);
-}
-
-void *realloc(void *block, size_t size) {
-    static void *(*real)(void *, size_t);
-    if (!real) real = dlsym(RTLD_NEXT, "realloc");
-    size_t before = malloc_usable_size(block);
-    void *moved = real(block, size);
-    if (moved) {
-        now -= before;
-        add(moved);
-    }
-    return moved;
-}
-
-__attribute__((destructor)) static void tell(void) { fprintf(stderr, "%zu %zu\n", now, most); }
-"""
 VALUE = "a value of more than fourteen bytes"
 # What may be left beside the source, or without it.
 SMALL = 10000
@@ -69,11 +25,10 @@ def text(value, size):
 
 def run(program, counting, words, value, size):
     """The bytes that are left at the end, and the most that there were."""
-    document = text(value, size)
-    ran = subprocess.run([program, "kept", *words], input=document, capture_output=True, text=True, env=dict(os.environ, LD_PRELOAD=counting))
-    if ran.returncode or ran.stdout != " %s\n" % value:
-        sys.exit("kept %s: status %d, printed %r\n%s" % (" ".join(words), ran.returncode, ran.stdout, ran.stderr))
-    return map(int, ran.stderr.split())
+    counted, wrote = counts.memory(counting, [program, "kept", *words], text(value, size))
+    if wrote != " %s\n" % value:
+        sys.exit("kept %s printed %r" % (" ".join(words), wrote))
+    return counted["live"], counted["most"]
 
 
 def main():
@@ -82,10 +37,7 @@ def main():
     size = int(sys.argv[1] if sys.argv[1:] else 100) * 1000000
     faults = 0
     with tempfile.TemporaryDirectory() as folder:
-        program, counting = folder + "/test_tools", folder + "/counting.so"
-        with open(folder + "/counting.c", "w", encoding="utf-8") as file:
-            file.write(COUNTING)
-        subprocess.run(["cc", "-O1", "-shared", "-fPIC", "-o", counting, folder + "/counting.c"], check=True)
+        program, counting = folder + "/test_tools", counts.library(folder)
         unproved.build("test_tools", program)
         for words, bound in (([], size + SMALL), (["detach"], SMALL)):
             alone, _ = run(program, counting, words, "1", 0)
