@@ -3,7 +3,7 @@ use Rattle.std.proofs.Common.{◌≡◌, Bool, true, List, [], ◌∷◌, ◌++�
 use Rattle.std.specs.Prelude.{Option, Some, None, Result, Ok, Err}
 use Rattle.std.specs.List.{list_all}
 use Rattle.std.proofs.lemmas.List.Folds.{list_all-append}
-use Rattle.file_replace.specs.Events.{Text, Event, NotesFound, done, failed, found, leads_to, locked, more}
+use Rattle.file_replace.specs.Events.{Text, Event, done, found, locked, more}
 use Rattle.file_replace.specs.Replacing.{ReadsLocked}
 use Rattle.toml_edit_files.specs.Folders.{IsHeld, MayBegin, OnlyLooks, Stops, StopsPutting, leads, looks_at}
 use Rattle.toml_edit_files.specs.Stops.{IsFor}
@@ -33,19 +33,6 @@ looks_none old = looks_same old old refl
 pub looks_then : (a b c : Option (List Event)) → OnlyLooks a b → OnlyLooks b c → OnlyLooks a c
 looks_then a b c (es, p, e) (fs, q, f) =
     (es ++ fs, all-append (λ e. looks_at e.call) es fs p q, f ∙ ap (more fs) e ∙ more_more es fs a)
-
-pub looks_found : {A E : Type 0} (name : Text) (text : A → Text) (old new : Option (List Event)) (r : Result A E)
-    → NotesFound old new (λ x. found name (text x)) r → OnlyLooks old new
-looks_found name text old new (Ok x) h = (_, refl, h)
-looks_found name text old new (Err e) h = ([], refl, h)
-
-pub looks_led : {A E : Type 0} (name : Text) (target : A → Text) (old new : Option (List Event)) (r : Result A E)
-    → NotesFound old new (λ x. leads_to name (target x)) r → OnlyLooks old new
-looks_led name target old new (Ok x) h = (_, refl, h)
-looks_led name target old new (Err e) h = ([], refl, h)
-
-pub looks_leading : (file name : Text) (old : Option (List Event)) → OnlyLooks old (leads file name old)
-looks_leading file name old = (done (leads_to file name) ∷ [], refl, refl)
 
 pub looks_locked : {A E : Type 0} (name : Text) (text : A → Text) (old new : Option (List Event)) (r : Result A E)
     → ReadsLocked name text old new r → OnlyLooks old new

@@ -9,14 +9,13 @@ use Rattle.toml_edit.specs.DocumentView.{IsPlain, mode_owned, open_owned, print_
 use Rattle.toml_edit.specs.Documents.{MeansWhatIsShown}
 use Rattle.toml_edit.specs.declared.document.DocumentMut.{DocumentMut}
 use Rattle.toml_edit_model.specs.Accepted.{AcceptedAs}
-use Rattle.toml_edit_model.specs.Fits.{FitsIn}
 use Rattle.toml_edit_model.specs.Mode.{Mode, plain}
 use Rattle.toml_edit_model.specs.Print.{document_in, print_in}
 use Rattle.toml_edit_model.specs.Shown.{shown_meaning}
 use Rattle.toml_edit_model.specs.Keys.{names}
 use Rattle.toml_edit_model.specs.Text.{Text}
 use Rattle.toml_edit_model.specs.Tree.{Key, Node, Slots, TableFields, Tree, table}
-use Rattle.toml_edit_files.specs.Get.{AreGot, HasNoSpelling, IsGot, IsSpelled, Means, as_root, found_at}
+use Rattle.toml_edit_files.specs.Get.{AreGot, IsGot, IsSpelled, Means, as_root, found_at}
 use Rattle.toml_edit_files.specs.declared.words.Shape.{Shape}
 
 -- ---- paths
@@ -77,7 +76,3 @@ module _ (d : DocumentMut) (f : TableFields) (ss : Slots) (root : tree_owned d �
   pub spelled_table : (s : Text) → s ≡ print_of d → ∥ MeansWhatIsShown (mode_owned d) (open_owned d) (tree_owned d) ∥₁
       → IsSpelled (table f ss) s
   spelled_table s is back = (∥∥₁_map back (λ m. means_item f ss s (is ∙ printed) (shown m)), is ∙ printed)
-
-  pub no_table : ¬ (FitsIn (mode_owned d) (tree_owned d)) → HasNoSpelling (table f ss)
-  no_table not fits =
-      not (subst (λ (m : Mode). FitsIn m (tree_owned d)) (sym by_plain.0) (subst (λ (x : Tree). FitsIn plain x) (sym root) fits))

@@ -33,11 +33,6 @@ spelled_more ks k =
     ap (join_with_byte 0x2E) (map-append key_text ks (k ∷ [])) ∙ joined_more (map key_text ks) (key_text k)
     ∙ ap (λ (x : Text). x ++ key_text k) (dotted-map ks)
 
-pub dotted_more : (ks : List Key) (k : Key) → keys_dotted (ks ++ k ∷ []) ≡ keys_dotted ks ++ (key_text k ++ codes ".")
-dotted_more ks k =
-    flat_map-append (λ l. key_text l ++ codes ".") ks (k ∷ [])
-    ∙ ap (λ (x : Text). keys_dotted ks ++ x) (append-nil (key_text k ++ codes "."))
-
 pub line_more : (ks : List Key) (k : Key) → path_line (ks ++ k ∷ []) ≡ path_spelled (ks ++ k ∷ []) ++ newline
 line_more [] k = refl
 line_more (l ∷ ks) k = refl

@@ -1,5 +1,5 @@
 -- The words of a line.
-use Rattle.std.proofs.Common.{◌≡◌, ◌≤◌, ◌<◌, ◌==◌, ◌++◌, ◌∙◌, refl, sym, ap, subst, cond, Bool, true, false, ◌&&◌, ◌||◌, ℕ, zero, suc, List, [], ◌∷◌, drop, length, get_or, take, Option, Some, None, arith, append-nil}
+use Rattle.std.proofs.Common.{◌≡◌, ◌≤◌, ◌<◌, ◌==◌, ◌++◌, ◌∙◌, refl, sym, ap, subst, cond, Bool, true, false, ◌&&◌, ◌||◌, ℕ, zero, suc, List, [], ◌∷◌, drop, length, get_or, take, Option, Some, None, arith}
 use Rattle.std.proofs.lemmas.Bool.{eqb-true}
 use Rattle.std.specs.Prelude.{IsCharBoundary, MatchBool, is_none}
 use Rattle.std.specs.Str.{trim_start}
@@ -42,18 +42,6 @@ drop-all [] zero past = refl
 drop-all [] (suc at) past = refl
 drop-all (x ∷ line) zero past = absurd (omega (arith, past))
 drop-all (x ∷ line) (suc at) past = drop-all line at (omega (arith, past))
-
--- the length of a word that ends at a blank, and of one that ends with the line
-module _ (w line : Text) (at : ℕ) (mark : Option ℕ) (escaped : Bool) (so-far : w ≡ take at line ++ word_from mark escaped (drop at line)) where
-  pub length-at : (b : ℕ) → at < length line → b ≡ get_or line at 0 → (is_none mark && is_blank b) ≡ true → at ≡ length w
-  length-at b within is blank =
-      sym (ap length (so-far ∙ word-ends mark escaped line at b within is blank) ∙ take-length line at (omega (arith, within)))
-
-  pub length-end : at ≡ length line → length line ≡ length w
-  length-end is =
-      sym (
-      ap length (so-far ∙ ap (λ r. take at line ++ word_from mark escaped r) (drop-all line at (omega (arith, is))) ∙ append-nil (take at line))
-      ∙ take-length line at (omega (arith, is)) ∙ is)
 
 -- ---- the place behind a word
 

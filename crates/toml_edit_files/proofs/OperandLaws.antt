@@ -86,12 +86,7 @@ module _ {A B : Type 0} (f : A → B) where
   some-of [] empty is so none = let e : true ≡ false = sym is ∙ so in absurd cc
   some-of (x ∷ xs) empty is so none = let e : f x ∷ map f xs ≡ [] = none in absurd cc
 
-  -- what is made of one element more, and of all
-  pub more-of : (xs : List A) (i : ℕ) (x : A) → i < length xs → x ≡ get_or xs i x
-      → map f (take (i + 1) xs) ≡ map f (take i xs) ++ (f x ∷ [])
-  more-of xs i x within is =
-      ap (map f) (take_more xs i x within) ∙ map-more f (take i xs) (get_or xs i x) ∙ ap (λ y. map f (take i xs) ++ (f y ∷ [])) (sym is)
-
+  -- what is made of all
   pub all-of : (xs : List A) (i : ℕ) → length xs ≤ i → map f (take i xs) ≡ map f xs
   all-of xs i past = ap (map f) (take_all i xs past)
 

@@ -33,16 +33,6 @@ module _ (Does : Text → Told → Option (List Event) → Option (List Event) �
     pub onward : (more : List Told) (new : Option (List Event)) → AreDone Does rest more now new left
         → AreDone Does names (told ++ more) start new first
 
-  pub none_yet : (all : Told) → all.status ≡ 0 → string_bytes all.output ≡ [] → string_bytes all.notes ≡ [] → SoFar names start first all
-  none_yet all status silent quiet = record {
-    told = [];
-    count = omega arith;
-    status = status;
-    output = silent;
-    notes = quiet;
-    onward = λ more new are. are;
-  }
-
   module _ (name : Text) (rest : List Text) (now next : Option (List Event)) (left after : Option Text) (all new t : Told)
       (so : SoFar (name ∷ rest) now left all) (does : Does name t now next left) where
     pub one_more : LeavesInput name left after → t.status ≢ 3 → new.status ≡ max all.status t.status → string_bytes new.output ≡ string_bytes all.output ++ string_bytes t.output

@@ -2,7 +2,7 @@
 use Rattle.std.proofs.Common.{◌≡◌, ◌≤◌, ◌<◌, ◌==◌, ◌+◌, ◌-◌, ◌∙◌, refl, sym, ap, subst, cond, Bool, true, false, ◌&&◌, ◌||◌, ℕ, suc, List, [], ◌∷◌, ◌++◌, drop, get_or, length, map, nat_lt, Bor, Option, Some, None, inl, inr, arith}
 use Rattle.std.proofs.lemmas.Bool.{eqb-true}
 use Rattle.std.proofs.lemmas.List.{at_drop_all, at_drop_more}
-use Rattle.std.specs.Prelude.{Result, Ok, Err, OnOk, IfErr, bytes_eq, codes, is_none, is_some, option_and_then}
+use Rattle.std.specs.Prelude.{Result, Ok, Err, IfErr, bytes_eq, codes, is_none, is_some, option_and_then}
 use Rattle.std.specs.Option.{option_copied}
 use Rattle.toml_edit_model.specs.Text.{Text, is_empty}
 use Rattle.toml_edit_files.specs.Split.{Words, begins, following, is_flag, is_plain, is_refused, last_from, no_words, split_of, step, steps, takes, takes_operand}
@@ -16,10 +16,6 @@ use Rattle.toml_edit_files.specs.declared.stop.Stop.{Stop}
 pub map-more : {A B : Type 0} (f : A → B) (xs : List A) (x : A) → map f (xs ++ (x ∷ [])) ≡ map f xs ++ (f x ∷ [])
 map-more f [] x = refl
 map-more f (y ∷ xs) x = ap (λ l. f y ∷ l) (map-more f xs x)
-
-pub on_ok : {A E : Type 0} (P Q : Type 0) (r : Result A E) → (P → Q) → OnOk r P → OnOk r Q
-on_ok P Q (Ok x) f h = f h
-on_ok P Q (Err e) f h = tt
 
 -- memory ran out
 pub by-memory : {A : Type 0} (Why : Type 0) (r : Result A Stop) → IfErr r (λ stop. reason_of stop ≡ None)
