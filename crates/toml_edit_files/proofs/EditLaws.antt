@@ -17,7 +17,7 @@ use Rattle.toml_edit_edits.specs.Outcomes.{and_then}
 use Rattle.toml_edit_edits.specs.declared.edit.Edit.{Edit}
 use Rattle.toml_edit_edits.specs.declared.fault.EditFault.{EditFault}
 use Rattle.toml_edit_edits.specs.declared.fault.EditFault.TheVariants as faults
-use Rattle.toml_edit_files.specs.Edited.{IsAccepted, IsInForm, IsLeft, IsNotEdited, IsNotInForm, IsNotMade, IsNotRead, IsNotWritten, IsRead, IsWritten, mark_of, mode_by, unmarked, version_by}
+use Rattle.toml_edit_files.specs.Edited.{IsAccepted, IsInForm, IsLeft, IsNotEdited, IsNotInForm, IsNotMade, IsNotWritten, IsRead, IsWritten, mark_of, mode_by, unmarked}
 use Rattle.toml_edit_files.specs.Stops.{reason_for}
 use Rattle.toml_edit_files.specs.declared.stop.Reason.{Reason}
 use Rattle.toml_edit_files.specs.declared.stop.Reason.TheVariants.{No, Mistaken, Failed, Refused}
@@ -99,15 +99,8 @@ module _ (reading : Reading) (t : Text) (d : DocumentMut) (read : IsRead reading
   locked is_locked (Some No) edits h = absurd h
   locked is_locked (Some Mistaken) edits h = absurd h
   locked is_locked (Some Failed) edits h = h
-  locked is_locked (Some Refused) edits h = inr (h.0, λ form. h.1 (print_in_form form))
-
-pub not_read : (reading : Reading) (is_locked : Bool) (edits : List Edit) (t : Text) (why : Option Reason)
-    → IsNotRead (version_by reading) t why → IsNotEdited reading is_locked edits t why
-not_read reading is_locked edits t None h = tt
-not_read reading is_locked edits t (Some No) h = absurd h
-not_read reading is_locked edits t (Some Mistaken) h = absurd h
-not_read reading is_locked edits t (Some Failed) h = h
-not_read reading is_locked edits t (Some Refused) h = inl h
+  locked is_locked (Some Refused) edits h =
+      (h.0, (read.reading.document, read.accepted read.reading.document read.reading.accepted.0), λ form. h.1 (print_in_form form))
 
 -- ---- what edits leave
 

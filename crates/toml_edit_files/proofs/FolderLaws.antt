@@ -6,9 +6,11 @@ use Rattle.std.proofs.lemmas.List.Folds.{list_all-append}
 use Rattle.file_replace.specs.Events.{Text, Event, done, found, locked, more}
 use Rattle.file_replace.specs.Replacing.{ReadsLocked}
 use Rattle.toml_edit_files.specs.Folders.{IsHeld, MayBegin, OnlyLooks, Stops, StopsPutting, leads, looks_at}
-use Rattle.toml_edit_files.specs.Stops.{IsFor}
+use Rattle.toml_edit_files.specs.Stops.{IsFailed, reason_of}
 use Rattle.toml_edit_files.specs.declared.stop.Reason.{Reason}
 use Rattle.toml_edit_files.specs.declared.stop.Reason.TheVariants.{No, Mistaken, Failed, Refused}
+use Rattle.toml_edit_files.specs.declared.stop.Stop.{Stop}
+use Rattle.toml_edit_files.specs.declared.stop.Stop.TheVariants.{Message, Silent, Memory}
 
 more_none : (old : Option (List Event)) → old ≡ more [] old
 more_none None = refl
@@ -46,22 +48,22 @@ looks_held file name old new s h = (done (locked name) ∷ done (found name s) �
 -- ---- what is left
 
 module _ (file : Text) (old new : Option (List Event)) where
-  pub stops_looking : (why : Option Reason) → OnlyLooks old new → Stops file old new why
-  stops_looking None h = inl h
-  stops_looking (Some Failed) h = inl h
-  stops_looking (Some No) h = h
-  stops_looking (Some Mistaken) h = h
-  stops_looking (Some Refused) h = h
+  -- memory may run out later
+  pub stops_later : (why : Option Reason) → Stops file old new why → Stops file old new None
+  stops_later None m = m
+  stops_later (Some Failed) m = m
+  stops_later (Some No) h = inl h
+  stops_later (Some Mistaken) h = inl h
+  stops_later (Some Refused) h = inl h
 
-  pub stops_beginning : (why : Option Reason) → IsFor Failed why → MayBegin file old new → Stops file old new why
-  stops_beginning None is m = m
-  stops_beginning (Some Failed) is m = m
-  stops_beginning (Some No) (inl is) m = absurd (let e : Some No ≡ None = is in cc)
-  stops_beginning (Some No) (inr is) m = absurd (let e : Some No ≡ Some Failed = is in cc)
-  stops_beginning (Some Mistaken) (inl is) m = absurd (let e : Some Mistaken ≡ None = is in cc)
-  stops_beginning (Some Mistaken) (inr is) m = absurd (let e : Some Mistaken ≡ Some Failed = is in cc)
-  stops_beginning (Some Refused) (inl is) m = absurd (let e : Some Refused ≡ None = is in cc)
-  stops_beginning (Some Refused) (inr is) m = absurd (let e : Some Refused ≡ Some Failed = is in cc)
+  -- the file that is named need not be the one that is written
+  pub stops_beginning : (named : Text) (stop : Stop) → IsFailed named stop → MayBegin file old new → Stops file old new (reason_of stop)
+  stops_beginning named Memory is m = m
+  stops_beginning named Silent is m = absurd is
+  stops_beginning named (Message Failed note) is m = m
+  stops_beginning named (Message No note) (said, is, same, about) m = absurd (let e : No ≡ Failed = is in cc)
+  stops_beginning named (Message Mistaken note) (said, is, same, about) m = absurd (let e : Mistaken ≡ Failed = is in cc)
+  stops_beginning named (Message Refused note) (said, is, same, about) m = absurd (let e : Refused ≡ Failed = is in cc)
 
 -- looks before it change nothing of this
 pub begins_then : (file : Text) (a b c : Option (List Event)) → OnlyLooks a b → MayBegin file b c → MayBegin file a c

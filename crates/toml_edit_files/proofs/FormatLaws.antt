@@ -21,12 +21,14 @@ use Rattle.toml_edit_edits.specs.declared.edit.Edit.{Edit}
 use Rattle.toml_edit_edits.specs.declared.fault.EditFault.{EditFault}
 use Rattle.toml_edit_edits.specs.declared.fault.EditFault.TheVariants.{Memory, NoSuchPath, WrongKind, NoSuchElement, Taken, BadComment}
 use Rattle.toml_edit_files.proofs.EditLaws.{left, none_written}
+use Rattle.toml_edit_files.proofs.StopLaws.{unread_here}
 use Rattle.toml_edit_files.specs.Edited.{IsLeft, IsNotRead, IsNotWritten, IsRead, IsWritten, mark_of, mode_by, version_by}
 use Rattle.toml_edit_files.specs.FormatFiles.{IsFormatted, IsFormattedOnly, IsLaidOut, IsNotFormatted, IsNotSorted, IsUnformatted, passing_over, formatted_by, rules_by, sorted_by}
-use Rattle.toml_edit_files.specs.Folders.{IsNoHeldText, IsNoTextOf, IsReadOf}
-use Rattle.toml_edit_files.specs.Stops.{IsFor, IsUnread, reason_for}
+use Rattle.toml_edit_files.specs.Folders.{IsReadOf}
+use Rattle.toml_edit_files.specs.Stops.{reason_for, reason_of}
 use Rattle.toml_edit_files.specs.declared.stop.Reason.{Reason}
 use Rattle.toml_edit_files.specs.declared.stop.Reason.TheVariants.{No, Mistaken, Failed, Refused}
+use Rattle.toml_edit_files.specs.declared.stop.Stop.{Stop}
 use Rattle.toml_edit_files.specs.declared.words.Reading.{Reading}
 use Rattle.toml_edit_files.specs.declared.words.Style.{Style}
 use Rattle.toml_edit_fmt.specs.Newlines.{returns_after}
@@ -183,43 +185,9 @@ module _ (reading : Reading) (style : Style) (before : Text) (x : Tree) (is_open
 
 -- ---- files that are not formatted
 
-pub not_parsed : (reading : Reading) (style : Style) (t : Text) (why : Option Reason) → IsNotRead (version_by reading) t why
-    → IsNotFormatted reading style t why
-not_parsed reading style t None h = tt
-not_parsed reading style t (Some No) h = absurd h
-not_parsed reading style t (Some Mistaken) h = absurd h
-not_parsed reading style t (Some Failed) h = h
-not_parsed reading style t (Some Refused) h = h
-
-module _ (reading : Reading) (style : Style) (file : Text) (old new : Option (List Event)) (left : Option Text) where
-  pub no-text-read : (why : Option Reason) → IsUnread (IsNoTextOf file old new left) why → IsUnformatted reading style file old new left why
-  no-text-read None h = tt
-  no-text-read (Some Failed) h = tt
-  no-text-read (Some Refused) (bytes, read, bad) = (bytes, read, inl bad)
-  no-text-read (Some No) h = absurd h
-  no-text-read (Some Mistaken) h = absurd h
-
-  pub no-text-held : (why : Option Reason) → IsUnread (IsNoHeldText file old new) why → IsUnformatted reading style file old new left why
-  no-text-held None h = tt
-  no-text-held (Some Failed) h = tt
-  no-text-held (Some Refused) (bytes, held, bad) = (bytes, inr held, inl bad)
-  no-text-held (Some No) h = absurd h
-  no-text-held (Some Mistaken) h = absurd h
-
-  pub none-formatted : (t : Text) (why : Option Reason) → IsReadOf file old new left t → IsNotFormatted reading style t why
-      → IsUnformatted reading style file old new left why
-  none-formatted t None read h = tt
-  none-formatted t (Some Failed) read h = tt
-  none-formatted t (Some Refused) read h = (t, read, inr h)
-  none-formatted t (Some No) read h = (t, read, h)
-  none-formatted t (Some Mistaken) read h = (t, read, h)
-
-  pub not-put : (why : Option Reason) → IsFor Failed why → IsUnformatted reading style file old new left why
-  not-put None is = tt
-  not-put (Some Failed) is = tt
-  not-put (Some No) (inl is) = absurd (let no : Some No ≡ None = is in cc)
-  not-put (Some No) (inr is) = absurd (let no : Some No ≡ Some Failed = is in cc)
-  not-put (Some Mistaken) (inl is) = absurd (let no : Some Mistaken ≡ None = is in cc)
-  not-put (Some Mistaken) (inr is) = absurd (let no : Some Mistaken ≡ Some Failed = is in cc)
-  not-put (Some Refused) (inl is) = absurd (let no : Some Refused ≡ None = is in cc)
-  not-put (Some Refused) (inr is) = absurd (let no : Some Refused ≡ Some Failed = is in cc)
+pub none-formatted : (reading : Reading) (style : Style) (file : Text) (old new : Option (List Event)) (left : Option Text) (stop : Stop) (t : Text)
+    → IsReadOf file old new left t
+    → IsNotRead (version_by reading) file t stop ⊎ IsNotFormatted reading style t (reason_of stop)
+    → IsUnformatted reading style file old new left stop
+none-formatted reading style file old new left stop t read (inl h) = inl (unread_here (version_by reading) file old new left stop t read h)
+none-formatted reading style file old new left stop t read (inr h) = inr (t, read, h)

@@ -1,31 +1,29 @@
 -- How commands end.
-use Rattle.std.proofs.Common.{◌≡◌, ◌≤◌, ◌+◌, false, true, Bool, List, [], ◌∷◌, ℕ, suc, ◌++◌, ◌∙◌, ap, length, length-append, take, arith, refl, subst, sym, inl, inr, Bor}
-use Rattle.std.specs.Prelude.{◌⊎◌, ◌&&◌, ◌||◌, not, ◌==◌, if◌then◌else◌, bytes_eq, codes, is_none, unwrap_or, Option, Some, None, Result, Ok, Err, IfOk, IfErr, MatchBool, Vec, string_bytes}
+use Rattle.std.proofs.Common.{◌≡◌, ◌+◌, false, true, Bool, List, [], ◌∷◌, ℕ, suc, ◌++◌, ◌∙◌, ap, length, length-append, take, arith, refl, subst, sym, inl, inr, Bor}
+use Rattle.std.specs.Prelude.{◌⊎◌, ◌≢◌, ◌&&◌, ◌||◌, not, ◌==◌, if◌then◌else◌, bytes_eq, codes, is_none, unwrap_or, Option, Some, None, Result, Ok, Err, IfOk, IfErr, MatchBool, Vec, string_bytes}
 use Rattle.std.specs.declared.alloc.Global.{Global}
 use Rattle.std.specs.Option.{option_copied}
 use Rattle.std.proofs.KnownBytes.{Appends-trans}
 use Rattle.std.proofs.lemmas.List.{take-append-le, take_all}
 use Rattle.std.specs.Io.KnownBytes.{Appends}
 use Rattle.toml_edit_io.specs.Streams.{AppendsBeginning}
-use Rattle.toml_edit_model.specs.Tree.{Tree}
+use Rattle.toml_edit_model.specs.Version.{Version}
 use Rattle.file_replace.specs.Events.{Text, Event}
-use Rattle.toml_edit_files.proofs.FolderLaws.{stops_looking}
-use Rattle.toml_edit_files.specs.Answers.{HasNoAnswer, file_of}
-use Rattle.toml_edit_files.specs.Checks.{IsReadAsRefused}
+use Rattle.toml_edit_files.proofs.FolderLaws.{stops_later}
+use Rattle.toml_edit_files.proofs.StopLaws.{failed_not, refused_told, stop_told}
+use Rattle.toml_edit_files.specs.Checks.{ChecksFile, IsReadAsRefused}
 use Rattle.toml_edit_files.specs.EditFiles.{EditsFile, HasNoEdits, is_in_place, is_shown, target_of}
-use Rattle.toml_edit_files.specs.Edited.{IsReadFrom, version_by}
+use Rattle.toml_edit_files.specs.Edited.{version_by}
 use Rattle.toml_edit_files.specs.Folders.{IsTextOf, OnlyLooks, Stops, is_stream}
-use Rattle.toml_edit_files.specs.FormatFiles.{FormatsDone, FormatsElsewhere, FormatsFile, FormatsInPlace, IsFormatted, IsUnformatted}
-use Rattle.toml_edit_files.specs.Outcomes.{Tells, TellsOf, TellsOfFile, TellsWhy}
-use Rattle.toml_edit_files.specs.Requests.{IsNoRequest}
-use Rattle.toml_edit_files.specs.Runs.{Adds, AnswersQuestion, Ends, EndsCommand, HasNone, Writes, memory_line, write_line}
-use Rattle.toml_edit_files.specs.Stops.{IsMistaken, IsUnread, reason_of}
+use Rattle.toml_edit_files.specs.FormatFiles.{FormatsDone, FormatsElsewhere, FormatsFile, FormatsInPlace, IsFormatted, IsNotFormatted, IsUnformatted}
+use Rattle.toml_edit_files.specs.Outcomes.{Tells, TellsOf, TellsOfFile, TellsRefused, TellsStop}
+use Rattle.toml_edit_files.specs.Runs.{Adds, AnswersQuestion, EndsCommand, HasNone, Writes, memory_line, write_line}
+use Rattle.toml_edit_files.specs.Stops.{IsUnread, reason_of}
 use Rattle.toml_edit_files.specs.declared.stop.Reason.{Reason}
 use Rattle.toml_edit_files.specs.declared.stop.Reason.TheVariants as reasons
 use Rattle.toml_edit_files.specs.declared.stop.Stop.TheVariants as stops
 use Rattle.toml_edit_files.specs.declared.words.Command.TheVariants as commands
 use Rattle.toml_edit_files.specs.declared.words.Question.{Question}
-use Rattle.toml_edit_files.specs.declared.words.Question.TheVariants as questions
 use Rattle.toml_edit_files.specs.declared.outcome.Done.{Done}
 use Rattle.toml_edit_files.specs.declared.stop.Stop.{Stop}
 use Rattle.toml_edit_edits.specs.declared.edit.Edit.{Edit}
@@ -38,86 +36,67 @@ use Rattle.toml_edit_files.specs.declared.words.Reading.{Reading}
 pub formatted_input : (reading : Reading) (c : Fmt) (file : Text) (told : Told) (old new : Option (List Event)) (left : Option Text)
     (r : Result Done Stop) → is_stream file ≡ true → IfOk r (λ d. FormatsDone reading c file d.yes (string_bytes d.output) old new left)
     → IfOk r (λ d. string_bytes d.notes ≡ [])
-    → IfErr r (λ s. Stops file old new (reason_of s)) → IfErr r (λ s. IsUnformatted reading c.style file old new left (reason_of s))
+    → IfErr r (λ s. Stops file old new (reason_of s)) → IfErr r (IsUnformatted reading c.style file old new left)
     → TellsOf r told → FormatsFile reading c file told old new left
 formatted_input reading c file told old new left (Ok d) stream done quiet stop unmade tells =
     inl (d.yes, string_bytes d.output, done, (tells.0, tells.1 ∙ quiet))
 formatted_input reading c file told old new left (Err s) stream done quiet stop unmade tells =
-    inr (inr (reason_of s, stop, (λ other. absurd (let e : true ≡ false = sym stream ∙ other in cc)), unmade, tells))
+    inr (inr (s, stop, (λ other. absurd (let e : true ≡ false = sym stream ∙ other in cc)), unmade, tells))
 
 -- so is a file, which may be refused
 pub formatted_file : (reading : Reading) (c : Fmt) (file : Text) (told : Told) (old new : Option (List Event)) (left : Option Text)
     (r : Result Done Stop) → is_stream file ≡ false → IfOk r (λ d. FormatsDone reading c file d.yes (string_bytes d.output) old new left)
     → IfOk r (λ d. string_bytes d.notes ≡ [])
-    → IfErr r (λ s. Stops file old new (reason_of s)) → IfErr r (λ s. IsUnformatted reading c.style file old new left (reason_of s))
+    → IfErr r (λ s. Stops file old new (reason_of s)) → IfErr r (IsUnformatted reading c.style file old new left)
     → TellsOfFile r told → FormatsFile reading c file told old new left
 formatted_file reading c file told old new left (Ok d) other done quiet stop unmade tells =
     inl (d.yes, string_bytes d.output, done, (tells.0, tells.1 ∙ quiet))
-formatted_file reading c file told old new left (Err stops.Silent) other done quiet stop unmade tells =
-    inr (inr (Some reasons.No, stop, (λ named is. let e : Some reasons.No ≡ Some reasons.Refused = is in absurd cc), unmade, tells))
-formatted_file reading c file told old new left (Err stops.Memory) other done quiet stop unmade tells =
-    inr (inr (None, stop, (λ named is. let e : None ≡ Some reasons.Refused = is in absurd cc), unmade, tells))
-formatted_file reading c file told old new left (Err (stops.Message reasons.Refused t)) other done quiet stop unmade (inl is) =
-    inr (inl (is, other, unmade))
-formatted_file reading c file told old new left (Err (stops.Message reasons.Refused t)) other done quiet stop unmade (inr tells) =
-    inr (inr (None, stops_looking file old new None stop, (λ named is. let e : None ≡ Some reasons.Refused = is in absurd cc), tt, tells))
-formatted_file reading c file told old new left (Err (stops.Message reasons.No t)) other done quiet stop unmade tells =
-    inr (inr (Some reasons.No, stop, (λ named is. let e : Some reasons.No ≡ Some reasons.Refused = is in absurd cc), unmade, tells))
-formatted_file reading c file told old new left (Err (stops.Message reasons.Mistaken t)) other done quiet stop unmade tells =
-    inr (inr (Some reasons.Mistaken, stop, (λ named is. let e : Some reasons.Mistaken ≡ Some reasons.Refused = is in absurd cc), unmade, tells))
-formatted_file reading c file told old new left (Err (stops.Message reasons.Failed t)) other done quiet stop unmade tells =
-    inr (inr (Some reasons.Failed, stop, (λ named is. let e : Some reasons.Failed ≡ Some reasons.Refused = is in absurd cc), unmade, tells))
+formatted_file reading c file told old new left (Err s) other done quiet stop (inl (inl failed)) tells =
+    let differs = failed_not file s failed in inr (inr (s, stop, (λ named. differs), inl (inl failed), stop_told told s differs tells))
+formatted_file reading c file told old new left (Err s) other done quiet stop (inr (t, read, none)) tells =
+    let differs : reason_of s ≢ Some reasons.Refused = λ is. subst (λ (why : Option Reason). IsNotFormatted reading c.style t why) is none in
+    inr (inr (s, stop, (λ named. differs), inr (t, read, none), stop_told told s differs tells))
+formatted_file reading c file told old new left (Err s) other done quiet stop (inl (inr refused)) tells =
+    by (refused_told (IsReadAsRefused (version_by reading) file old new left) told s refused tells)
+  where
+    by : TellsRefused (IsReadAsRefused (version_by reading) file old new left) told ⊎ TellsStop stops.Memory told
+        → FormatsFile reading c file told old new left
+    by (inl line) = inr (inl (other, line))
+    by (inr out) = inr (inr (
+      stops.Memory,
+      stops_later file old new (reason_of s) stop,
+      (λ named is. let e : None ≡ Some reasons.Refused = is in absurd cc),
+      inl (inl tt),
+      out,
+    ))
+
+-- a file that is not accepted
+pub checked : (v : Version) (file : Text) (told : Told) (old new : Option (List Event)) (left : Option Text) (stop : Stop)
+    → IsUnread file (IsReadAsRefused v file old new left) stop → OnlyLooks old new → TellsOfFile (Err stop) told → ChecksFile v file told old new left
+checked v file told old new left stop (inl failed) looks tells =
+    inr (inr (stop, failed, stop_told told stop (failed_not file stop failed) tells, looks))
+checked v file told old new left stop (inr refused) looks tells = by (refused_told (IsReadAsRefused v file old new left) told stop refused tells)
+  where
+    by : TellsRefused (IsReadAsRefused v file old new left) told ⊎ TellsStop stops.Memory told → ChecksFile v file told old new left
+    by (inl line) = inr (inl line)
+    by (inr out) = inr (inr (stops.Memory, tt, out, looks))
 
 -- ---- commands on one file
 
 module _ (old new : Option (List Event)) (left : Option Text) (told : Told) (reading : Reading) where
   pub asked : (q : Question) (r : Result Done Stop) → IfOk r (λ d. AnswersQuestion old new left reading q d.yes (string_bytes d.output))
-      → IfOk r (λ d. string_bytes d.notes ≡ []) → IfErr r (λ s. HasNone old new left reading q (reason_of s)) → OnlyLooks old new
+      → IfOk r (λ d. string_bytes d.notes ≡ []) → IfErr r (HasNone old new left reading q) → OnlyLooks old new
       → TellsOf r told → EndsCommand old new left reading (commands.Ask q) told
   asked q (Ok d) answer quiet none looks tells = inl (d.yes, string_bytes d.output, answer, (tells.0, tells.1 ∙ quiet))
-  asked q (Err s) answer quiet none looks tells = inr (reason_of s, looks, none, tells)
+  asked q (Err s) answer quiet none looks tells = inr (s, looks, none, tells)
 
   pub edited : (c : EditCommand) (edits : Vec Edit Global) (r : Result Done Stop)
       → IfOk r (λ d. EditsFile reading c edits.items old new left (string_bytes d.output)) → IfOk r (λ d. d.yes ≡ true)
-      → IfErr r (λ s. Stops (target_of c) old new (reason_of s)) → IfErr r (λ s. HasNoEdits reading c edits.items old new left (reason_of s))
+      → IfErr r (λ s. Stops (target_of c) old new (reason_of s)) → IfErr r (HasNoEdits reading c edits.items old new left)
       → TellsOf r told → EndsCommand old new left reading (commands.Edit c edits) told
   edited c edits (Ok d) done said stops why tells =
       inl (string_bytes d.output, done, subst (λ (b : Bool). Tells (if b then 0 else 1) (string_bytes d.output) told) said tells.0)
-  edited c edits (Err s) done said stops why tells = inr (reason_of s, stops, why, tells)
-
--- no answer is refused as a file is
-not-refused : (q : Question) (x : Tree) → HasNoAnswer q x (Some reasons.Refused) → ⊥
-not-refused (questions.Get c) x (k, o, within, at, none) = none
-not-refused (questions.Has c) x none = none
-not-refused (questions.Keys c) x none = none
-not-refused (questions.Json c) x none = none
-
--- why a question has no answer
-module _ (old new : Option (List Event)) (left : Option Text) (reading : Reading) (q : Question) where
-  pub unread-file : (why : Option Reason) → IsUnread (IsReadAsRefused (version_by reading) (file_of q) old new left) why → HasNone old new left reading q why
-  unread-file None h = tt
-  unread-file (Some reasons.Failed) h = tt
-  unread-file (Some reasons.Refused) h = h
-  unread-file (Some reasons.No) h = absurd h
-  unread-file (Some reasons.Mistaken) h = absurd h
-
-  pub unanswered : (x : Tree) (why : Option Reason) → IsReadFrom reading (file_of q) old new left x → HasNoAnswer q x why
-      → HasNone old new left reading q why
-  unanswered x None read none = tt
-  unanswered x (Some reasons.Failed) read none = tt
-  unanswered x (Some reasons.Refused) read none = absurd (not-refused q x none)
-  unanswered x (Some reasons.No) read none = (x, read, none)
-  unanswered x (Some reasons.Mistaken) read none = (x, read, none)
-
--- words that ask for nothing
-pub misworded : (old : Option (List Event)) (left : Option Text) (words : List Text) (told : Told) (stop : Stop)
-    → IsMistaken (IsNoRequest words) (reason_of stop) → TellsOf (Err stop) told → Ends old old left words told
-misworded old left words told (stops.Message reasons.Mistaken text) none tells = inr (inl (none, refl, tells))
-misworded old left words told (stops.Message reasons.No text) none tells = absurd none
-misworded old left words told (stops.Message reasons.Failed text) none tells = absurd none
-misworded old left words told (stops.Message reasons.Refused text) none tells = absurd none
-misworded old left words told stops.Silent none tells = absurd none
-misworded old left words told stops.Memory none tells = inr (inr (refl, tells))
+  edited c edits (Err s) done said stops why tells = inr (s, stops, why, tells)
 
 -- ---- where an edited text goes
 

@@ -1,59 +1,92 @@
--- An error that `?` passes on, and why what is read is refused.
-use Rattle.std.proofs.Common.{◌≡◌, subst, sym, inl, inr}
-use Rattle.std.specs.Prelude.{Option, Some, None, Result, Ok, Err, IfErr, IsErrAnd, OnErr}
+-- An error that `?` passes on, and what is said of it.
+use Rattle.std.proofs.Common.{◌≡◌, ◌∙◌, refl, subst, sym, inl, inr}
+use Rattle.std.specs.Prelude.{◌≢◌, ◌⊎◌, List, Option, Some, None, Result, Ok, Err, IfErr, IfOk, IsErrAnd, IsOkAnd, OnErr, string_bytes}
 use Rattle.std.proofs.lemmas.Result.{err_from_is_err_and}
+use Rattle.toml_edit.specs.Documents.{IsRefusalIn}
+use Rattle.toml_edit_error.specs.Report.{Report}
 use Rattle.toml_edit_model.specs.Version.{Version}
-use Rattle.file_replace.specs.Events.{Text}
-use Rattle.toml_edit_files.specs.Edited.{IsAccepted, IsNotRead}
-use Rattle.toml_edit_files.specs.Notes.{IsNote, NotesWhy}
-use Rattle.toml_edit_files.specs.Stops.{IsFor, IsUnread, reason_of}
+use Rattle.file_replace.specs.Events.{Text, Event}
+use Rattle.toml_edit_files.specs.Checks.{IsReadAsRefused}
+use Rattle.toml_edit_files.specs.Edited.{IsNotRead}
+use Rattle.toml_edit_files.specs.Folders.{IsNoHeldText, IsNoTextOf, IsReadOf}
+use Rattle.toml_edit_files.specs.Notes.{unnamed}
+use Rattle.toml_edit_files.specs.Outcomes.{TellsAlone, TellsOfFile, TellsRefused, TellsStop}
+use Rattle.toml_edit_files.specs.Refusals.{SaysRefused, refusal_text}
+use Rattle.toml_edit_files.specs.Stops.{IsFailed, IsUnread, StopsSaying, reason_of}
 use Rattle.toml_edit_files.specs.declared.stop.Reason.{Reason}
 use Rattle.toml_edit_files.specs.declared.stop.Reason.TheVariants.{No, Mistaken, Failed, Refused}
 use Rattle.toml_edit_files.specs.declared.stop.Stop.{Stop}
-
--- a message is one for each reason
-pub noted : (reason : Reason) (t : Text) → IsNote t → NotesWhy (Some reason) t
-noted No t note = inr note
-noted Mistaken t note = note
-noted Failed t note = note
-noted Refused t note = note
+use Rattle.toml_edit_files.specs.declared.stop.Stop.TheVariants.{Message, Silent, Memory}
+use Rattle.toml_edit_files.specs.declared.told.Told.{Told}
 
 pub passed : {A : Type 0} (r : Result A Stop) (stop : Stop) (P : Stop → Type 0) → IsErrAnd r (λ s. s ≡ stop) → P stop → IfErr r P
 passed r stop P is holds =
     let q = err_from_is_err_and r is in
     subst (λ x. IfErr x P) (sym q.1) (subst P (sym q.2) holds)
 
-pub unread_failed : (Why : Type 0) (why : Option Reason) → IsFor Failed why → IsUnread Why why
-unread_failed Why None is = tt
-unread_failed Why (Some Failed) is = tt
-unread_failed Why (Some No) (inl is) = absurd (let no : Some No ≡ None = is in cc)
-unread_failed Why (Some No) (inr is) = absurd (let no : Some No ≡ Some Failed = is in cc)
-unread_failed Why (Some Mistaken) (inl is) = absurd (let no : Some Mistaken ≡ None = is in cc)
-unread_failed Why (Some Mistaken) (inr is) = absurd (let no : Some Mistaken ≡ Some Failed = is in cc)
-unread_failed Why (Some Refused) (inl is) = absurd (let no : Some Refused ≡ None = is in cc)
-unread_failed Why (Some Refused) (inr is) = absurd (let no : Some Refused ≡ Some Failed = is in cc)
-
-pub unread_for : (A B : Type 0) (why : Option Reason) → (A → B) → IsUnread A why → IsUnread B why
-unread_for A B None f h = tt
-unread_for A B (Some Failed) f h = tt
-unread_for A B (Some Refused) f h = f h
-unread_for A B (Some No) f h = h
-unread_for A B (Some Mistaken) f h = h
-
-pub unread_read : (Why : Type 0) (v : Version) (t : Text) (why : Option Reason) → (¬ (IsAccepted v t) → Why) → IsNotRead v t why → IsUnread Why why
-unread_read Why v t None f h = tt
-unread_read Why v t (Some Failed) f h = tt
-unread_read Why v t (Some Refused) f h = f h
-unread_read Why v t (Some No) f h = h
-unread_read Why v t (Some Mistaken) f h = h
-
-pub unread_so : (Why : Type 0) (why : Option Reason) → IsUnread Why why → why ≡ Some Refused → Why
-unread_so Why None h is = absurd (let no : None ≡ Some Refused = is in cc)
-unread_so Why (Some Failed) h is = absurd (let no : Some Failed ≡ Some Refused = is in cc)
-unread_so Why (Some Refused) h is = h
-unread_so Why (Some No) h is = absurd h
-unread_so Why (Some Mistaken) h is = absurd h
-
 pub on_err : {A E : Type 0} (P Q : Type 0) (r : Result A E) → (P → Q) → OnErr r P → OnErr r Q
 on_err P Q (Ok x) f h = tt
 on_err P Q (Err e) f h = f h
+
+-- ---- what is said
+
+pub saying : (P Q : Text → Type 0) (reason : Reason) (stop : Stop) → ((t : Text) → P t → Q t) → StopsSaying reason P stop → StopsSaying reason Q stop
+saying P Q reason Memory f h = tt
+saying P Q reason Silent f h = h
+saying P Q reason (Message why note) f (said, is, same, says) = (said, is, same, f said says)
+
+-- a text that is made is what is said
+pub made_says : {A E : Type 0} (text : A → Text) (r : Result A E) (made said : Text) → IsOkAnd r (λ s. text s ≡ said)
+    → IfOk r (λ s. text s ≡ made) → said ≡ made
+made_says text (Ok s) made said says makes = sym says ∙ makes
+made_says text (Err e) made said says makes = absurd says
+
+-- ---- a file that is not read
+
+-- the parser's reason is said
+pub refused_so : (v w : Version) (file t : Text) (r : Report) (stop : Stop) → w ≡ v → IsRefusalIn w t r
+    → StopsSaying Refused (λ said. said ≡ refusal_text file r) stop → IsNotRead v file t stop
+refused_so v w file t r stop same why says =
+    saying (λ said. said ≡ refusal_text file r) (SaysRefused v file t) Refused stop
+    (λ said is. inr (r, subst (λ (u : Version). IsRefusalIn u t r) same why, is)) says
+
+module _ (v : Version) (file : Text) (old new : Option (List Event)) (left : Option Text) (stop : Stop) where
+  abbrev pub Says : Text → Type 0
+  Says = IsReadAsRefused v file old new left
+
+  pub unread_text : IsUnread file (IsNoTextOf file old new left) stop → IsUnread file Says stop
+  unread_text (inl h) = inl h
+  unread_text (inr h) = inr (saying (IsNoTextOf file old new left) Says Refused stop (λ said (bytes, read, bad). (bytes, read, inl bad)) h)
+
+  pub unread_held : IsUnread file (IsNoHeldText file old new) stop → IsUnread file Says stop
+  unread_held (inl h) = inl h
+  unread_held (inr h) = inr (saying (IsNoHeldText file old new) Says Refused stop (λ said (bytes, held, bad). (bytes, inr held, inl bad)) h)
+
+  pub unread_here : (t : Text) → IsReadOf file old new left t → IsNotRead v file t stop → IsUnread file Says stop
+  unread_here t read h = inr (saying (SaysRefused v file t) Says Refused stop (λ said says. (t, read, says)) h)
+
+-- ---- what is told
+
+pub failed_not : (file : Text) (stop : Stop) → IsFailed file stop → reason_of stop ≢ Some Refused
+failed_not file Memory h is = absurd (let e : None ≡ Some Refused = is in cc)
+failed_not file Silent h is = h
+failed_not file (Message why note) (said, so, same, about) is = absurd (let e : Some why ≡ Some Refused = is in let f : why ≡ Failed = so in cc)
+
+pub stop_told : (told : Told) (stop : Stop) → reason_of stop ≢ Some Refused → TellsOfFile (Err stop) told → TellsStop stop told
+stop_told told Memory other tells = tells
+stop_told told Silent other tells = tells
+stop_told told (Message No note) other tells = tells
+stop_told told (Message Mistaken note) other tells = tells
+stop_told told (Message Failed note) other tells = tells
+stop_told told (Message Refused note) other tells = absurd (other refl)
+
+-- a refusal is told in the output, unless memory runs out
+pub refused_told : (Says : Text → Type 0) (told : Told) (stop : Stop) → StopsSaying Refused Says stop → TellsOfFile (Err stop) told
+    → TellsRefused Says told ⊎ TellsStop Memory told
+refused_told Says told Memory h tells = inr tells
+refused_told Says told Silent h tells = absurd h
+refused_told Says told (Message why note) (said, is, same, says) tells = by (subst (λ (r : Reason). TellsOfFile (Err (Message r note)) told) is tells)
+  where
+    by : TellsAlone 1 (unnamed (string_bytes note.text)) told ⊎ TellsStop Memory told → TellsRefused Says told ⊎ TellsStop Memory told
+    by (inl line) = inl (said, says, subst (λ (t : Text). TellsAlone 1 (unnamed t) told) same line)
+    by (inr out) = inr out

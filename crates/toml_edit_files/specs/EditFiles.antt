@@ -1,14 +1,14 @@
 -- What `edit` does with files.
 use Rattle.std.specs.Prelude.{◌≡◌, ◌⊎◌, Bool, not, ◌&&◌, ◌||◌, IsTrue, MatchBool, List, [], ◌++◌, Option, Some, None, is_none, unwrap_or}
 use Rattle.std.specs.Option.{option_copied}
-use Rattle.std.specs.Str.{IsUtf8}
 use Rattle.file_replace.specs.Events.{Text, Event}
 use Rattle.toml_edit_edits.specs.declared.edit.Edit.{Edit}
+use Rattle.toml_edit_files.specs.Checks.{IsReadAsRefused}
 use Rattle.toml_edit_files.specs.Edited.{IsEdited, IsInForm, IsNotEdited, version_by}
 use Rattle.toml_edit_files.specs.Folders.{IsHeld, IsNoTextOf, IsPut, IsPutAt, IsReadOf, IsTextOf, LeavesInput, OnlyLooks, is_stream}
 use Rattle.toml_edit_files.specs.Lines.{SaysScript}
-use Rattle.toml_edit_files.specs.declared.stop.Reason.{Reason}
-use Rattle.toml_edit_files.specs.declared.stop.Reason.TheVariants.{Mistaken, Failed, Refused}
+use Rattle.toml_edit_files.specs.Stops.{IsFailed, IsMistaken, IsUnread, reason_of}
+use Rattle.toml_edit_files.specs.declared.stop.Stop.{Stop}
 use Rattle.toml_edit_files.specs.declared.words.EditCommand.{EditCommand}
 use Rattle.toml_edit_files.specs.declared.words.Reading.{Reading}
 
@@ -68,32 +68,30 @@ EditsFile reading c edits old new left output =
 
 -- ---- why it is not
 
--- Where memory has not run out and no call has failed, the text of the file is not UTF-8, or the edits
--- leave nothing of it that is written.
+-- Where memory has not run out and no call has failed, the file is refused, or the edits leave nothing
+-- of it that is written.
 abbrev pub IsUnmade : Reading → EditCommand → List Edit → Option (List Event) → Option (List Event)
-    → Option Text → Option Reason → Type 0
-IsUnmade reading c all old new left None = Unit {0}
-IsUnmade reading c all old new left (Some Failed) = Unit {0}
-IsUnmade reading c all old new left (Some why) =
-    (t : Text) × IsReadOf c.file.now old new left t
-    × (((why ≡ Refused) × ¬ (IsUtf8 t)) ⊎ IsNotEdited reading c.locked all t (Some why))
+    → Option Text → Stop → Type 0
+IsUnmade reading c all old new left stop =
+    IsUnread c.file.now (IsReadAsRefused (version_by reading) c.file.now old new left) stop
+    ⊎ IsFailed (target_of c) stop
+    ⊎ ((t : Text) × IsReadOf c.file.now old new left t
+    × IsNotEdited reading c.locked all t (reason_of stop))
 
 -- so the script is not UTF-8, or says no edits
 abbrev pub HasNoScript : Reading → Option Text → Option (List Event) → Option (List Event)
-    → Option Text → Option Reason → Type 0
-HasNoScript reading script old new left None = Unit {0}
-HasNoScript reading script old new left (Some Failed) = Unit {0}
-HasNoScript reading (Some script) old new left (Some Refused) = IsNoTextOf script old new left
-HasNoScript reading (Some script) old new left (Some Mistaken) =
-    (t : Text) × IsTextOf script old new left t
-    × ((es : List Edit) → SaysScript (version_by reading) t es → ⊥)
-HasNoScript reading script old new left (Some _) = ⊥
+    → Option Text → Stop → Type 0
+HasNoScript reading None old new left stop = ⊥
+HasNoScript reading (Some script) old new left stop =
+    IsUnread script (IsNoTextOf script old new left) stop
+    ⊎ ((t : Text) × IsTextOf script old new left t
+    × IsMistaken ((es : List Edit) → SaysScript (version_by reading) t es → ⊥) (reason_of stop))
 
 abbrev pub HasNoEdits : Reading → EditCommand → List Edit → Option (List Event) → Option (List Event)
-    → Option Text → Option Reason → Type 0
-HasNoEdits reading c edits old new left why =
-    HasNoScript reading (option_copied c.script) old new left why
+    → Option Text → Stop → Type 0
+HasNoEdits reading c edits old new left stop =
+    HasNoScript reading (option_copied c.script) old new left stop
     ⊎ ((all : List Edit) × (scripted : Option (List Event)) × (rest : Option Text)
     × OnlyLooks old scripted
     × ScriptedFirst reading (option_copied c.script) old scripted left rest edits all
-    × IsUnmade reading c all scripted new rest why)
+    × IsUnmade reading c all scripted new rest stop)

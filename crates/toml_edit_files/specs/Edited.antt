@@ -15,10 +15,13 @@ use Rattle.toml_edit.specs.Documents.{IsOwnedReadingIn, MeansWhatIsShown}
 use Rattle.toml_edit.specs.declared.document.DocumentMut.{DocumentMut}
 use Rattle.file_replace.specs.Events.{Event}
 use Rattle.toml_edit_files.specs.Folders.{IsTextOf}
+use Rattle.toml_edit_files.specs.Refusals.{SaysRefused}
+use Rattle.toml_edit_files.specs.Stops.{StopsSaying}
 use Rattle.toml_edit_edits.specs.Lists.{applied}
 use Rattle.toml_edit_edits.specs.declared.edit.Edit.{Edit}
 use Rattle.toml_edit_files.specs.declared.stop.Reason.{Reason}
 use Rattle.toml_edit_files.specs.declared.stop.Reason.TheVariants.{No, Mistaken, Failed, Refused}
+use Rattle.toml_edit_files.specs.declared.stop.Stop.{Stop}
 use Rattle.toml_edit_files.specs.declared.words.Reading.{Reading}
 
 -- ---- how a text is read
@@ -99,11 +102,9 @@ pub record IsWritten (reading : Reading) (before : Text) (d : DocumentMut) (s : 
 
 -- ---- refusals
 
--- why a text is not read, where memory has not run out
-abbrev pub IsNotRead : Version → Text → Option Reason → Type 0
-IsNotRead version t None = Unit {0}
-IsNotRead version t (Some Refused) = ¬ (IsAccepted version t)
-IsNotRead version t (Some _) = ⊥
+-- the text of a file is refused, which is said, or memory has run out
+abbrev pub IsNotRead : Version → Text → Text → Stop → Type 0
+IsNotRead version file t stop = StopsSaying Refused (SaysRefused version file t) stop
 
 -- why edits are not made, a document is not printed, a print is not TOML 1.0, or neither
 abbrev pub IsNotMade : List Edit → Tree → Option Reason → Type 0
@@ -132,13 +133,13 @@ IsNotInForm locked form t None = Unit {0}
 IsNotInForm locked form t (Some Refused) = IsTrue locked × (form ≢ t)
 IsNotInForm locked form t (Some _) = ⊥
 
--- Why it is not edited: it is not read, or is not in its normal form and is locked; or it is read, and
--- the edits leave no text of it.
+-- Why a text that is read is not edited: it is not in its normal form and is locked; or the edits leave
+-- no text of it.
 abbrev pub IsNotEdited : Reading → Bool → List Edit → Text → Option Reason → Type 0
 IsNotEdited reading locked edits t None = Unit {0}
 IsNotEdited reading locked edits t (Some Failed) = ⊥
 IsNotEdited reading locked edits t (Some Refused) =
-    ¬ (IsAccepted (version_by reading) t) ⊎ (IsTrue locked × ¬ (IsInForm reading t))
+    IsTrue locked × IsAccepted (version_by reading) t × ¬ (IsInForm reading t)
 IsNotEdited reading locked edits t (Some _) =
     (x : Tree) × (is_open : Bool) × IsRead reading t x is_open
     × ((s : Text) → ¬ (IsLeft reading edits x is_open t s))

@@ -1,9 +1,9 @@
 -- What commands ask of a folder.
 use Rattle.std.specs.Prelude.{◌≡◌, ◌⊎◌, Bool, true, false, MatchBool, List, [], ◌∷◌, Option, Some, None, IfSome, bytes_eq, codes}
-use Rattle.std.specs.Str.{IsUtf8}
 use Rattle.std.specs.List.{list_all}
 use Rattle.file_replace.specs.Events.{Text, Call, Event, found, leads_to, locked, writable, done, more}
 use Rattle.file_replace.specs.Replacing.{Asked, IsReplaced, StopsReplacing}
+use Rattle.toml_edit_files.specs.Refusals.{IsNotUtf8}
 use Rattle.toml_edit_files.specs.declared.stop.Reason.{Reason}
 use Rattle.toml_edit_files.specs.declared.stop.Reason.TheVariants.{Failed}
 
@@ -48,15 +48,15 @@ IsReadOf file old new left bytes =
     IsTextOf file old new left bytes
     ⊎ ((name : Text) × IsHeld file name old new bytes)
 
--- what it holds is not UTF-8, in the second way
-abbrev pub IsNoHeldText : Text → Option (List Event) → Option (List Event) → Type 0
-IsNoHeldText file old new =
-    (bytes : Text) × ((name : Text) × IsHeld file name old new bytes) × ¬ (IsUtf8 bytes)
+-- what it holds is not UTF-8, in the second way, and that is said
+abbrev pub IsNoHeldText : Text → Option (List Event) → Option (List Event) → Text → Type 0
+IsNoHeldText file old new said =
+    (bytes : Text) × ((name : Text) × IsHeld file name old new bytes) × IsNotUtf8 file bytes said
 
 -- in one of them
-abbrev pub IsNoTextOf : Text → Option (List Event) → Option (List Event) → Option Text → Type 0
-IsNoTextOf file old new left =
-    (bytes : Text) × IsReadOf file old new left bytes × ¬ (IsUtf8 bytes)
+abbrev pub IsNoTextOf : Text → Option (List Event) → Option (List Event) → Option Text → Text → Type 0
+IsNoTextOf file old new left said =
+    (bytes : Text) × IsReadOf file old new left bytes × IsNotUtf8 file bytes said
 
 -- ---- replacements
 

@@ -16,12 +16,14 @@ use Rattle.toml_edit_edits.specs.declared.edit.Edit.{Edit}
 use Rattle.toml_edit_edits.specs.declared.fault.EditFault.{EditFault}
 use Rattle.toml_edit_edits.specs.declared.fault.EditFault.TheVariants.{NoSuchPath}
 use Rattle.toml_edit_files.specs.Checks.{IsReadAsRefused}
-use Rattle.toml_edit_files.specs.Edited.{IsAccepted, IsLeft, IsRead, mark_of, mode_by, version_by}
+use Rattle.toml_edit_files.specs.Edited.{IsLeft, IsRead, mark_of, mode_by, version_by}
 use Rattle.toml_edit_files.specs.Folders.{IsHeld, IsPut, IsReadOf, IsTextOf, Stops, is_stream}
-use Rattle.toml_edit_files.specs.Outcomes.{TellsAlone, TellsRefused, TellsWhy}
+use Rattle.toml_edit_files.specs.Outcomes.{TellsAlone, TellsRefused, TellsStop}
+use Rattle.toml_edit_files.specs.Stops.{IsUnread, reason_of}
 use Rattle.toml_edit_files.specs.declared.told.Told.{Told}
 use Rattle.toml_edit_files.specs.declared.stop.Reason.{Reason}
 use Rattle.toml_edit_files.specs.declared.stop.Reason.TheVariants.{No, Mistaken, Failed, Refused}
+use Rattle.toml_edit_files.specs.declared.stop.Stop.{Stop}
 use Rattle.toml_edit_files.specs.declared.words.Fmt.{Fmt}
 use Rattle.toml_edit_files.specs.declared.words.Reading.{Reading}
 use Rattle.toml_edit_files.specs.declared.words.Style.{Style}
@@ -79,24 +81,21 @@ IsNotSorted made (Some No) = (x : Tree) → made ≢ Ok x
 IsNotSorted made (Some Mistaken) = (x : Tree) → made ≢ Ok x
 IsNotSorted made (Some _) = ⊥
 
--- why a text is not formatted: it is not read; or it is, and no text is its formatted one
+-- why a text that is read is not formatted: no text is its formatted one
 abbrev pub IsNotFormatted : Reading → Style → Text → Option Reason → Type 0
 IsNotFormatted reading style t None = Unit {0}
 IsNotFormatted reading style t (Some Failed) = ⊥
-IsNotFormatted reading style t (Some Refused) = ¬ (IsAccepted (version_by reading) t)
+IsNotFormatted reading style t (Some Refused) = ⊥
 IsNotFormatted reading style t (Some _) =
     (x : Tree) × (is_open : Bool) × IsRead reading t x is_open
     × ((s : Text) → ¬ (IsLaidOut reading style x is_open t s))
 
 -- Where memory has not run out and no call has failed, the file is refused, or has no formatted text.
 abbrev pub IsUnformatted : Reading → Style → Text → Option (List Event) → Option (List Event)
-    → Option Text → Option Reason → Type 0
-IsUnformatted reading style file old new left None = Unit {0}
-IsUnformatted reading style file old new left (Some Failed) = Unit {0}
-IsUnformatted reading style file old new left (Some Refused) =
-    IsReadAsRefused (version_by reading) file old new left
-IsUnformatted reading style file old new left (Some why) =
-    (t : Text) × IsReadOf file old new left t × IsNotFormatted reading style t (Some why)
+    → Option Text → Stop → Type 0
+IsUnformatted reading style file old new left stop =
+    IsUnread file (IsReadAsRefused (version_by reading) file old new left) stop
+    ⊎ ((t : Text) × IsReadOf file old new left t × IsNotFormatted reading style t (reason_of stop))
 
 -- ---- what becomes of a file
 
@@ -134,8 +133,8 @@ abbrev pub FormatsFile : Reading → Fmt → Text → Told → Option (List Even
 FormatsFile reading c file told old new left =
     ((is_yes : Bool) × (output : Text) × FormatsDone reading c file is_yes output old new left
     × TellsAlone (if is_yes then 0 else 1) output told)
-    ⊎ (TellsRefused told × (is_stream file ≡ false)
-    × IsReadAsRefused (version_by reading) file old new left)
-    ⊎ ((why : Option Reason) × Stops file old new why
-    × (is_stream file ≡ false → why ≢ Some Refused)
-    × IsUnformatted reading c.style file old new left why × TellsWhy why told)
+    ⊎ ((is_stream file ≡ false)
+    × TellsRefused (IsReadAsRefused (version_by reading) file old new left) told)
+    ⊎ ((stop : Stop) × Stops file old new (reason_of stop)
+    × (is_stream file ≡ false → reason_of stop ≢ Some Refused)
+    × IsUnformatted reading c.style file old new left stop × TellsStop stop told)

@@ -1,3 +1,4 @@
+pub mod Refusals
 pub mod Stops
 pub mod Get
 pub mod Keys

@@ -1,15 +1,15 @@
 -- What commands come to, on one file and on several.
-use Rattle.std.specs.Prelude.{◌≡◌, ◌≢◌, ◌<◌, ◌⊎◌, ℕ, max, if◌then◌else◌, List, [], ◌∷◌, length, map, flat_map, None, Option, Result, Ok, Err, string_bytes}
+use Rattle.std.specs.Prelude.{◌≡◌, ◌≢◌, ◌<◌, ◌⊎◌, ℕ, max, if◌then◌else◌, List, [], ◌∷◌, ◌++◌, length, map, flat_map, Option, Result, Ok, Err, string_bytes}
+use Rattle.toml_edit_model.specs.Text.{newline}
 use Rattle.file_replace.specs.Events.{Text, Event}
 use Rattle.toml_edit_files.specs.Folders.{LeavesInput}
-use Rattle.toml_edit_files.specs.Notes.{NotesWhy}
-use Rattle.toml_edit_files.specs.Stops.{reason_of, status_of}
+use Rattle.toml_edit_files.specs.Notes.{unnamed}
+use Rattle.toml_edit_files.specs.Stops.{notes_of, reason_of, status_of}
 use Rattle.toml_edit_files.specs.declared.outcome.Done.{Done}
 use Rattle.toml_edit_files.specs.declared.told.Told.{Told}
-use Rattle.toml_edit_files.specs.declared.stop.Reason.{Reason}
 use Rattle.toml_edit_files.specs.declared.stop.Reason.TheVariants.{Refused}
 use Rattle.toml_edit_files.specs.declared.stop.Stop.{Stop}
-use Rattle.toml_edit_files.specs.declared.stop.Stop.TheVariants.{Message}
+use Rattle.toml_edit_files.specs.declared.stop.Stop.TheVariants.{Message, Memory}
 
 -- the status and the output of a command
 abbrev pub Tells : ℕ → Text → Told → Type 0
@@ -19,23 +19,25 @@ Tells status output told = (told.status ≡ status) × (string_bytes told.output
 abbrev pub TellsAlone : ℕ → Text → Told → Type 0
 TellsAlone status output told = Tells status output told × (string_bytes told.notes ≡ [])
 
--- that a file is refused, which is its output
-abbrev pub TellsRefused : Told → Type 0
-TellsRefused told = (told.status ≡ 1) × (string_bytes told.notes ≡ [])
+-- that a file is refused: what is said of it is the output
+abbrev pub TellsRefused : (Text → Type 0) → Told → Type 0
+TellsRefused Says told = (said : Text) × Says said × TellsAlone 1 (said ++ newline) told
 
--- those of one that stops
-abbrev pub TellsWhy : Option Reason → Told → Type 0
-TellsWhy why told = Tells (status_of why) [] told × NotesWhy why (string_bytes told.notes)
+-- those of one that stops, with its message
+abbrev pub TellsStop : Stop → Told → Type 0
+TellsStop stop told =
+    Tells (status_of (reason_of stop)) [] told × (string_bytes told.notes ≡ notes_of stop)
 
 abbrev pub TellsOf : Result Done Stop → Told → Type 0
 TellsOf (Ok done) told =
     Tells (if done.yes then 0 else 1) (string_bytes done.output) told
     × (string_bytes told.notes ≡ string_bytes done.notes)
-TellsOf (Err stop) told = TellsWhy (reason_of stop) told
+TellsOf (Err stop) told = TellsStop stop told
 
--- those of a file, of which a refusal is an answer that is no
+-- those of a file, of which a refusal is an answer that is no, with the message as its output
 abbrev pub TellsOfFile : Result Done Stop → Told → Type 0
-TellsOfFile (Err (Message Refused note)) told = TellsRefused told ⊎ TellsWhy None told
+TellsOfFile (Err (Message Refused note)) told =
+    TellsAlone 1 (unnamed (string_bytes note.text)) told ⊎ TellsStop Memory told
 TellsOfFile outcome told = TellsOf outcome told
 
 -- ---- several files

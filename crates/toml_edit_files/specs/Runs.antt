@@ -1,5 +1,5 @@
 -- What a run has done.
-use Rattle.std.specs.Prelude.{◌≡◌, ◌⊎◌, ℕ, Bool, true, false, ◌==◌, if◌then◌else◌, List, [], ◌++◌, map, Option, Some, None, codes, string_bytes}
+use Rattle.std.specs.Prelude.{◌≡◌, ◌⊎◌, ℕ, Bool, true, false, ◌==◌, if◌then◌else◌, List, [], ◌++◌, map, Option, codes, string_bytes}
 use Rattle.std.specs.Io.KnownBytes.{Appends}
 use Rattle.toml_edit_io.specs.Streams.{AppendsBeginning}
 use Rattle.toml_edit_model.specs.Text.{newline}
@@ -11,11 +11,11 @@ use Rattle.toml_edit_files.specs.EditFiles.{EditsFile, HasNoEdits, target_of}
 use Rattle.toml_edit_files.specs.Edited.{IsReadFrom, version_by}
 use Rattle.toml_edit_files.specs.Folders.{OnlyLooks, Stops}
 use Rattle.toml_edit_files.specs.FormatFiles.{FormatsFile}
-use Rattle.toml_edit_files.specs.Outcomes.{DoesAll, Tells, TellsAlone, TellsWhy}
+use Rattle.toml_edit_files.specs.Outcomes.{DoesAll, Tells, TellsAlone, TellsStop}
 use Rattle.toml_edit_files.specs.Requests.{IsNoRequest, SaysRequest}
+use Rattle.toml_edit_files.specs.Stops.{IsMistaken, IsUnread, reason_of}
 use Rattle.toml_edit_files.specs.declared.told.Told.{Told}
-use Rattle.toml_edit_files.specs.declared.stop.Reason.{Reason}
-use Rattle.toml_edit_files.specs.declared.stop.Reason.TheVariants.{Failed, Mistaken, Refused}
+use Rattle.toml_edit_files.specs.declared.stop.Stop.{Stop}
 use Rattle.toml_edit_files.specs.declared.words.Command.{Command}
 use Rattle.toml_edit_files.specs.declared.words.Command.TheVariants.{Show, Ask, Edit, Check, Fmt}
 use Rattle.toml_edit_files.specs.declared.words.Question.{Question}
@@ -30,12 +30,10 @@ module _ (old new : Option (List Event)) (left : Option Text) where
 
   -- Why it has none: memory ran out or a call failed, its file is refused, or what that holds is read
   -- and has no answer.
-  abbrev pub HasNone : Reading → Question → Option Reason → Type 0
-  HasNone reading q None = Unit {0}
-  HasNone reading q (Some Failed) = Unit {0}
-  HasNone reading q (Some Refused) = IsReadAsRefused (version_by reading) (file_of q) old new left
-  HasNone reading q (Some why) =
-      (x : Tree) × IsReadFrom reading (file_of q) old new left x × HasNoAnswer q x (Some why)
+  abbrev pub HasNone : Reading → Question → Stop → Type 0
+  HasNone reading q stop =
+      IsUnread (file_of q) (IsReadAsRefused (version_by reading) (file_of q) old new left) stop
+      ⊎ ((x : Tree) × IsReadFrom reading (file_of q) old new left x × HasNoAnswer q x (reason_of stop))
 
   -- The command is done; or it stops, and has no output. One on several files is done with each.
   abbrev pub EndsCommand : Reading → Command → Told → Type 0
@@ -43,11 +41,11 @@ module _ (old new : Option (List Event)) (left : Option Text) where
   EndsCommand reading (Ask q) told =
       ((is_yes : Bool) × (output : Text) × AnswersQuestion reading q is_yes output
       × TellsAlone (if is_yes then 0 else 1) output told)
-      ⊎ ((why : Option Reason) × OnlyLooks old new × HasNone reading q why × TellsWhy why told)
+      ⊎ ((stop : Stop) × OnlyLooks old new × HasNone reading q stop × TellsStop stop told)
   EndsCommand reading (Edit c edits) told =
       ((output : Text) × EditsFile reading c edits.items old new left output × Tells 0 output told)
-      ⊎ ((why : Option Reason) × Stops (target_of c) old new why
-      × HasNoEdits reading c edits.items old new left why × TellsWhy why told)
+      ⊎ ((stop : Stop) × Stops (target_of c) old new (reason_of stop)
+      × HasNoEdits reading c edits.items old new left stop × TellsStop stop told)
   EndsCommand reading (Check files) told =
       DoesAll (ChecksFile (version_by reading)) (map (λ f. f.now) files.items) old new left told
   EndsCommand reading (Fmt c) told =
@@ -58,8 +56,8 @@ module _ (old new : Option (List Event)) (left : Option Text) where
   abbrev pub Ends : List Text → Told → Type 0
   Ends words told =
       ((q : Request) × SaysRequest words q × EndsCommand q.reading q.command told)
-      ⊎ (IsNoRequest words × (new ≡ old) × TellsWhy (Some Mistaken) told)
-      ⊎ ((new ≡ old) × TellsWhy None told)
+      ⊎ ((stop : Stop) × (new ≡ old) × IsMistaken (IsNoRequest words) (reason_of stop)
+      × TellsStop stop told)
 
 -- ---- what is written
 

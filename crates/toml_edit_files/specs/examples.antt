@@ -2,3 +2,4 @@
 pub mod Keys
 pub mod Get
 pub mod Outcomes
+pub mod Refusals

@@ -4,12 +4,12 @@ ghost use Rattle.toml_edit_files.specs.Checks.{ChecksFile, IsReadAsAccepted, IsR
 ghost use Rattle.toml_edit_files.specs.Edited.{IsAccepted, IsNotRead, version_by};
 ghost use Rattle.toml_edit_files.specs.Folders.{LeavesInput, OnlyLooks};
 ghost use Rattle.toml_edit_files.specs.Outcomes.{DoesAll};
-ghost use Rattle.toml_edit_files.specs.Stops.{IsUnread, reason_of};
+ghost use Rattle.toml_edit_files.specs.Stops.{IsUnread};
 
 use crate::messages::refused;
-use crate::outcome::{told_of, told_of_refused};
+use crate::outcome::told_of_file;
 use crate::read::text_of;
-use crate::stop::{DONE, Reason, Stop};
+use crate::stop::{DONE, Stop};
 use crate::told::Told;
 use crate::words::Reading;
 use file_replace::Folder;
@@ -52,8 +52,7 @@ fn check_file<F: Folder, I: Input>(
 {
     match read_accepted(alloc, folder, input, file, reading) {
         Ok(()) => Told::new(alloc, DONE),
-        Err(Stop::Message(Reason::Refused, note)) => told_of_refused(alloc, note),
-        Err(stop) => told_of(alloc, Err(stop)),
+        Err(stop) => told_of_file(alloc, Err(stop)),
     }
 }
 
@@ -67,8 +66,8 @@ fn read_accepted<F: Folder, I: Input>(
 ) -> Result<(), Stop>
     ensures accepted { OnOk result (IsReadAsAccepted (version_by reading) file.now
         (F.history folder.old) (F.history folder.new) (I.remaining input.old)) }
-    ensures refused { IfErr result (λ stop. IsUnread (IsReadAsRefused (version_by reading) file.now
-        (F.history folder.old) (F.history folder.new) (I.remaining input.old)) (reason_of stop)) }
+    ensures refused { IfErr result (IsUnread file.now (IsReadAsRefused (version_by reading)
+        file.now (F.history folder.old) (F.history folder.new) (I.remaining input.old))) }
     ensures looks { OnlyLooks (F.history folder.old) (F.history folder.new) }
     ensures rest { LeavesInput file.now (I.remaining input.old) (I.remaining input.new) }
 {
@@ -79,8 +78,7 @@ fn read_accepted<F: Folder, I: Input>(
 /// Fails if a text is refused.
 fn accept(alloc: Global, file: &str, text: &str, reading: Reading) -> Result<(), Stop>
     ensures accepted { OnOk result (IsAccepted (version_by reading) text.now) }
-    ensures stops { IfErr result
-        (λ stop. IsNotRead (version_by reading) text.now (reason_of stop)) }
+    ensures stops { IfErr result (IsNotRead (version_by reading) file.now text.now) }
 {
     match Document::parse_with(alloc, text, reading.options()) {
         Ok(document) => {

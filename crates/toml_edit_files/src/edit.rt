@@ -1,9 +1,9 @@
 //! The command `edit`: the text of a file after its edits, and where it goes.
-ghost use Rattle.std.specs.Prelude.{◌≡◌, ◌++◌, IfErr, IfOk, IsTrue, None, Ok, OnOk, Option, Some, string_bytes, true};
+ghost use Rattle.std.specs.Prelude.{◌≡◌, ◌⊎◌, ◌++◌, IfErr, IfOk, IsTrue, None, Ok, OnOk, Option, Some, string_bytes, true};
 ghost use Rattle.std.specs.Option.{option_copied};
 ghost use Rattle.toml_edit.specs.DocumentView.{IsPrintedAs, tree_owned};
 ghost use Rattle.toml_edit_files.specs.EditFiles.{EditsElsewhere, EditsFile, EditsInPlace, HasNoEdits, HasNoScript, IsUnmade, ScriptedFirst, is_in_place, is_shown, target_of};
-ghost use Rattle.toml_edit_files.specs.Edited.{IsAccepted, IsEdited, IsFittingPrint, IsInForm, IsMisfit, IsNotEdited, IsNotMade, IsNotWritten, IsTooNew, IsWritten, mark_of};
+ghost use Rattle.toml_edit_files.specs.Edited.{IsAccepted, IsEdited, IsFittingPrint, IsInForm, IsMisfit, IsNotEdited, IsNotMade, IsNotRead, IsNotWritten, IsTooNew, IsWritten, mark_of, version_by};
 ghost use Rattle.toml_edit_files.specs.Folders.{OnlyLooks, Stops};
 ghost use Rattle.toml_edit_files.specs.Stops.{reason_of};
 ghost use Rattle.toml_edit_files.specs.declared.stop.Reason.TheVariants.{Mistaken};
@@ -42,8 +42,8 @@ pub fn edit<F: Folder, I: Input>(
     ensures yes { IfOk result (λ done. done.yes ≡ true) }
     ensures stops { IfErr result (λ stop. Stops (target_of command.now) (F.history folder.old)
         (F.history folder.new) (reason_of stop)) }
-    ensures unmade { IfErr result (λ stop. HasNoEdits reading command.now edits.items
-        (F.history folder.old) (F.history folder.new) (I.remaining input.old) (reason_of stop)) }
+    ensures unmade { IfErr result (HasNoEdits reading command.now edits.items
+        (F.history folder.old) (F.history folder.new) (I.remaining input.old)) }
 {
     let edits = all_edits(alloc, folder, input, command.script, edits, reading)?;
     let edits = edits.as_slice();
@@ -68,7 +68,7 @@ fn edit_in_place<F: Folder>(
     ensures stops { IfErr result (λ stop. Stops command.now.file.now (F.history folder.old)
         (F.history folder.new) (reason_of stop)) }
     ensures unmade { IfErr result (λ stop. (left : Option Text) → IsUnmade reading command.now
-        edits.now (F.history folder.old) (F.history folder.new) left (reason_of stop)) }
+        edits.now (F.history folder.old) (F.history folder.new) left stop) }
 {
     let held = held_of(alloc, folder, command.file)?;
     let edited = edited_text(alloc, command, held.text.as_str(), edits, reading)?;
@@ -102,8 +102,8 @@ fn edit_elsewhere<F: Folder, I: Input>(
     ensures yes { IfOk result (λ done. done.yes ≡ true) }
     ensures stops { IfErr result (λ stop. Stops (target_of command.now) (F.history folder.old)
         (F.history folder.new) (reason_of stop)) }
-    ensures unmade { IfErr result (λ stop. IsUnmade reading command.now edits.now
-        (F.history folder.old) (F.history folder.new) (I.remaining input.old) (reason_of stop)) }
+    ensures unmade { IfErr result (IsUnmade reading command.now edits.now (F.history folder.old)
+        (F.history folder.new) (I.remaining input.old)) }
 {
     let text = text_of(alloc, folder, input, command.file)?;
     let edited = edited_text(alloc, command, text.as_str(), edits, reading)?;
@@ -131,8 +131,8 @@ fn all_edits<F: Folder, I: Input>(
     ensures edits { IfOk result (λ all. ScriptedFirst reading (option_copied script.entry)
         (F.history folder.old) (F.history folder.new) (I.remaining input.old)
         (I.remaining input.new) edits.items all.items) }
-    ensures stops { IfErr result (λ stop. HasNoScript reading (option_copied script.entry)
-        (F.history folder.old) (F.history folder.new) (I.remaining input.old) (reason_of stop)) }
+    ensures stops { IfErr result (HasNoScript reading (option_copied script.entry)
+        (F.history folder.old) (F.history folder.new) (I.remaining input.old)) }
     ensures looks { OnlyLooks (F.history folder.old) (F.history folder.new) }
 {
     let Some(script) = script else {
@@ -157,8 +157,8 @@ fn edited_text(
         (λ done. IsEdited reading edits.now text.now (string_bytes done.output)) }
     ensures yes { IfOk result (λ done. done.yes ≡ true) }
     ensures locked { OnOk result (IsTrue command.now.locked → IsInForm reading text.now) }
-    ensures stops { IfErr result (λ stop. IsNotEdited reading command.now.locked edits.now text.now
-        (reason_of stop)) }
+    ensures stops { IfErr result (λ stop. IsNotRead (version_by reading) command.now.file.now
+        text.now stop ⊎ IsNotEdited reading command.now.locked edits.now text.now (reason_of stop)) }
 {
     let mut document = document_of(alloc, command.file, text, reading)?;
     let notes = check_form(alloc, command, text, &document, reading)?;

@@ -1,7 +1,7 @@
 //! The command `fmt`: files in the layout of the formatter.
-ghost use Rattle.std.specs.Prelude.{◌≡◌, ◌++◌, [], IfErr, IfOk, Ok, OnOk, Option, codes, map, string_bytes};
+ghost use Rattle.std.specs.Prelude.{◌≡◌, ◌⊎◌, ◌++◌, [], IfErr, IfOk, Ok, OnOk, Option, codes, map, string_bytes};
 ghost use Rattle.toml_edit.specs.DocumentView.{IsPrintedAs, mode_owned, open_owned, tree_owned};
-ghost use Rattle.toml_edit_files.specs.Edited.{IsRead, mode_by};
+ghost use Rattle.toml_edit_files.specs.Edited.{IsNotRead, IsRead, mode_by, version_by};
 ghost use Rattle.toml_edit_files.specs.Folders.{LeavesInput, Stops};
 ghost use Rattle.toml_edit_files.specs.FormatFiles.{FormatsDone, FormatsFile, FormatsInPlace, IsFormatted, IsNotFormatted, IsNotSorted, IsUnformatted, passing_over, rules_by, sorted_by};
 ghost use Rattle.toml_edit_files.specs.Outcomes.{DoesAll};
@@ -82,8 +82,8 @@ fn done_of<F: Folder, I: Input>(
     ensures done { IfOk result (λ done. FormatsDone reading command.now file.now done.yes
         (string_bytes done.output) (F.history folder.old) (F.history folder.new)
         (I.remaining input.old)) }
-    ensures unmade { IfErr result (λ stop. IsUnformatted reading command.now.style file.now
-        (F.history folder.old) (F.history folder.new) (I.remaining input.old) (reason_of stop)) }
+    ensures unmade { IfErr result (IsUnformatted reading command.now.style file.now
+        (F.history folder.old) (F.history folder.new) (I.remaining input.old)) }
     ensures quiet { IfOk result (λ done. string_bytes done.notes ≡ []) }
     ensures stops { IfErr result (λ stop. Stops file.now (F.history folder.old)
         (F.history folder.new) (reason_of stop)) }
@@ -124,8 +124,7 @@ fn in_place<F: Folder>(
     ensures done { IfOk result (λ done. FormatsInPlace reading command.now file.now done.yes
         (string_bytes done.output) (F.history folder.old) (F.history folder.new)) }
     ensures unmade { IfErr result (λ stop. (left : Option Text) → IsUnformatted reading
-        command.now.style file.now (F.history folder.old) (F.history folder.new) left
-        (reason_of stop)) }
+        command.now.style file.now (F.history folder.old) (F.history folder.new) left stop) }
     ensures quiet { IfOk result (λ done. string_bytes done.notes ≡ []) }
     ensures stops { IfErr result (λ stop. Stops file.now (F.history folder.old)
         (F.history folder.new) (reason_of stop)) }
@@ -146,8 +145,8 @@ fn formatted(
 ) -> Result<String, Stop>
     ensures formatted { IfOk result
         (λ s. IsFormatted reading style.now before.now (string_bytes s)) }
-    ensures stops { IfErr result
-        (λ stop. IsNotFormatted reading style.now before.now (reason_of stop)) }
+    ensures stops { IfErr result (λ stop. IsNotRead (version_by reading) file.now before.now stop
+        ⊎ IsNotFormatted reading style.now before.now (reason_of stop)) }
 {
     let document = document_of(alloc, file, before, reading)?;
     formatted_text(alloc, file, before, document, style, reading)

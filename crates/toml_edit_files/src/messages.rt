@@ -1,7 +1,8 @@
 //! Messages about files and edits.
-ghost use Rattle.std.specs.Prelude.{◌≡◌, IfOk, option_map};
-ghost use Rattle.toml_edit_files.specs.Stops.{IsFor, reason_for, reason_of};
-ghost use Rattle.toml_edit_files.specs.declared.stop.Reason.TheVariants.{Failed, Mistaken, Refused};
+ghost use Rattle.std.specs.Prelude.{◌≡◌, ◌++◌, IfOk, IsOkAnd, codes, option_map, string_bytes};
+ghost use Rattle.toml_edit_files.specs.Refusals.{refusal_text};
+ghost use Rattle.toml_edit_files.specs.Stops.{IsAbout, IsFailed, IsFor, StopsSaying, reason_for, reason_of};
+ghost use Rattle.toml_edit_files.specs.declared.stop.Reason.TheVariants.{Mistaken, Refused};
 
 use crate::get::kind_of;
 use crate::help::{COMMANDS, Topic, usage};
@@ -17,8 +18,9 @@ use toml_edit::{DocumentMut, Item, Key, Mem, TomlError};
 use toml_edit_edits::{Edit, EditFault};
 
 /// Returns that a run ends for this reason, with a message.
-pub fn stop(alloc: Global, reason: Reason, said: Mem<String>) -> Stop
-    ensures { IsFor reason (reason_of result) }
+fn stop(alloc: Global, reason: Reason, said: Mem<String>) -> Stop
+    ensures reason { IsFor reason (reason_of result) }
+    ensures says { StopsSaying reason (λ t. IsOkAnd said (λ s. string_bytes s ≡ t)) result }
 {
     let Ok(said) = said else {
         return Stop::Memory;
@@ -27,6 +29,14 @@ pub fn stop(alloc: Global, reason: Reason, said: Mem<String>) -> Stop
         Ok(note) => Stop::Message(reason, note),
         Err(_) => Stop::Memory,
     }
+}
+
+/// Returns that a run ends for this reason, with a message about a file: `FILE: WHY`.
+pub fn stop_at(alloc: Global, reason: Reason, file: &str, why: &str) -> Stop
+    ensures says { StopsSaying reason (λ said. said ≡ file.now ++ (codes ": " ++ why.now)) result }
+    ensures about { StopsSaying reason (IsAbout file.now) result }
+{
+    stop(alloc, reason, format!(in alloc; "{file}: {why}"))
 }
 
 /// Returns that the words are mistaken, with a message.
@@ -76,24 +86,33 @@ pub fn no_option(alloc: Global, topic: Topic, name: &str) -> Stop
 
 /// Returns that a call on a file has failed.
 pub fn failed(alloc: Global, file: &str, error: &io::Error) -> Stop
-    ensures { IsFor Failed (reason_of result) }
+    ensures { IsFailed file.now result }
 {
     if error.kind() == ErrorKind::OutOfMemory {
         return Stop::Memory;
     }
-    stop(alloc, Reason::Failed, format!(in alloc; "{file}: {error}"))
+    match error.to_string(alloc) {
+        Ok(why) => stop_at(alloc, Reason::Failed, file, why.as_str()),
+        Err(_) => Stop::Memory,
+    }
 }
 
 /// Returns that a file is not TOML: `FILE:LINE:COLUMN: MESSAGE`.
 pub fn refused(alloc: Global, file: &str, error: &TomlError) -> Stop
-    ensures { IsFor Refused (reason_of result) }
+    ensures { StopsSaying Refused (λ said. said ≡ refusal_text file.now error.now) result }
+{
+    stop(alloc, Reason::Refused, refusal_text(alloc, file, error))
+}
+
+/// Returns what is said of a file that is not TOML.
+fn refusal_text(alloc: Global, file: &str, error: &TomlError) -> Mem<String>
+    ensures { IfOk result (λ s. string_bytes s ≡ refusal_text file.now error.now) }
 {
     let message = error.message();
-    let said = match (error.line(), error.column()) {
+    match (error.line(), error.column()) {
         (Some(line), Some(column)) => format!(in alloc; "{file}:{line}:{column}: {message}"),
         _ => format!(in alloc; "{file}: {message}"),
-    };
-    stop(alloc, Reason::Refused, said)
+    }
 }
 
 /// Returns that an edit is refused.

@@ -1,6 +1,6 @@
 //! Messages to standard error.
 ghost use Rattle.std.specs.Prelude.{◌≡◌, IfOk, string_bytes};
-ghost use Rattle.toml_edit_files.specs.Notes.{IsNote, note_text};
+ghost use Rattle.toml_edit_files.specs.Notes.{IsNote, note_text, unnamed};
 
 use std::alloc::Global;
 use toml_edit::Mem;
@@ -23,5 +23,13 @@ impl Note {
         Ok(Note {
             text: [PROGRAM, said, "\n"].concat(alloc)?,
         })
+    }
+
+    /// Returns the message without the name of the program.
+    pub fn unnamed(&self) -> &str
+        ensures { result.now ≡ unnamed (string_bytes self.now.text) }
+    {
+        let text = self.text.as_str();
+        text.strip_prefix(PROGRAM).unwrap_or(text)
     }
 }

@@ -1,8 +1,10 @@
 //! What commands come to: their status, and what they write.
-ghost use Rattle.std.specs.Prelude.{◌≡◌, ◌⊎◌, [], None, Ok, Some, string_bytes};
-ghost use Rattle.toml_edit_files.specs.Outcomes.{TellsOf, TellsOfFile, TellsRefused, TellsWhy};
+ghost use Rattle.std.specs.Prelude.{◌≡◌, ◌⊎◌, [], Ok, string_bytes};
+ghost use Rattle.toml_edit_files.specs.Notes.{unnamed};
+ghost use Rattle.toml_edit_files.specs.Outcomes.{TellsAlone, TellsOf, TellsOfFile, TellsStop};
+ghost use Rattle.toml_edit_files.specs.declared.stop.Stop.TheVariants.{Memory, Message};
 
-use crate::note::{Note, PROGRAM};
+use crate::note::Note;
 use crate::stop::{DONE, NO, NO_MEMORY, Reason, Stop};
 use crate::told::Told;
 use std::alloc::Global;
@@ -58,7 +60,7 @@ fn told_of_done(done: Done) -> Told
 
 /// Returns the outcome of a command that stops with a message.
 fn told_of_note(alloc: Global, reason: Reason, note: Note) -> Told
-    ensures { TellsWhy (Some reason) result }
+    ensures { TellsStop (Message reason note) result }
 {
     Told {
         status: reason.status(),
@@ -83,11 +85,10 @@ pub fn told_of_file(alloc: Global, outcome: Result<Done, Stop>) -> Told
 }
 
 /// Returns the outcome of a file that is refused: the answer is no, and the message is its output.
-pub fn told_of_refused(alloc: Global, note: Note) -> Told
-    ensures { TellsRefused result ⊎ TellsWhy None result }
+fn told_of_refused(alloc: Global, note: Note) -> Told
+    ensures { TellsAlone 1 (unnamed (string_bytes note.text)) result ⊎ TellsStop Memory result }
 {
-    let line = note.text.as_str();
-    match String::from_str(alloc, line.strip_prefix(PROGRAM).unwrap_or(line)) {
+    match String::from_str(alloc, note.unnamed()) {
         Ok(line) => told_of(alloc, Ok(Done::new(alloc, false, line))),
         Err(_) => Told::new(alloc, NO_MEMORY),
     }

@@ -169,8 +169,8 @@ fn ask<F: Folder, I: Input>(
         (F.history folder.new) (I.remaining input.old) reading question.now done.yes
         (string_bytes done.output)) }
     ensures quiet { IfOk result (λ done. string_bytes done.notes ≡ []) }
-    ensures stops { IfErr result (λ stop. HasNone (F.history folder.old) (F.history folder.new)
-        (I.remaining input.old) reading question.now (reason_of stop)) }
+    ensures stops { IfErr result (HasNone (F.history folder.old) (F.history folder.new)
+        (I.remaining input.old) reading question.now) }
     ensures looks { OnlyLooks (F.history folder.old) (F.history folder.new) }
 {
     let document = read_document(alloc, folder, input, question.file(), reading)?;

@@ -1,11 +1,10 @@
 //! Files that are read under their lock, and replaced.
 ghost use Rattle.std.specs.Prelude.{◌≡◌, IfErr, IfOk, OnErr, OnOk, string_bytes};
 ghost use Rattle.toml_edit_files.specs.Folders.{IsHeld, IsNoHeldText, IsPut, IsPutAt, MayBegin, OnlyLooks, Replaced, StopsPutting, asked_for, leads};
-ghost use Rattle.toml_edit_files.specs.Stops.{IsFor, IsUnread, reason_of};
-ghost use Rattle.toml_edit_files.specs.declared.stop.Reason.TheVariants.{Failed};
+ghost use Rattle.toml_edit_files.specs.Stops.{IsFailed, IsUnread};
 ghost use Rattle.file_replace.specs.Replacing.{asked_by};
 
-use crate::messages::{failed, stop};
+use crate::messages::{failed, stop_at};
 use crate::read::utf8;
 use crate::stop::{Reason, Stop};
 use file_replace::{Folder, ReplaceFault, Replacement, read_locked, replace};
@@ -22,8 +21,8 @@ pub struct Held {
 pub fn held_of<F: Folder>(alloc: Global, folder: &mut F, file: &str) -> Result<Held, Stop>
     ensures held { IfOk result (λ held. IsHeld file.now (string_bytes held.name)
         (F.history folder.old) (F.history folder.new) (string_bytes held.text)) }
-    ensures stops { IfErr result (λ stop. IsUnread (IsNoHeldText file.now (F.history folder.old)
-        (F.history folder.new)) (reason_of stop)) }
+    ensures stops { IfErr result (IsUnread file.now (IsNoHeldText file.now (F.history folder.old)
+        (F.history folder.new))) }
     ensures looks { OnlyLooks (F.history folder.old) (F.history folder.new) }
 {
     let name = name_of(alloc, folder, file)?;
@@ -40,7 +39,7 @@ pub fn held_of<F: Folder>(alloc: Global, folder: &mut F, file: &str) -> Result<H
 fn name_of<F: Folder>(alloc: Global, folder: &mut F, file: &str) -> Result<String, Stop>
     ensures leads { IfOk result (λ name. F.history folder.new
         ≡ leads file.now (string_bytes name) (F.history folder.old)) }
-    ensures failed { IfErr result (λ stop. IsFor Failed (reason_of stop)) }
+    ensures failed { IfErr result (IsFailed file.now) }
     ensures looks { OnlyLooks (F.history folder.old) (F.history folder.new) }
 {
     match folder.target(alloc, file) {
@@ -62,7 +61,7 @@ pub fn put<'t, F: Folder>(
         (string_bytes held.now.text) text.now (F.history folder.old) (F.history folder.new)) }
     ensures stops { OnErr result (StopsPutting (string_bytes held.now.name) (F.history folder.old)
         (F.history folder.new)) }
-    ensures reason { IfErr result (λ stop. IsFor Failed (reason_of stop)) }
+    ensures reason { IfErr result (IsFailed file.now) }
 {
     if text == held.text.as_str() {
         return Ok(());
@@ -88,7 +87,7 @@ pub fn put_at<F: Folder>(
         (F.history folder.new)) }
     ensures stops { OnErr result
         (MayBegin file.now (F.history folder.old) (F.history folder.new)) }
-    ensures reason { IfErr result (λ stop. IsFor Failed (reason_of stop)) }
+    ensures reason { IfErr result (IsFailed file.now) }
 {
     let name = name_of(alloc, folder, file)?;
     put_named(alloc, folder, file, name.as_str(), text.as_str(), force)
@@ -107,7 +106,7 @@ fn put_named<'t, F: Folder>(
         (F.history folder.old) (F.history folder.new)) }
     ensures stops { OnErr result
         (StopsPutting name.now (F.history folder.old) (F.history folder.new)) }
-    ensures reason { IfErr result (λ stop. IsFor Failed (reason_of stop)) }
+    ensures reason { IfErr result (IsFailed file.now) }
 {
     let asked = Replacement {
         name,
@@ -129,7 +128,7 @@ fn put_asked<F: Folder>(
         (Replaced (asked_by asked.now) (F.history folder.old) (F.history folder.new)) }
     ensures stops { OnErr result
         (StopsPutting asked.now.name.now (F.history folder.old) (F.history folder.new)) }
-    ensures reason { IfErr result (λ stop. IsFor Failed (reason_of stop)) }
+    ensures reason { IfErr result (IsFailed file.now) }
 {
     let why = match replace(alloc, folder, asked) {
         Ok(()) => return Ok(()),
@@ -137,5 +136,5 @@ fn put_asked<F: Folder>(
         Err(ReplaceFault::Changed) => "changed meanwhile",
         Err(ReplaceFault::ReadOnly) => "read-only (--force replaces it)",
     };
-    Err(stop(alloc, Reason::Failed, format!(in alloc; "{file}: {why}")))
+    Err(stop_at(alloc, Reason::Failed, file, why))
 }

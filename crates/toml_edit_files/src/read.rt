@@ -1,16 +1,15 @@
 //! Reading a file, or standard input, and the document that it holds.
 ghost use Rattle.std.specs.Prelude.{◌≡◌, IfErr, IfOk, IfSome, string_bytes};
-ghost use Rattle.std.specs.Str.{IsUtf8};
 ghost use Rattle.toml_edit.specs.DocumentView.{mode_owned, open_owned, tree_owned};
 ghost use Rattle.toml_edit_files.specs.Checks.{IsReadAsRefused};
 ghost use Rattle.toml_edit_files.specs.Edited.{IsNotRead, IsRead, IsReadFrom, mode_by, version_by};
 ghost use Rattle.toml_edit_files.specs.Folders.{IsNoTextOf, IsTextOf, LeavesInput, OnlyLooks};
-ghost use Rattle.toml_edit_files.specs.declared.stop.Reason.TheVariants.{Failed};
+ghost use Rattle.toml_edit_files.specs.Refusals.{IsNotUtf8};
+ghost use Rattle.toml_edit_files.specs.Stops.{IsFailed, IsUnread, StopsSaying};
+ghost use Rattle.toml_edit_files.specs.declared.stop.Reason.TheVariants.{Refused};
 ghost use Rattle.file_replace.specs.Events.{NotesFound, found};
-ghost use Rattle.toml_edit_files.specs.Stops.{IsFor, IsUnread, reason_of};
 
-use crate::messages::{failed, refused};
-use crate::note::Note;
+use crate::messages::{failed, refused, stop_at};
 use crate::stop::{Reason, Stop};
 use crate::words::Reading;
 use file_replace::Folder;
@@ -30,8 +29,8 @@ pub fn text_of<F: Folder, I: Input>(
 ) -> Result<String, Stop>
     ensures text { IfOk result (λ s. IsTextOf file.now (F.history folder.old)
         (F.history folder.new) (I.remaining input.old) (string_bytes s)) }
-    ensures stops { IfErr result (λ stop. IsUnread (IsNoTextOf file.now (F.history folder.old)
-        (F.history folder.new) (I.remaining input.old)) (reason_of stop)) }
+    ensures stops { IfErr result (IsUnread file.now (IsNoTextOf file.now (F.history folder.old)
+        (F.history folder.new) (I.remaining input.old))) }
     ensures looks { OnlyLooks (F.history folder.old) (F.history folder.new) }
     ensures rest { LeavesInput file.now (I.remaining input.old) (I.remaining input.new) }
 {
@@ -42,14 +41,11 @@ pub fn text_of<F: Folder, I: Input>(
 /// Returns the bytes of a file as a text.
 pub fn utf8(alloc: Global, file: &str, bytes: Vec<u8>) -> Result<String, Stop>
     ensures text { IfOk result (λ s. string_bytes s ≡ bytes.items) }
-    ensures stops { IfErr result (λ stop. IsUnread (¬ (IsUtf8 bytes.items)) (reason_of stop)) }
+    ensures stops { IfErr result (StopsSaying Refused (IsNotUtf8 file.now bytes.items)) }
 {
     match String::from_utf8(bytes) {
         Ok(text) => Ok(text),
-        Err(_) => {
-            let said = format!(in alloc; "{file}: not UTF-8")?;
-            Err(Stop::Message(Reason::Refused, Note::new(alloc, said.as_str())?))
-        }
+        Err(_) => Err(stop_at(alloc, Reason::Refused, file, "not UTF-8")),
     }
 }
 
@@ -62,35 +58,32 @@ fn bytes_of<F: Folder, I: Input>(
 ) -> Result<Vec<u8>, Stop>
     ensures text { IfOk result (λ bytes. IsTextOf file.now (F.history folder.old)
         (F.history folder.new) (I.remaining input.old) bytes.items) }
-    ensures failed { IfErr result (λ stop. IsFor Failed (reason_of stop)) }
+    ensures failed { IfErr result (IsFailed file.now) }
     ensures looks { OnlyLooks (F.history folder.old) (F.history folder.new) }
     ensures rest { LeavesInput file.now (I.remaining input.old) (I.remaining input.new) }
 {
     if file == STREAM {
-        input_bytes(alloc, input)
+        input_bytes(alloc, input, file)
     } else {
         file_bytes(alloc, folder, file)
     }
 }
 
-/// Returns the bytes of standard input.
-fn input_bytes<I: Input>(alloc: Global, input: &mut I) -> Result<Vec<u8>, Stop>
-    ensures failed { IfErr result (λ stop. IsFor Failed (reason_of stop)) }
+/// Returns the bytes of standard input, which messages call `file`.
+fn input_bytes<I: Input>(alloc: Global, input: &mut I, file: &str) -> Result<Vec<u8>, Stop>
+    ensures failed { IfErr result (IsFailed file.now) }
     ensures bytes { IfOk result (λ bytes. IfSome (I.remaining input.old) (λ left. bytes.items ≡ left)) }
 {
     match read_to_end(alloc, input) {
         Ok(bytes) => Ok(bytes),
         Err(ReadFault::Memory) => Err(Stop::Memory),
-        Err(ReadFault::Broken) => {
-            let note = Note::new(alloc, "-: read failed")?;
-            Err(Stop::Message(Reason::Failed, note))
-        }
+        Err(ReadFault::Broken) => Err(stop_at(alloc, Reason::Failed, file, "read failed")),
     }
 }
 
 /// Returns the bytes of a file.
 fn file_bytes<F: Folder>(alloc: Global, folder: &mut F, file: &str) -> Result<Vec<u8>, Stop>
-    ensures failed { IfErr result (λ stop. IsFor Failed (reason_of stop)) }
+    ensures failed { IfErr result (IsFailed file.now) }
     ensures notes { NotesFound (F.history folder.old) (F.history folder.new)
         (λ bytes. found file.now bytes.items) result }
 {
@@ -109,8 +102,7 @@ pub fn document_of(
 ) -> Result<DocumentMut, Stop>
     ensures read { IfOk result (λ d. IsRead reading text.now (tree_owned d) (open_owned d)) }
     ensures mode { IfOk result (λ d. mode_owned d ≡ mode_by reading) }
-    ensures stops { IfErr result
-        (λ stop. IsNotRead (version_by reading) text.now (reason_of stop)) }
+    ensures stops { IfErr result (IsNotRead (version_by reading) file.now text.now) }
 {
     match DocumentMut::from_str_with(alloc, text, reading.options()) {
         Ok(document) => Ok(document),
@@ -130,8 +122,8 @@ pub fn read_document<F: Folder, I: Input>(
     ensures read { IfOk result
         (λ d. IsReadFrom reading file.now (F.history folder.old) (F.history folder.new)
         (I.remaining input.old) (tree_owned d)) }
-    ensures stops { IfErr result (λ stop. IsUnread (IsReadAsRefused (version_by reading) file.now
-        (F.history folder.old) (F.history folder.new) (I.remaining input.old)) (reason_of stop)) }
+    ensures stops { IfErr result (IsUnread file.now (IsReadAsRefused (version_by reading) file.now
+        (F.history folder.old) (F.history folder.new) (I.remaining input.old))) }
     ensures looks { OnlyLooks (F.history folder.old) (F.history folder.new) }
 {
     let text = text_of(alloc, folder, input, file)?;

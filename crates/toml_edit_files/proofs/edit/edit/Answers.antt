@@ -83,7 +83,7 @@ returns-in_err-edits-clause-unmade g c =
     let old = g.F.Folder.history c.args.folder.now in
     let new = g.F.Folder.history c.all_edits.new.folder in
     passed c.from_residual.result c.in_err-edits.field-0.0
-    (λ s. HasNoEdits c.args.reading c.args.command.now c.args.edits.items old new (g.I.Input.remaining c.args.input.now) (reason_of s)) c.from_residual.ensures.1
+    (HasNoEdits c.args.reading c.args.command.now c.args.edits.items old new (g.I.Input.remaining c.args.input.now)) c.from_residual.ensures.1
     (inl c.in_err-edits.ensures.stops)
 
 pub returns-then-is_in_place-clause-unmade : goal.returns-then-is_in_place-clause-unmade
@@ -93,15 +93,15 @@ returns-then-is_in_place-clause-unmade g c =
     let scripted = g.F.Folder.history c.all_edits.new.folder in
     let rest = g.I.Input.remaining c.all_edits.new.input in
     let new = g.F.Folder.history c.edit_in_place.new.folder in
-    IfErr-weaker c.edit_in_place.result (λ s. (left : Option Text) → IsUnmade c.args.reading command c.as_slice-edits.result.now scripted new left (reason_of s))
-    (λ s. HasNoEdits c.args.reading command c.args.edits.items old new (g.I.Input.remaining c.args.input.now) (reason_of s))
+    IfErr-weaker c.edit_in_place.result (λ s. (left : Option Text) → IsUnmade c.args.reading command c.as_slice-edits.result.now scripted new left s)
+    (HasNoEdits c.args.reading command c.args.edits.items old new (g.I.Input.remaining c.args.input.now))
     (λ s h. inr (
       c.in_ok-edits.edits.items,
       scripted,
       rest,
       c.in_ok-edits.ensures.looks,
       c.in_ok-edits.ensures.edits,
-      subst (λ (es : List Edit). IsUnmade c.args.reading command es scripted new rest (reason_of s)) c.as_slice-edits.ensures.value (h rest),
+      subst (λ (es : List Edit). IsUnmade c.args.reading command es scripted new rest s) c.as_slice-edits.ensures.value (h rest),
     ))
     c.edit_in_place.ensures.unmade
 
@@ -112,14 +112,14 @@ returns-clause-unmade g c =
     let scripted = g.F.Folder.history c.all_edits.new.folder in
     let rest = g.I.Input.remaining c.all_edits.new.input in
     let new = g.F.Folder.history c.edit_elsewhere.new.folder in
-    IfErr-weaker c.edit_elsewhere.result (λ s. IsUnmade c.args.reading command c.as_slice-edits.result.now scripted new rest (reason_of s))
-    (λ s. HasNoEdits c.args.reading command c.args.edits.items old new (g.I.Input.remaining c.args.input.now) (reason_of s))
+    IfErr-weaker c.edit_elsewhere.result (λ s. IsUnmade c.args.reading command c.as_slice-edits.result.now scripted new rest s)
+    (HasNoEdits c.args.reading command c.args.edits.items old new (g.I.Input.remaining c.args.input.now))
     (λ s h. inr (
       c.in_ok-edits.edits.items,
       scripted,
       rest,
       c.in_ok-edits.ensures.looks,
       c.in_ok-edits.ensures.edits,
-      subst (λ (es : List Edit). IsUnmade c.args.reading command es scripted new rest (reason_of s)) c.as_slice-edits.ensures.value h,
+      subst (λ (es : List Edit). IsUnmade c.args.reading command es scripted new rest s) c.as_slice-edits.ensures.value h,
     ))
     c.edit_elsewhere.ensures.unmade

@@ -1,12 +1,13 @@
 -- A replacement of the other file may have been begun.
-use Rattle.std.proofs.Common.{inl, subst, sym}
+use Rattle.std.proofs.Common.{inl, inr, subst, sym}
 use Rattle.file_replace.specs.Events.{Text}
 use Rattle.toml_edit_files.specs.EditFiles.{IsUnmade, target_of}
+use Rattle.toml_edit_files.specs.Edited.{version_by}
 use Rattle.toml_edit_files.specs.Folders.{IsTextOf, MayBegin, Stops}
-use Rattle.toml_edit_files.specs.Stops.{reason_of}
+use Rattle.toml_edit_files.specs.Stops.{IsFailed, reason_of}
 use Rattle.toml_edit_files.proofs.FolderLaws.{begins_then, stops_beginning}
-use Rattle.toml_edit_files.proofs.StopLaws.{passed}
-use Rattle.toml_edit_files.proofs.UnmadeLaws.{unedited, unput, unread}
+use Rattle.toml_edit_files.proofs.StopLaws.{passed, unread_text}
+use Rattle.toml_edit_files.proofs.UnmadeLaws.{unedited}
 use Rattle.toml_edit_files.proofs.edit.edit_elsewhere.Goals as goal
 
 pub returns-in_err-put_at-clause-stops : goal.returns-in_err-put_at-clause-stops
@@ -17,7 +18,7 @@ returns-in_err-put_at-clause-stops g c =
     let new = g.F.Folder.history c.put_at.new.folder in
     passed c.from_residual-in_err-put_at.result c.in_err-put_at.field-0.0 (λ s. Stops target old new (reason_of s))
     c.from_residual-in_err-put_at.ensures.1
-    (stops_beginning target old new _ c.in_err-put_at.ensures.reason
+    (stops_beginning target old new c.target_of.result.now c.in_err-put_at.field-0.0 c.in_err-put_at.ensures.reason
     (begins_then target old read new c.in_ok-text.ensures.looks
     (subst (λ (n : Text). MayBegin n read new) c.target_of.ensures c.in_err-put_at.ensures.stops)))
 
@@ -26,8 +27,9 @@ returns-in_err-text-clause-unmade g c =
     let old = g.F.Folder.history c.args.folder.now in
     let new = g.F.Folder.history c.text_of.new.folder in
     let left = g.I.Input.remaining c.args.input.now in
-    passed c.from_residual.result c.in_err-text.field-0.0 (λ s. IsUnmade c.args.reading c.args.command.now c.args.edits.now old new left (reason_of s))
-    c.from_residual.ensures.1 (unread c.args.reading c.args.command.now c.args.edits.now old new left _ c.in_err-text.ensures.stops)
+    passed c.from_residual.result c.in_err-text.field-0.0 (IsUnmade c.args.reading c.args.command.now c.args.edits.now old new left)
+    c.from_residual.ensures.1
+    (inl (unread_text (version_by c.args.reading) c.args.command.now.file.now old new left c.in_err-text.field-0.0 c.in_err-text.ensures.stops))
 
 pub returns-in_err-edited-clause-unmade : goal.returns-in_err-edited-clause-unmade
 returns-in_err-edited-clause-unmade g c =
@@ -35,8 +37,8 @@ returns-in_err-edited-clause-unmade g c =
     let new = g.F.Folder.history c.text_of.new.folder in
     let left = g.I.Input.remaining c.args.input.now in
     passed c.from_residual-in_err-edited.result c.in_err-edited.field-0.0
-    (λ s. IsUnmade c.args.reading c.args.command.now c.args.edits.now old new left (reason_of s)) c.from_residual-in_err-edited.ensures.1
-    (unedited c.args.reading c.args.command.now c.args.edits.now old new left c.as_str.result.now _
+    (IsUnmade c.args.reading c.args.command.now c.args.edits.now old new left) c.from_residual-in_err-edited.ensures.1
+    (unedited c.args.reading c.args.command.now c.args.edits.now old new left c.in_err-edited.field-0.0 c.as_str.result.now
     (inl (subst (λ (t : Text). IsTextOf c.args.command.now.file.now old new left t) (sym c.as_str.ensures.value) c.in_ok-text.ensures.text))
     c.in_err-edited.ensures.stops)
 
@@ -46,5 +48,5 @@ returns-in_err-put_at-clause-unmade g c =
     let new = g.F.Folder.history c.put_at.new.folder in
     let left = g.I.Input.remaining c.args.input.now in
     passed c.from_residual-in_err-put_at.result c.in_err-put_at.field-0.0
-    (λ s. IsUnmade c.args.reading c.args.command.now c.args.edits.now old new left (reason_of s)) c.from_residual-in_err-put_at.ensures.1
-    (unput c.args.reading c.args.command.now c.args.edits.now old new left _ c.in_err-put_at.ensures.reason)
+    (IsUnmade c.args.reading c.args.command.now c.args.edits.now old new left) c.from_residual-in_err-put_at.ensures.1
+    (inr (inl (subst (λ (n : Text). IsFailed n c.in_err-put_at.field-0.0) c.target_of.ensures c.in_err-put_at.ensures.reason)))

@@ -3,12 +3,12 @@ use Rattle.std.proofs.Common.{◌≡◌, ◌∙◌, ◌++◌, true, false, [], a
 use Rattle.std.proofs.lemmas.Result.{IfErr-weaker}
 use Rattle.std.specs.Prelude.{Option, bytes_eq, codes, if◌then◌else◌}
 use Rattle.file_replace.specs.Events.{Text}
+use Rattle.toml_edit_files.specs.Edited.{version_by}
 use Rattle.toml_edit_files.specs.Folders.{IsTextOf, is_stream}
 use Rattle.toml_edit_files.specs.FormatFiles.{IsFormatted, IsUnformatted}
-use Rattle.toml_edit_files.specs.Stops.{reason_of}
-use Rattle.toml_edit_files.proofs.FormatLaws.{no-text-read, none-formatted}
+use Rattle.toml_edit_files.proofs.FormatLaws.{none-formatted}
 use Rattle.toml_edit_files.proofs.RunLaws.{formats_not, formats_out, line_so, stream_so}
-use Rattle.toml_edit_files.proofs.StopLaws.{passed}
+use Rattle.toml_edit_files.proofs.StopLaws.{passed, unread_text}
 use Rattle.toml_edit_files.proofs.fmt.done_of.Goals as goal
 use Rattle.toml_edit_files.proofs.fmt.done_of.Goals.{else-not-command-via-then-not-command+else-ne, else-not-command-via-else-not-command}
 use Rattle.toml_edit_files.proofs.fmt.done_of.Goals.{then-eq, else-eq+in_ok-line}
@@ -18,25 +18,25 @@ returns-then-ne-clause-unmade g c =
     let style = c.args.command.now.style in let file = c.args.file.now in
     let old = g.F.Folder.history c.args.folder.now in
     let new = g.F.Folder.history c.in_place.new.folder in let left = g.I.Input.remaining c.args.input.now in
-    IfErr-weaker c.in_place.result (λ s. (left : Option Text) → IsUnformatted c.args.reading style file old new left (reason_of s))
-    (λ s. IsUnformatted c.args.reading style file old new left (reason_of s)) (λ s h. h left) c.in_place.ensures.unmade
+    IfErr-weaker c.in_place.result (λ s. (left : Option Text) → IsUnformatted c.args.reading style file old new left s)
+    (IsUnformatted c.args.reading style file old new left) (λ s h. h left) c.in_place.ensures.unmade
 
 pub returns-in_err-before-clause-unmade : goal.returns-in_err-before-clause-unmade
 returns-in_err-before-clause-unmade g c =
     let style = c.args.command.now.style in let file = c.args.file.now in
     let old = g.F.Folder.history c.args.folder.now in
     let new = g.F.Folder.history c.text_of.new.folder in let left = g.I.Input.remaining c.args.input.now in
-    passed c.from_residual.result c.in_err-before.field-0.0 (λ s. IsUnformatted c.args.reading style file old new left (reason_of s))
-    c.from_residual.ensures.1 (no-text-read c.args.reading style file old new left _ c.in_err-before.ensures.stops)
+    passed c.from_residual.result c.in_err-before.field-0.0 (IsUnformatted c.args.reading style file old new left)
+    c.from_residual.ensures.1 (inl (unread_text (version_by c.args.reading) file old new left c.in_err-before.field-0.0 c.in_err-before.ensures.stops))
 
 pub returns-in_err-text-clause-unmade : goal.returns-in_err-text-clause-unmade
 returns-in_err-text-clause-unmade g c =
     let style = c.args.command.now.style in let file = c.args.file.now in
     let old = g.F.Folder.history c.args.folder.now in
     let new = g.F.Folder.history c.text_of.new.folder in let left = g.I.Input.remaining c.args.input.now in
-    passed c.from_residual-in_err-text.result c.in_err-text.field-0.0 (λ s. IsUnformatted c.args.reading style file old new left (reason_of s))
+    passed c.from_residual-in_err-text.result c.in_err-text.field-0.0 (IsUnformatted c.args.reading style file old new left)
     c.from_residual-in_err-text.ensures.1
-    (none-formatted c.args.reading style file old new left c.as_str-before.result.now _
+    (none-formatted c.args.reading style file old new left c.in_err-text.field-0.0 c.as_str-before.result.now
     (inl (subst (λ (t : Text). IsTextOf file old new left t) (sym c.as_str-before.ensures.value) c.in_ok-before.ensures.text))
     c.in_err-text.ensures.stops)
 

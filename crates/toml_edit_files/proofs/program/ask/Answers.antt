@@ -1,5 +1,5 @@
 -- The question is about the tree of the file.
-use Rattle.std.proofs.Common.{string_bytes, subst}
+use Rattle.std.proofs.Common.{inl, inr, string_bytes, subst}
 use Rattle.std.proofs.lemmas.Result.{IfErr-weaker, IfOk-weaker}
 use Rattle.toml_edit.specs.DocumentView.{tree_owned}
 use Rattle.toml_edit_files.specs.Answers.{HasNoAnswer, IsAnswer}
@@ -8,7 +8,6 @@ use Rattle.toml_edit_files.specs.Edited.{IsReadFrom, version_by}
 use Rattle.toml_edit_files.specs.Runs.{AnswersQuestion, HasNone}
 use Rattle.toml_edit_files.specs.Stops.{IsUnread, reason_of}
 use Rattle.file_replace.specs.Events.{Text}
-use Rattle.toml_edit_files.proofs.RunLaws.{unanswered, unread-file}
 use Rattle.toml_edit_files.proofs.StopLaws.{passed}
 use Rattle.toml_edit_files.proofs.program.ask.Goals as goal
 
@@ -35,9 +34,8 @@ returns-in_err-document-clause-stops g c =
     let new = g.F.Folder.history c.read_document.new.folder in
     let left = g.I.Input.remaining c.args.input.now in
     let stop = c.in_err-document.field-0.0 in
-    passed c.from_residual.result stop (λ s. HasNone old new left reading q (reason_of s)) c.from_residual.ensures.1
-    (unread-file old new left reading q (reason_of stop)
-    (subst (λ (name : Text). IsUnread (IsReadAsRefused (version_by reading) name old new left) (reason_of stop)) c.file.ensures
+    passed c.from_residual.result stop (HasNone old new left reading q) c.from_residual.ensures.1
+    (inl (subst (λ (name : Text). IsUnread name (IsReadAsRefused (version_by reading) name old new left) stop) c.file.ensures
     c.in_err-document.ensures.stops))
 
 pub returns-clause-stops : goal.returns-clause-stops
@@ -49,5 +47,5 @@ returns-clause-stops g c =
     let new = g.F.Folder.history c.read_document.new.folder in
     let left = g.I.Input.remaining c.args.input.now in
     let read = subst (λ (name : Text). IsReadFrom reading name old new left x) c.file.ensures c.in_ok-document.ensures.read in
-    IfErr-weaker c.answer_of.result (λ s. HasNoAnswer q x (reason_of s)) (λ s. HasNone old new left reading q (reason_of s))
-    (λ s none. unanswered old new left reading q x (reason_of s) read none) c.answer_of.ensures.stops
+    IfErr-weaker c.answer_of.result (λ s. HasNoAnswer q x (reason_of s)) (HasNone old new left reading q)
+    (λ s none. inr (x, read, none)) c.answer_of.ensures.stops
