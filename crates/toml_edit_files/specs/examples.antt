@@ -3,3 +3,4 @@ pub mod Keys
 pub mod Get
 pub mod Outcomes
 pub mod Refusals
+pub mod Requests
