@@ -4,7 +4,7 @@ use Rattle.std.specs.Prelude.{MatchBool, max, flat_map, Option, string_bytes}
 use Rattle.std.proofs.lemmas.List.{drop_more, drop_all, flat_map_more}
 use Rattle.file_replace.specs.Events.{Text, Event}
 use Rattle.toml_edit_files.specs.Folders.{LeavesInput}
-use Rattle.toml_edit_files.specs.Outcomes.{AreDone, DoesAll, worst}
+use Rattle.toml_edit_files.specs.Outcomes.{AreDone, DoesAll, WasRead, worst}
 use Rattle.toml_edit_files.specs.declared.told.Told.{Told}
 
 abbrev output : Told → Text
@@ -35,7 +35,7 @@ module _ (Does : Text → Told → Option (List Event) → Option (List Event) �
 
   module _ (name : Text) (rest : List Text) (now next : Option (List Event)) (left after : Option Text) (all new t : Told)
       (so : SoFar (name ∷ rest) now left all) (does : Does name t now next left) where
-    pub one_more : LeavesInput name left after → t.status ≢ 3 → new.status ≡ max all.status t.status → string_bytes new.output ≡ string_bytes all.output ++ string_bytes t.output
+    pub one_more : LeavesInput (WasRead t) name left after → t.status ≢ 3 → new.status ≡ max all.status t.status → string_bytes new.output ≡ string_bytes all.output ++ string_bytes t.output
         → string_bytes new.notes ≡ string_bytes all.notes ++ string_bytes t.notes → SoFar rest next after new
     one_more leaves sound status written noted = record {
       told = so.told ++ (t ∷ []);
@@ -104,7 +104,7 @@ module _ (Does : Text → Told → Option (List Event) → Option (List Event) �
     here : SoFar Does (names_from 0 fs) start first ((get_or fs i d).now ∷ names_from (i + 1) fs) now left all
     here = subst (λ (ns : List Text). SoFar Does (names_from 0 fs) start first ns now left all) (names_here fs i d below) so
 
-    pub more_at : (after : Option Text) → LeavesInput (get_or fs i d).now left after → (t.status ≡ 3 → r ≡ false) → r ≡ true
+    pub more_at : (after : Option Text) → LeavesInput (WasRead t) (get_or fs i d).now left after → (t.status ≡ 3 → r ≡ false) → r ≡ true
         → SoFar Does (names_from 0 fs) start first (names_from (i + 1) fs) next after new
     more_at after leaves memory added =
         let h : (new.status ≡ max all.status t.status) × (string_bytes new.output ≡ string_bytes all.output ++ string_bytes t.output)

@@ -1,6 +1,7 @@
 -- An error that `?` passes on, and what is said of it.
-use Rattle.std.proofs.Common.{◌≡◌, ◌∙◌, refl, subst, sym, inl, inr}
-use Rattle.std.specs.Prelude.{◌≢◌, ◌⊎◌, List, Option, Some, None, Result, Ok, Err, IfErr, IfOk, IsErrAnd, IsOkAnd, OnErr, string_bytes}
+use Rattle.std.proofs.Common.{◌≡◌, ◌∙◌, Bool, true, false, ap, refl, subst, sym, inl, inr}
+use Rattle.std.specs.Prelude.{◌≢◌, ◌⊎◌, List, Option, Some, None, Result, Ok, Err, IfErr, IfOk, IsErrAnd, IsOkAnd, MatchBool, OnErr, OnOk, string_bytes}
+use Rattle.std.specs.Io.KnownBytes.{IsAtEnd}
 use Rattle.std.proofs.lemmas.Result.{err_from_is_err_and}
 use Rattle.toml_edit.specs.Documents.{IsRefusalIn}
 use Rattle.toml_edit_error.specs.Report.{Report}
@@ -8,11 +9,12 @@ use Rattle.toml_edit_model.specs.Version.{Version}
 use Rattle.file_replace.specs.Events.{Text, Event}
 use Rattle.toml_edit_files.specs.Checks.{IsReadAsRefused}
 use Rattle.toml_edit_files.specs.Edited.{IsNotRead}
-use Rattle.toml_edit_files.specs.Folders.{IsNoHeldText, IsNoTextOf, IsReadOf}
+use Rattle.toml_edit_files.specs.Folders.{IsNoHeldText, IsNoTextOf, IsReadOf, LeavesInput, is_stream}
 use Rattle.toml_edit_files.specs.Notes.{unnamed}
-use Rattle.toml_edit_files.specs.Outcomes.{TellsAlone, TellsOfFile, TellsRefused, TellsStop}
+use Rattle.toml_edit_files.specs.Outcomes.{TellsAlone, TellsOf, TellsOfFile, TellsRefused, TellsStop, WasRead}
 use Rattle.toml_edit_files.specs.Refusals.{SaysRefused, refusal_text}
-use Rattle.toml_edit_files.specs.Stops.{IsFailed, IsUnread, StopsSaying, reason_of}
+use Rattle.toml_edit_files.specs.Stops.{IsFailed, IsFor, IsUnread, Reads, StopsSaying, reason_of, status_of}
+use Rattle.toml_edit_files.specs.declared.outcome.Done.{Done}
 use Rattle.toml_edit_files.specs.declared.stop.Reason.{Reason}
 use Rattle.toml_edit_files.specs.declared.stop.Reason.TheVariants.{No, Mistaken, Failed, Refused}
 use Rattle.toml_edit_files.specs.declared.stop.Stop.{Stop}
@@ -90,3 +92,40 @@ refused_told Says told (Message why note) (said, is, same, says) tells = by (sub
     by : TellsAlone 1 (unnamed (string_bytes note.text)) told ⊎ TellsStop Memory told → TellsRefused Says told ⊎ TellsStop Memory told
     by (inl line) = inl (said, says, subst (λ (t : Text). TellsAlone 1 (unnamed t) told) same line)
     by (inr out) = inr out
+
+-- ---- what is left of the input
+
+pub leaves_if : (P Q : Type 0) (name : Text) (left rest : Option Text) → (Q → P) → LeavesInput P name left rest → LeavesInput Q name left rest
+leaves_if P Q name left rest f = by (is_stream name)
+  where
+    by : (b : Bool) → MatchBool b (P → IsAtEnd rest) (rest ≡ left) → MatchBool b (Q → IsAtEnd rest) (rest ≡ left)
+    by true h = λ q. h (f q)
+    by false h = h
+
+pub reads_passed : {A : Type 0} (r : Result A Stop) (stop : Stop) → IsErrAnd r (λ s. s ≡ stop) → Reads r → IsFor Failed (reason_of stop) → ⊥
+reads_passed r stop is reads =
+    let q = err_from_is_err_and r is in
+    subst (λ (s : Stop). IsFor Failed (reason_of s) → ⊥) q.2 (subst Reads q.1 reads)
+
+pub ends : {A : Type 0} (file : Text) (rest : Option Text) (r : Result A Stop) → OnOk r (IsAtEnd rest) → IfErr r (IsFailed file) → Reads r → IsAtEnd rest
+ends file rest (Ok x) end failed reads = end
+ends file rest (Err Memory) end failed reads = absurd (reads (inl refl))
+ends file rest (Err Silent) end failed reads = absurd failed
+ends file rest (Err (Message why note)) end (said, is, same, about) reads = absurd (reads (inr (ap Some is)))
+
+not_refused : (why : Option Reason) → IsFor Failed why → why ≢ Some Refused
+not_refused why (inl is) other = let e : why ≡ None = is in let f : why ≡ Some Refused = other in absurd cc
+not_refused why (inr is) other = let e : why ≡ Some Failed = is in let f : why ≡ Some Refused = other in absurd cc
+
+stop_reads : (told : Told) (stop : Stop) → TellsStop stop told → WasRead told → IsFor Failed (reason_of stop) → ⊥
+stop_reads told stop tells read (inl is) = read.0 (subst (λ (why : Option Reason). told.status ≡ status_of why) is tells.0.0)
+stop_reads told stop tells read (inr is) = read.1 (subst (λ (why : Option Reason). told.status ≡ status_of why) is tells.0.0)
+
+-- by the status, a file was read
+pub tells_reads : (r : Result Done Stop) (told : Told) → TellsOf r told → WasRead told → Reads r
+tells_reads (Ok d) told tells read = tt
+tells_reads (Err s) told tells read = stop_reads told s tells read
+
+pub file_reads : (r : Result Done Stop) (told : Told) → TellsOfFile r told → WasRead told → Reads r
+file_reads (Ok d) told tells read = tt
+file_reads (Err s) told tells read = λ f. stop_reads told s (stop_told told s (not_refused (reason_of s) f) tells) read f

@@ -18,7 +18,7 @@ abbrev pub ScriptedFirst : Reading → Option Text → Option (List Event) → O
 ScriptedFirst reading None old new left rest edits all = (new ≡ old) × (rest ≡ left) × (all ≡ edits)
 ScriptedFirst reading (Some script) old new left rest edits all =
     (t : Text) × (scripted : List Edit) × IsTextOf script old new left t
-    × LeavesInput script left rest × SaysScript (version_by reading) t scripted × (all ≡ scripted ++ edits)
+    × LeavesInput (Unit {0}) script left rest × SaysScript (version_by reading) t scripted × (all ≡ scripted ++ edits)
 
 -- ---- where the text goes
 

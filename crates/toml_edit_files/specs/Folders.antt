@@ -1,5 +1,6 @@
 -- What commands ask of a folder.
 use Rattle.std.specs.Prelude.{◌≡◌, ◌⊎◌, Bool, true, false, MatchBool, List, [], ◌∷◌, Option, Some, None, IfSome, bytes_eq, codes}
+use Rattle.std.specs.Io.KnownBytes.{IsAtEnd}
 use Rattle.std.specs.List.{list_all}
 use Rattle.file_replace.specs.Events.{Text, Call, Event, found, leads_to, locked, writable, done, more}
 use Rattle.file_replace.specs.Replacing.{Asked, IsReplaced, StopsReplacing}
@@ -30,9 +31,9 @@ IsTextOf name old new left s =
     MatchBool (is_stream name) ((new ≡ old) × IfSome left (λ bytes. s ≡ bytes))
     (new ≡ more (done (found name s) ∷ []) old)
 
--- what is left of the input, unless the file is the input
-abbrev pub LeavesInput : Text → Option Text → Option Text → Type 0
-LeavesInput name left rest = is_stream name ≡ false → rest ≡ left
+-- what is left of the input: nothing, if the file is the input and was read, and else what was
+abbrev pub LeavesInput : Type 0 → Text → Option Text → Option Text → Type 0
+LeavesInput Read name left rest = MatchBool (is_stream name) (Read → IsAtEnd rest) (rest ≡ left)
 
 abbrev pub leads : Text → Text → Option (List Event) → Option (List Event)
 leads file name old = more (done (leads_to file name) ∷ []) old

@@ -42,6 +42,10 @@ TellsOfFile outcome told = TellsOf outcome told
 
 -- ---- several files
 
+-- a file was read, or refused, by its status
+abbrev pub WasRead : Told → Type 0
+WasRead told = (told.status ≢ 3) × (told.status ≢ 4)
+
 -- the worst status, which is the greatest
 abbrev pub worst : List ℕ → ℕ
 worst [] = 0
@@ -57,7 +61,7 @@ module _ (Does : Text → Told → Option (List Event) → Option (List Event) �
   AreDone (name ∷ names) [] old new left = (told : Told) × Does name told old new left
   AreDone (name ∷ names) (told ∷ more) old new left =
       (next : Option (List Event)) × (rest : Option Text) × Does name told old next left
-      × LeavesInput name left rest × (told.status ≢ 3) × AreDone names more next new rest
+      × LeavesInput (WasRead told) name left rest × (told.status ≢ 3) × AreDone names more next new rest
 
   -- the worst status of them, and what they write, one after another
   pub record DoesAll (names : List Text) (old new : Option (List Event)) (left : Option Text)

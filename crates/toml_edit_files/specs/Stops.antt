@@ -1,5 +1,5 @@
 -- Why a run ends before it is done.
-use Rattle.std.specs.Prelude.{◌≡◌, ◌⊎◌, ℕ, [], ◌++◌, Option, Some, None, codes, string_bytes}
+use Rattle.std.specs.Prelude.{◌≡◌, ◌⊎◌, ℕ, [], ◌++◌, Option, Some, None, Result, Ok, Err, codes, string_bytes}
 use Rattle.toml_edit_model.specs.Text.{Text}
 use Rattle.toml_edit_files.specs.Notes.{note_text}
 use Rattle.toml_edit_files.specs.declared.stop.Reason.{Reason}
@@ -39,6 +39,11 @@ IsAbout file said = (why : Text) × (said ≡ file ++ (codes ": " ++ why))
 -- memory ran out, or a call on the file failed
 abbrev pub IsFailed : Text → Stop → Type 0
 IsFailed file stop = StopsSaying Failed (IsAbout file) stop
+
+-- neither is why, so what is asked for was read
+abbrev pub Reads : {A : Type 0} → Result A Stop → Type 0
+Reads (Ok x) = Unit {0}
+Reads (Err stop) = IsFor Failed (reason_of stop) → ⊥
 
 -- so, or what is read of it is refused, and something like this is said
 abbrev pub IsUnread : Text → (Text → Type 0) → Stop → Type 0

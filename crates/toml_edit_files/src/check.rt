@@ -3,8 +3,8 @@ ghost use Rattle.std.specs.Prelude.{IfErr, OnOk, map};
 ghost use Rattle.toml_edit_files.specs.Checks.{ChecksFile, IsReadAsAccepted, IsReadAsRefused};
 ghost use Rattle.toml_edit_files.specs.Edited.{IsAccepted, IsNotRead, version_by};
 ghost use Rattle.toml_edit_files.specs.Folders.{LeavesInput, OnlyLooks};
-ghost use Rattle.toml_edit_files.specs.Outcomes.{DoesAll};
-ghost use Rattle.toml_edit_files.specs.Stops.{IsUnread};
+ghost use Rattle.toml_edit_files.specs.Outcomes.{DoesAll, WasRead};
+ghost use Rattle.toml_edit_files.specs.Stops.{IsUnread, Reads};
 
 use crate::messages::refused;
 use crate::outcome::told_of_file;
@@ -48,7 +48,8 @@ fn check_file<F: Folder, I: Input>(
 ) -> Told
     ensures checks { ChecksFile (version_by reading) file.now result (F.history folder.old)
         (F.history folder.new) (I.remaining input.old) }
-    ensures rest { LeavesInput file.now (I.remaining input.old) (I.remaining input.new) }
+    ensures rest { LeavesInput (WasRead result) file.now (I.remaining input.old)
+        (I.remaining input.new) }
 {
     match read_accepted(alloc, folder, input, file, reading) {
         Ok(()) => Told::new(alloc, DONE),
@@ -69,7 +70,8 @@ fn read_accepted<F: Folder, I: Input>(
     ensures refused { IfErr result (IsUnread file.now (IsReadAsRefused (version_by reading)
         file.now (F.history folder.old) (F.history folder.new) (I.remaining input.old))) }
     ensures looks { OnlyLooks (F.history folder.old) (F.history folder.new) }
-    ensures rest { LeavesInput file.now (I.remaining input.old) (I.remaining input.new) }
+    ensures rest { LeavesInput (Reads result) file.now (I.remaining input.old)
+        (I.remaining input.new) }
 {
     let text = text_of(alloc, folder, input, file)?;
     accept(alloc, file, text.as_str(), reading)

@@ -4,8 +4,8 @@ ghost use Rattle.toml_edit.specs.DocumentView.{IsPrintedAs, mode_owned, open_own
 ghost use Rattle.toml_edit_files.specs.Edited.{IsNotRead, IsRead, mode_by, version_by};
 ghost use Rattle.toml_edit_files.specs.Folders.{LeavesInput, Stops};
 ghost use Rattle.toml_edit_files.specs.FormatFiles.{FormatsDone, FormatsFile, FormatsInPlace, IsFormatted, IsNotFormatted, IsNotSorted, IsUnformatted, passing_over, rules_by, sorted_by};
-ghost use Rattle.toml_edit_files.specs.Outcomes.{DoesAll};
-ghost use Rattle.toml_edit_files.specs.Stops.{reason_of};
+ghost use Rattle.toml_edit_files.specs.Outcomes.{DoesAll, WasRead};
+ghost use Rattle.toml_edit_files.specs.Stops.{Reads, reason_of};
 ghost use Rattle.toml_edit_edits.specs.Lists.{effect};
 ghost use Rattle.toml_edit_fmt.specs.RulesView.{rules_of};
 ghost use Rattle.toml_edit_model.specs.Text.{Text};
@@ -61,7 +61,8 @@ fn fmt_file<F: Folder, I: Input>(
 ) -> Told
     ensures formats { FormatsFile reading command.now file.now result (F.history folder.old)
         (F.history folder.new) (I.remaining input.old) }
-    ensures rest { LeavesInput file.now (I.remaining input.old) (I.remaining input.new) }
+    ensures rest { LeavesInput (WasRead result) file.now (I.remaining input.old)
+        (I.remaining input.new) }
 {
     let done = done_of(alloc, folder, input, command, file, reading);
     if file == STREAM {
@@ -87,7 +88,8 @@ fn done_of<F: Folder, I: Input>(
     ensures quiet { IfOk result (λ done. string_bytes done.notes ≡ []) }
     ensures stops { IfErr result (λ stop. Stops file.now (F.history folder.old)
         (F.history folder.new) (reason_of stop)) }
-    ensures rest { LeavesInput file.now (I.remaining input.old) (I.remaining input.new) }
+    ensures rest { LeavesInput (Reads result) file.now (I.remaining input.old)
+        (I.remaining input.new) }
 {
     if !command.check && file != STREAM {
         return in_place(alloc, folder, command, file, reading);

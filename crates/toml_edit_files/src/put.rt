@@ -5,7 +5,7 @@ ghost use Rattle.toml_edit_files.specs.Stops.{IsFailed, IsUnread};
 ghost use Rattle.file_replace.specs.Replacing.{asked_by};
 
 use crate::messages::{failed, stop_at};
-use crate::read::utf8;
+use crate::read::text_from;
 use crate::stop::{Reason, Stop};
 use file_replace::{Folder, ReplaceFault, Replacement, read_locked, replace};
 use std::alloc::Global;
@@ -29,7 +29,7 @@ pub fn held_of<F: Folder>(alloc: Global, folder: &mut F, file: &str) -> Result<H
     match read_locked(alloc, folder, name.as_str()) {
         Ok(bytes) => Ok(Held {
             name,
-            text: utf8(alloc, file, bytes)?,
+            text: text_from(alloc, file, bytes)?,
         }),
         Err(error) => Err(failed(alloc, file, &error)),
     }

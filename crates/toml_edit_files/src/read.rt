@@ -1,11 +1,12 @@
 //! Reading a file, or standard input, and the document that it holds.
-ghost use Rattle.std.specs.Prelude.{◌≡◌, IfErr, IfOk, IfSome, string_bytes};
+ghost use Rattle.std.specs.Prelude.{◌≡◌, IfErr, IfOk, IfSome, OnOk, string_bytes};
+ghost use Rattle.std.specs.Io.KnownBytes.{IsAtEnd};
 ghost use Rattle.toml_edit.specs.DocumentView.{mode_owned, open_owned, tree_owned};
 ghost use Rattle.toml_edit_files.specs.Checks.{IsReadAsRefused};
 ghost use Rattle.toml_edit_files.specs.Edited.{IsNotRead, IsRead, IsReadFrom, mode_by, version_by};
 ghost use Rattle.toml_edit_files.specs.Folders.{IsNoTextOf, IsTextOf, LeavesInput, OnlyLooks};
 ghost use Rattle.toml_edit_files.specs.Refusals.{IsNotUtf8};
-ghost use Rattle.toml_edit_files.specs.Stops.{IsFailed, IsUnread, StopsSaying};
+ghost use Rattle.toml_edit_files.specs.Stops.{IsFailed, IsUnread, Reads, StopsSaying};
 ghost use Rattle.toml_edit_files.specs.declared.stop.Reason.TheVariants.{Refused};
 ghost use Rattle.file_replace.specs.Events.{NotesFound, found};
 
@@ -32,14 +33,15 @@ pub fn text_of<F: Folder, I: Input>(
     ensures stops { IfErr result (IsUnread file.now (IsNoTextOf file.now (F.history folder.old)
         (F.history folder.new) (I.remaining input.old))) }
     ensures looks { OnlyLooks (F.history folder.old) (F.history folder.new) }
-    ensures rest { LeavesInput file.now (I.remaining input.old) (I.remaining input.new) }
+    ensures rest { LeavesInput (Reads result) file.now (I.remaining input.old)
+        (I.remaining input.new) }
 {
     let bytes = bytes_of(alloc, folder, input, file)?;
-    utf8(alloc, file, bytes)
+    text_from(alloc, file, bytes)
 }
 
 /// Returns the bytes of a file as a text.
-pub fn utf8(alloc: Global, file: &str, bytes: Vec<u8>) -> Result<String, Stop>
+pub fn text_from(alloc: Global, file: &str, bytes: Vec<u8>) -> Result<String, Stop>
     ensures text { IfOk result (λ s. string_bytes s ≡ bytes.items) }
     ensures stops { IfErr result (StopsSaying Refused (IsNotUtf8 file.now bytes.items)) }
 {
@@ -60,7 +62,8 @@ fn bytes_of<F: Folder, I: Input>(
         (F.history folder.new) (I.remaining input.old) bytes.items) }
     ensures failed { IfErr result (IsFailed file.now) }
     ensures looks { OnlyLooks (F.history folder.old) (F.history folder.new) }
-    ensures rest { LeavesInput file.now (I.remaining input.old) (I.remaining input.new) }
+    ensures rest { LeavesInput (Reads result) file.now (I.remaining input.old)
+        (I.remaining input.new) }
 {
     if file == STREAM {
         input_bytes(alloc, input, file)
@@ -73,6 +76,7 @@ fn bytes_of<F: Folder, I: Input>(
 fn input_bytes<I: Input>(alloc: Global, input: &mut I, file: &str) -> Result<Vec<u8>, Stop>
     ensures failed { IfErr result (IsFailed file.now) }
     ensures bytes { IfOk result (λ bytes. IfSome (I.remaining input.old) (λ left. bytes.items ≡ left)) }
+    ensures end { OnOk result (IsAtEnd (I.remaining input.new)) }
 {
     match read_to_end(alloc, input) {
         Ok(bytes) => Ok(bytes),

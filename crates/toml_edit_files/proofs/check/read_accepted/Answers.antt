@@ -7,6 +7,9 @@ use Rattle.toml_edit_files.specs.Edited.{IsNotRead, version_by}
 use Rattle.toml_edit_files.specs.Folders.{IsTextOf}
 use Rattle.toml_edit_files.specs.Stops.{IsUnread}
 use Rattle.toml_edit_files.proofs.StopLaws.{passed, unread_here, unread_text}
+use Rattle.toml_edit_files.specs.Stops.{IsFor, Reads, reason_of}
+use Rattle.toml_edit_files.specs.declared.stop.Reason.TheVariants.{Failed}
+use Rattle.toml_edit_files.proofs.StopLaws.{leaves_if, reads_passed}
 use Rattle.toml_edit_files.proofs.check.read_accepted.Goals as goal
 
 pub returns-in_err-text-clause-refused : goal.returns-in_err-text-clause-refused
@@ -26,3 +29,11 @@ returns-clause-refused g c =
     let read : IsTextOf file old new left t = subst (λ (u : Text). IsTextOf file old new left u) (sym c.as_str.ensures.value) c.in_ok-text.ensures.text in
     IfErr-weaker c.accept.result (IsNotRead v file t) (IsUnread file (IsReadAsRefused v file old new left))
     (λ s h. unread_here v file old new left s t (inl read) h) c.accept.ensures.stops
+
+pub returns-in_err-text-clause-rest : goal.returns-in_err-text-clause-rest
+returns-in_err-text-clause-rest g c =
+    leaves_if (IsFor Failed (reason_of c.in_err-text.field-0.0) → ⊥) (Reads c.from_residual.result) c.args.file.now _ _
+    (reads_passed c.from_residual.result c.in_err-text.field-0.0 c.from_residual.ensures.1) c.in_err-text.ensures.rest
+
+pub returns-clause-rest : goal.returns-clause-rest
+returns-clause-rest g c = leaves_if (Unit {0}) (Reads c.accept.result) c.args.file.now _ _ (λ reads. tt) c.in_ok-text.ensures.rest

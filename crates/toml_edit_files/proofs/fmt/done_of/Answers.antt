@@ -9,6 +9,9 @@ use Rattle.toml_edit_files.specs.FormatFiles.{IsFormatted, IsUnformatted}
 use Rattle.toml_edit_files.proofs.FormatLaws.{none-formatted}
 use Rattle.toml_edit_files.proofs.RunLaws.{formats_not, formats_out, line_so, stream_so}
 use Rattle.toml_edit_files.proofs.StopLaws.{passed, unread_text}
+use Rattle.toml_edit_files.specs.Stops.{IsFor, Reads, reason_of}
+use Rattle.toml_edit_files.specs.declared.stop.Reason.TheVariants.{Failed}
+use Rattle.toml_edit_files.proofs.StopLaws.{leaves_if, reads_passed}
 use Rattle.toml_edit_files.proofs.fmt.done_of.Goals as goal
 use Rattle.toml_edit_files.proofs.fmt.done_of.Goals.{else-not-command-via-then-not-command+else-ne, else-not-command-via-else-not-command}
 use Rattle.toml_edit_files.proofs.fmt.done_of.Goals.{then-eq, else-eq+in_ok-line}
@@ -85,3 +88,12 @@ returns-clause-done g c =
     c.new-2.result.yes (string_bytes c.new-2.result.output) checked (c.new-2.ensures.yes ∙ c.eq-2.ensures ∙ same-2)
     (ap string_bytes c.new-2.ensures.output
     ∙ subst (λ b. string_bytes c.if-eq.line ≡ (if b then [] else file ++ codes ": not formatted\n")) (c.eq.ensures ∙ same) line)
+
+pub returns-in_err-before-clause-rest : goal.returns-in_err-before-clause-rest
+returns-in_err-before-clause-rest g c =
+    leaves_if (IsFor Failed (reason_of c.in_err-before.field-0.0) → ⊥) (Reads c.from_residual.result) c.args.file.now _ _
+    (reads_passed c.from_residual.result c.in_err-before.field-0.0 c.from_residual.ensures.1) c.in_err-before.ensures.rest
+
+pub returns-in_err-text-clause-rest : goal.returns-in_err-text-clause-rest
+returns-in_err-text-clause-rest g c =
+    leaves_if (Unit {0}) (Reads c.from_residual-in_err-text.result) c.args.file.now _ _ (λ reads. tt) c.in_ok-before.ensures.rest

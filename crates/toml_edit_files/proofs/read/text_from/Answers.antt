@@ -5,7 +5,7 @@ use Rattle.std.specs.Str.{IsUtf8}
 use Rattle.toml_edit_files.specs.Refusals.{IsNotUtf8}
 use Rattle.toml_edit_files.specs.declared.stop.Reason.TheVariants.{Refused}
 use Rattle.toml_edit_files.proofs.StopLaws.{saying}
-use Rattle.toml_edit_files.proofs.read.utf8.Goals as goal
+use Rattle.toml_edit_files.proofs.read.text_from.Goals as goal
 
 pub returns-clause-stops : goal.returns-clause-stops
 returns-clause-stops c =
