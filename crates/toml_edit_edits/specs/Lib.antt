@@ -11,6 +11,8 @@ pub mod Lists
 pub mod Along
 pub mod Removes
 pub mod LinesStay
+pub mod Means
 pub mod OthersStay
+pub mod Edited
 -- Worked examples: nothing cites them.
 pub mod examples

@@ -67,11 +67,19 @@ abbrev pub AreSorts : List Edit → Tree → Type 0
 AreSorts [] t = Unit {0}
 AreSorts (e ∷ es) t = IsSort e t × ((u : Tree) → effect e t ≡ Ok u → AreSorts es u)
 
--- ---- which edits leave a steady tree
+-- ---- which trees are well made
+
+-- the tree, and each that edits leave, one after another
+abbrev pub LeaveWellMade : List Edit → Tree → Type 0
+LeaveWellMade [] t = SlotsAreWellMade t.slots
+LeaveWellMade (e ∷ es) t =
+    SlotsAreWellMade t.slots × ((u : Tree) → effect e t ≡ Ok u → LeaveWellMade es u)
+
+-- ---- values that are put
 
 -- a well-made value that is no dotted inline table
-abbrev pub IsPlainValue : Node → Type 0
-IsPlainValue n = (is_plain_value n ≡ true) × IsWellMade n
+abbrev pub IsWellMadePlain : Node → Type 0
+IsWellMadePlain n = (is_plain_value n ≡ true) × IsWellMade n
 
 -- ---- tables of the pairs of inline tables
 
@@ -86,6 +94,8 @@ element_visit p ks ss = visit_of p ks true new_table (slots_from (formatted (slo
 abbrev pub first_visit : Path → List Key → Key → List Key → Slots → Visit
 first_visit p ks k [] ss = element_visit (to_element (to_key p k.name) 0) (ks ++ one (cleared_key k)) ss
 first_visit p ks k (j ∷ more) ss = first_visit (to_key p k.name) (ks ++ one (cleared_key k)) j more ss
+
+-- ---- which edits leave a steady tree
 
 module _ (mode : Mode) where
   -- the root, a table whose header is printed, or one that has lines, as a dotted table has
@@ -116,8 +126,8 @@ module _ (mode : Mode) where
   -- array of tables has no place of its own: see `ElementAddsTable`.
   abbrev pub IsLocal : Edit → Tree → Type 0
   IsLocal (edits.Set path v) t =
-      IsPlainValue (value_view v) × ((below : List Key) × HasPlace t path.items below)
-  IsLocal (edits.Header path v) t = IsPlainValue (value_view v) × HasPlace t path.items []
+      IsWellMadePlain (value_view v) × ((below : List Key) × HasPlace t path.items below)
+  IsLocal (edits.Header path v) t = IsWellMadePlain (value_view v) × HasPlace t path.items []
   IsLocal (edits.Append path v) t =
       IsWellMade (value_view v) × (is_tables_at (names path.items) t ≡ false)
   IsLocal (edits.Insert path v) t =
@@ -161,11 +171,12 @@ module _ (mode : Mode) where
 
   -- All statements stay, byte for byte and in their order, but those at the places of the edits, and
   -- below them. After harmless edits a tree that fitted fits. After sorts of tables all statements
-  -- are there, in another order.
+  -- are there, in another order. Each tree on the way is well made.
   pub record StayElsewhere (es : List Edit) (t u : Tree) (local : AreLocal es t) : Type 0 where
     pub stays : StaysButAt mode (places_of es t) t u
     pub fits : FitsIn mode t → AreHarmless es t local → FitsIn mode u
     pub sorts : AreSorts es t → IsPermutation (printed mode t) (printed mode u)
+    pub made : LeaveWellMade es t
 
   -- So it is where such edits are made in a steady tree.
   abbrev pub OthersStay : List Edit → Tree → Tree → Type 0

@@ -1,7 +1,12 @@
 -- What is done, or why it is refused.
-use Rattle.std.specs.Prelude.{◌≡◌, ◌⊎◌, List, Result, Ok, Err}
+use Rattle.std.specs.Prelude.{◌≡◌, ◌⊎◌, ◌++◌, ℕ, List, Result, Ok, Err, codes}
+use Rattle.toml_edit_model.specs.Text.{Text, newline}
 use Rattle.toml_edit_model.specs.Tree.{Node}
 use Rattle.toml_edit_edit_laws.specs.Commands.{Answer, done, refused, no_such_path, wrong_kind, taken}
+use Rattle.toml_edit_error.specs.Fault as parse
+use Rattle.toml_edit_error.specs.declared.toml_error.ParseFault.{ParseFault}
+use Rattle.toml_edit_error.specs.declared.toml_error.ParseFault.TheVariants as parses
+use Rattle.toml_edit_paths.specs.Faults as change
 use Rattle.toml_edit_paths.specs.declared.fault.ChangeFault.{ChangeFault}
 use Rattle.toml_edit_paths.specs.declared.fault.ChangeFault.TheVariants as changes
 use Rattle.toml_edit_repr.specs.declared.comments.CommentFault.{CommentFault}
@@ -11,7 +16,9 @@ use Rattle.toml_edit_tree.specs.View.{array_view, table_view}
 use Rattle.toml_edit_tree.specs.declared.array.Array.{Array}
 use Rattle.toml_edit_tree.specs.declared.table.Table.{Table}
 use Rattle.toml_edit_edits.specs.declared.fault.EditFault.{EditFault}
-use Rattle.toml_edit_edits.specs.declared.fault.EditFault.TheVariants.{NoSuchPath, WrongKind, Taken, BadComment, Memory}
+use Rattle.toml_edit_edits.specs.declared.fault.EditFault.TheVariants.{NoSuchPath, WrongKind, NoSuchElement, Taken, BadComment, Memory}
+use Rattle.toml_edit_edits.specs.declared.fault.TextFault.{TextFault}
+use Rattle.toml_edit_edits.specs.declared.fault.TextFault.TheVariants as texts
 
 -- ---- refusals of calls
 
@@ -29,6 +36,33 @@ of_answer (done a) = Ok a
 of_answer (refused no_such_path) = Err NoSuchPath
 of_answer (refused wrong_kind) = Err WrongKind
 of_answer (refused taken) = Err Taken
+
+-- what is shown of a refusal
+abbrev pub fault_text : EditFault → Text
+fault_text NoSuchPath = change.fault_text changes.NoSuchPath
+fault_text WrongKind = change.fault_text changes.WrongKind
+fault_text NoSuchElement = codes "no such element"
+fault_text Taken = codes "the key is there already"
+fault_text BadComment = codes "bad comment"
+fault_text Memory = change.fault_text changes.Memory
+
+-- ---- why a text is not edited
+
+abbrev pub of_parse : ParseFault → TextFault
+of_parse (parses.Toml e) = texts.Toml e
+of_parse parses.Memory = texts.Memory
+
+-- the edit of this number is refused, unless memory ran out
+abbrev pub of_edit : ℕ → EditFault → TextFault
+of_edit at Memory = texts.Memory
+of_edit at f = texts.Edit (record { at = at; fault = f })
+
+-- what is shown of it
+abbrev pub text_fault_text : TextFault → Text
+text_fault_text (texts.Toml e) = parse.fault_text (parses.Toml e)
+text_fault_text (texts.Edit f) = fault_text f.fault ++ newline
+text_fault_text texts.Misfit = codes "does not fit" ++ newline
+text_fault_text texts.Memory = parse.fault_text parses.Memory
 
 -- ---- one after another
 

@@ -1,4 +1,5 @@
 -- Worked examples.
 pub mod Elements
+pub mod Means
 pub mod OthersStay
 pub mod Said

@@ -1,6 +1,7 @@
 //! Laws of what edits leave.
 ghost use Rattle.toml_edit_model.specs.Mode.{Mode};
 ghost use Rattle.toml_edit_edits.specs.LinesStay.{InsertedLines, RemovedLines};
+ghost use Rattle.toml_edit_edits.specs.Means.{MadeMeans};
 ghost use Rattle.toml_edit_edits.specs.OthersStay.{AppliedStay, ElementAddsTable, FirstAddsTable, HeaderAddsTable};
 
 /// Where the values of an array have lines of their own, the print of the array after a value is
@@ -22,6 +23,15 @@ pub fn lines_stay()
 /// place.
 pub fn others_stay()
     ensures edits { (mode : Mode) → AppliedStay mode }
+{}
+
+/// What an edit that is made changes in the meaning of a well-made tree. A sort and a comment leave it.
+/// A renaming gives the new name to the facts at its path and below it. Where a value is set, the facts
+/// there are those of the value; where an array gets a value or loses one, those of what it is then;
+/// and where something is removed, they are gone. All others stay. Of tables that are made, and of what
+/// is moved to another table or among elements, nothing is known.
+pub fn edit_means()
+    ensures means { MadeMeans }
 {}
 
 /// An [`Edit::Header`](crate::Edit::Header) of which tables are missing leaves all statements of a

@@ -2,6 +2,7 @@
 #![tactic(auto)]
 
 mod along;
+mod apply_edits;
 mod arrays;
 mod edit;
 mod elements;
@@ -15,10 +16,13 @@ mod read_edit;
 mod removes;
 mod same;
 mod script;
+mod text;
 
+pub use apply_edits::ApplyEdits;
 pub use edit::{Edit, PathVerb, TextVerb, VERBS, ValueVerb, Verb};
-pub use fault::{EditFault, ScriptFault, WordFault, WordsFault};
+pub use fault::{EditFault, ScriptFault, TextFault, WordFault, WordsFault};
 pub use keys::comment_text;
 pub use read_edit::{edits_of, keys_of, next_edit};
 pub use same::same_value;
 pub use script::{apply, apply_edit};
+pub use text::edit_text;

@@ -1,12 +1,11 @@
 //! Making edits.
 ghost use Rattle.std.specs.Prelude.{◌≡◌, ◌<◌, ◌≤◌, [], ◌∷◌, length, take, Ok, IfErr, IfOk, OnOk};
-ghost use Rattle.toml_edit_model.specs.Mode.{Mode};
 ghost use Rattle.toml_edit_tree.specs.View.{value_view};
 ghost use Rattle.toml_edit.specs.DocumentView.{IsPrintedAs, tree_owned};
 ghost use Rattle.toml_edit_model.specs.Keys.{names};
+ghost use Rattle.toml_edit_edits.specs.Edited.{EditsLeave};
 ghost use Rattle.toml_edit_edits.specs.Effects as effects;
 ghost use Rattle.toml_edit_edits.specs.Lists.{Applies, RefusesFirst, applied, effect, made_of};
-ghost use Rattle.toml_edit_edits.specs.OthersStay.{OthersStay};
 ghost use Rattle.toml_edit_edits.specs.Outcomes.{Makes};
 
 use crate::arrays::{append, insert, take};
@@ -14,7 +13,7 @@ use crate::edit::Edit;
 use crate::fault::{EditFault, ScriptFault};
 use crate::first_table::add_table;
 use crate::keys::{comment, rename, sort};
-use crate::laws::others_stay;
+use crate::laws::{edit_means, others_stay};
 use crate::missing::{is_numbered, keys_there};
 use crate::moves::relocate;
 use crate::removes::remove_first;
@@ -34,11 +33,12 @@ use toml_edit::{DocumentMut, Key, Value};
 pub fn apply(alloc: Global, document: &mut DocumentMut, edits: &[Edit]) -> Result<(), ScriptFault>
     ensures applies { Applies edits.now (tree_owned document.old) (tree_owned document.new) result }
     ensures printed { IsPrintedAs document.new document.old }
-    // In a steady tree all statements stay but those that the edits name.
-    ensures stays { (mode : Mode) → OthersStay mode (made_of edits.now result)
+    // What each edit means; and in a steady tree all statements stay but those that the edits name.
+    ensures leaves { EditsLeave (made_of edits.now result)
         (tree_owned document.old) (tree_owned document.new) }
 {
     others_stay();
+    edit_means();
     make_all(alloc, document, edits)
 }
 
@@ -86,11 +86,12 @@ pub fn apply_edit(alloc: Global, document: &mut DocumentMut, edit: &Edit) -> Res
     ensures makes { Makes (effect edit.now (tree_owned document.old)) (tree_owned document.old)
         (tree_owned document.new) result }
     ensures printed { IsPrintedAs document.new document.old }
-    // In a steady tree all statements stay but those that the edit names.
-    ensures stays { OnOk result ((mode : Mode) → OthersStay mode (edit.now ∷ [])
+    // What the edit means; and in a steady tree all statements stay but those that it names.
+    ensures leaves { OnOk result (EditsLeave (edit.now ∷ [])
         (tree_owned document.old) (tree_owned document.new)) }
 {
     others_stay();
+    edit_means();
     make(alloc, document, edit)
 }
 

@@ -61,7 +61,7 @@ without-line-made i a w =
 
 -- ---- the array at a path
 
-array-found : (path : List Key) (t : Tree) (a : ArrayView) → array_at (names path) t ≡ Ok a
+pub array-found : (path : List Key) (t : Tree) (a : ArrayView) → array_at (names path) t ≡ Ok a
     → (n : Node) × (item_at (names path) t ≡ Some n) × (array_in n ≡ Some a)
 array-found path t a h =
     let x = went array_of (ok_or (item_at (names path) t) NoSuchPath) a h in

@@ -72,6 +72,10 @@ same-paths (j ∷ p) (k ∷ q) h =
     ap (λ i. i ∷ p) (same_text-is j k (and_left (same_text j k) (pointwise same_text p q) h))
     ∙ ap (λ r. k ∷ r) (same-paths p q (and_right (same_text j k) (pointwise same_text p q) h))
 
+pub same-all : (p : List Text) → pointwise same_text p p ≡ true
+same-all [] = refl
+same-all (k ∷ p) = rw (same_text-refl k) (same-all p)
+
 value-kept : (n : Node) → is_value_node n ≡ true → without_positions n ≡ n
 value-kept (leaf s r d) h = refl
 value-kept (list f xs) h = refl
@@ -160,10 +164,6 @@ module _ (mode : Mode) (t u : Tree) (made : SlotsAreWellMade t.slots) (steady : 
         (by_tests x.0 x.1 to x.2 ends (pointwise same_text x.0 target) (starts_with same_text to from) refl inner)
 
   -- ---- in its own table
-
-  same-all : (p : List Text) → pointwise same_text p p ≡ true
-  same-all [] = refl
-  same-all (k ∷ p) = rw (same_text-refl k) (same-all p)
 
   pub move-stays : (from to : List Text) → MayMove mode t from to → moved from to t ≡ Ok u → StaysAtBoth mode t u from to
   move-stays from to (beside above k name is ends other) h =

@@ -20,15 +20,14 @@ use Rattle.toml_edit_tree.specs.View.{value_view}
 use Rattle.toml_edit_edits.specs.Effects as effects
 use Rattle.toml_edit_edits.specs.Effects.{array_set, first_same, in_order, inserted_before, on_table, place_up_to, renamed, slots_renamed, values_of, with_comment}
 use Rattle.toml_edit_edits.specs.Elements.{inserted, on_kind, taken}
-use Rattle.toml_edit_edits.specs.Lists.{Applies, applied, effect, made_of}
-use Rattle.toml_edit_edits.specs.OthersStay.{AppliedStay, IsLocal, IsSort, OthersStay, paths_of, places_of, where_done}
+use Rattle.toml_edit_edits.specs.Lists.{applied, effect}
+use Rattle.toml_edit_edits.specs.OthersStay.{AppliedStay, IsLocal, IsSort, LeaveWellMade, paths_of, places_of, where_done}
 use Rattle.toml_edit_edit_laws.specs.Places.{place_of}
-use Rattle.toml_edit_edits.specs.Outcomes.{Makes, and_then}
+use Rattle.toml_edit_edits.specs.Outcomes.{and_then}
 use Rattle.toml_edit_edits.specs.declared.edit.Edit.{Edit}
 use Rattle.toml_edit_edits.specs.declared.edit.Edit.TheVariants as edits
 use Rattle.toml_edit_edits.specs.declared.fault.EditFault.{EditFault}
 use Rattle.toml_edit_edits.specs.declared.fault.EditFault.TheVariants.{NoSuchElement, NoSuchPath}
-use Rattle.toml_edit_edits.specs.declared.fault.ScriptFault.{ScriptFault}
 use Rattle.toml_edit_edits.proofs.MoveLaws.{answered, went}
 use Rattle.toml_edit_edits.proofs.staying.Arrays.{IsMadeArray, array-stays, with-line-made, without-line-made}
 use Rattle.toml_edit_edit_laws.proofs.path_calls.Places.{names-join}
@@ -129,6 +128,7 @@ applied-stay mode [] t u h made steady local =
       stays = subst (StaysButAt mode [] t) same (nothing_changes mode t made steady);
       fits = λ fits harmless. subst (λ (x : Tree). FitsIn mode x) same fits;
       sorts = λ sorts. subst (λ (x : Tree). IsPermutation (printed mode t) (printed mode x)) same (IsPermutation-refl (printed mode t));
+      made = made;
     }
 applied-stay mode (e ∷ es) t u h made steady local =
     let x = went (applied es) (effect e t) u h in
@@ -144,16 +144,10 @@ applied-stay mode (e ∷ es) t u h made steady local =
       sorts = λ sorts.
           IsPermutation-trans (printed mode t) (printed mode w) (printed mode u) (one-sorts mode t w made steady e sorts.0 x.1)
           (rest.sorts (sorts.1 w x.1));
+      made = (
+        made,
+        λ v is.
+            let same : w ≡ v = let g : ◌≡◌ {A = Result Tree EditFault} (Ok w) (Ok v) = sym x.1 ∙ is in cc in
+            subst (λ (y : Tree). LeaveWellMade es y) same rest.made,
+      );
     }
-
--- ---- where they are made
-
-pub all-stay : ((mode : Mode) → AppliedStay mode) → (es : List Edit) (old new : Tree) (r : Result (Unit {0}) ScriptFault) → Applies es old new r
-    → (mode : Mode) → OthersStay mode (made_of es r) old new
-all-stay law es old new (Ok v) h = λ mode. law mode es old new h
-all-stay law es old new (Err f) h = λ mode. law mode (take f.at es) old new h.2
-
-pub one-stay : ((mode : Mode) → AppliedStay mode) → (e : Edit) (old new : Tree) (r : Result (Unit {0}) EditFault) → Makes (effect e old) old new r
-    → OnOk r ((mode : Mode) → OthersStay mode (e ∷ []) old new)
-one-stay law e old new (Ok v) h = λ mode. law mode (e ∷ []) old new (ap (and_then (applied [])) h)
-one-stay law e old new (Err f) h = tt

@@ -10,7 +10,7 @@ use Rattle.toml_edit_model.specs.Fits.{is_steady_in}
 use Rattle.toml_edit_model.specs.Slots.{changed_at}
 use Rattle.toml_edit_model.specs.Lists.{item_list, items_from}
 use Rattle.toml_edit_laws.proofs.locality.Slots.{items_from-list}
-use Rattle.toml_edit_edit_laws.specs.Commands.{Answer, and_then, done, mapped, child, child_changed, element_of, item_below, remove_below, root_item, second, with_slots}
+use Rattle.toml_edit_edit_laws.specs.Commands.{Answer, and_then, done, mapped, child, child_changed, drop_element, element_of, item_below, remove_below, remove_child, root_item, second, with_slots}
 use Rattle.toml_edit_edit_laws.proofs.commands.Finding.{below-was, some-and, was-there}
 use Rattle.toml_edit_edit_laws.proofs.commands.Keeping.{decor-made}
 use Rattle.toml_edit_edit_laws.proofs.commands.Setting.{was-mapped}
@@ -52,6 +52,7 @@ pub record InArray (path : List Text) (n r : Node) : Type 0 where
   pub fields : ArrayFields
   pub items : Items
   pub at : ℕ
+  pub gone : remove_child key (list fields items) ≡ done (list fields (items_from (removed_at at (item_list items))))
   pub is : path ≡ above ++ (key ∷ [])
   pub there : item_below above n ≡ Some (list fields items)
   pub put : replaced_below above (list (fields_removed at fields (item_list items)) (items_from (line_removed at fields (item_list items)))) n
@@ -69,6 +70,7 @@ further k l path n r c b whole at goes is (inr x) =
       fields = x.fields;
       items = x.items;
       at = x.at;
+      gone = x.gone;
       is = ap (λ (q : List Text). k ∷ q) x.is;
       there = found-on (child k n) at x.there;
       put = goes (replaced_below x.above (list (fields_removed x.at x.fields (item_list x.items)) (items_from (line_removed x.at x.fields (item_list x.items)))))
@@ -89,6 +91,7 @@ line-gone (k ∷ []) (list f xs) r h =
       fields = f;
       items = xs;
       at = x.0.0;
+      gone = ap (λ o. mapped (λ ns. list f (items_from ns)) (drop_element (item_list xs) o)) x.1;
       is = refl;
       there = refl;
       put = sym (ap (drop_line f (item_list xs)) x.1) ∙ h;

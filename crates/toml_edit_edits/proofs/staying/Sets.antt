@@ -1,18 +1,20 @@
 -- A value that is put in a value, or under a new key.
-use Rattle.std.proofs.Common.{◌≡◌, refl, sym, ◌∙◌, ap, subst, true, List, [], ◌∷◌, ◌++◌, Some, inl, inr}
+use Rattle.std.proofs.Common.{◌≡◌, refl, sym, ◌∙◌, ap, subst, ℕ, Bool, true, List, [], ◌∷◌, ◌++◌, Option, None, Some, inl, inr}
 use Rattle.toml_edit_model.specs.Mode.{Mode}
 use Rattle.toml_edit_model.specs.Text.{Text}
 use Rattle.toml_edit_model.specs.Keys.{names, new_key}
 use Rattle.toml_edit_model.specs.Tree.{Key, Node, nothing, leaf, list, inline, table, tables, no_slots, slot, SlotsAreWellMade, IsWellMade, Tree, is_value_node}
 use Rattle.toml_edit_model.specs.Fits.{is_steady_in}
-use Rattle.toml_edit_model.specs.Slots.{with_item, changed}
-use Rattle.toml_edit_model.specs.Lists.{slot_list, slots_from}
+use Rattle.toml_edit_model.specs.Shown.{is_table_node}
+use Rattle.toml_edit_model.specs.Slots.{Slot, with_item, changed, lookup_slot}
+use Rattle.toml_edit_model.specs.Lists.{is_item, item_list, slot_list, slots_from}
 use Rattle.toml_edit_laws.specs.Locality.{root_visit, is_plain_value}
-use Rattle.toml_edit_laws.proofs.common.OptionSteps.{some-is}
-use Rattle.toml_edit_edit_laws.specs.Commands.{done, mapped, child, item_at, item_below, root_item, set_at, set_below, with_slots}
+use Rattle.toml_edit_laws.proofs.common.OptionSteps.{guard_read, some-is}
+use Rattle.toml_edit_edit_laws.specs.Commands.{done, mapped, child, element_of, item_at, item_below, present, root_item, second, set_at, set_below, with_slots}
 use Rattle.toml_edit_edit_laws.specs.CommandLaws.{AreSpelled}
 use Rattle.toml_edit_edit_laws.specs.Headed.{set_at_with_headers, set_headed_below}
 use Rattle.toml_edit_edit_laws.specs.Staying.{StaysButAt}
+use Rattle.toml_edit_edit_laws.proofs.commands.Apart.{named}
 use Rattle.toml_edit_edit_laws.proofs.commands.Finding.{some-and}
 use Rattle.toml_edit_edit_laws.proofs.commands.Going.{item-along}
 use Rattle.toml_edit_edit_laws.proofs.commands.Keeping.{set_keeps_the_rest}
@@ -108,7 +110,57 @@ module _ (v : Node) (inner : List Key) (old : Node) (same : set_headed_below v i
   same-in (k ∷ front) (inline f ss) h = refl
   same-in (k ∷ front) nothing h = absurd cc
 
-module _ (mode : Mode) (t : Tree) (v : Node) where
+-- what a path leads to is an item
+value-item : (n : Node) → is_value_node n ≡ true → is_item n ≡ true
+value-item (leaf s r d) h = refl
+value-item (list f xs) h = refl
+value-item (inline f ss) h = refl
+value-item (table f ss) h = refl
+value-item (tables e xs) h = refl
+value-item nothing h = absurd cc
+
+table-item : (n : Node) → is_table_node n ≡ true → is_item n ≡ true
+table-item (leaf s r d) h = refl
+table-item (list f xs) h = refl
+table-item (inline f ss) h = refl
+table-item (table f ss) h = refl
+table-item (tables e xs) h = refl
+table-item nothing h = absurd cc
+
+slot-item : (o : Option (Slot Node)) (m : Node) → present o ≡ Some m → is_item m ≡ true
+slot-item None m h = absurd cc
+slot-item (Some s) m h =
+    let g = guard_read (is_item s.item) (Some s.item) m h in
+    subst (λ n. is_item n ≡ true) (some-is s.item m g.1) g.0
+
+element-item : (is : Node → Bool) → ((n : Node) → is n ≡ true → is_item n ≡ true) → (k : Text) (ns : List Node) (o : Option (ℕ × Node))
+    → element_of is k ns ≡ o → (m : Node) → second o ≡ Some m → is_item m ≡ true
+element-item is items k ns None e m h = absurd cc
+element-item is items k ns (Some x) e m h = subst (λ n. is_item n ≡ true) (some-is x.1 m h) (items x.1 (named is k ns x e).kind)
+
+child-item : (k : Text) (n m : Node) → child k n ≡ Some m → is_item m ≡ true
+child-item k (table f ss) m h = slot-item (lookup_slot k (slot_list ss)) m h
+child-item k (inline f ss) m h = slot-item (lookup_slot k (slot_list ss)) m h
+child-item k (list f xs) m h = element-item is_value_node value-item k (item_list xs) (element_of is_value_node k (item_list xs)) refl m h
+child-item k (tables e xs) m h = element-item is_table_node table-item k (item_list xs) (element_of is_table_node k (item_list xs)) refl m h
+child-item k (leaf s r d) m h = absurd cc
+child-item k nothing m h = absurd cc
+
+below-item : (path : List Text) (n m : Node) → is_item n ≡ true → item_below path n ≡ Some m → is_item m ≡ true
+below-item [] n m is h = subst (λ x. is_item x ≡ true) (some-is n m h) is
+below-item (k ∷ path) n m is h =
+    let c = some-and (item_below path) (child k n) m h in
+    below-item path c.0 m (child-item k n c.0 c.1) c.2
+
+key-same : (v : Node) (k : Key) (old : Node) → is_item old ≡ true → set_headed_below v (k ∷ []) old ≡ set_below v (k ∷ []) old
+key-same v k (table f ss) h = refl
+key-same v k (tables e xs) h = refl
+key-same v k (leaf s r d) h = refl
+key-same v k (list f xs) h = refl
+key-same v k (inline f ss) h = refl
+key-same v k nothing h = absurd cc
+
+module _ (t : Tree) (v : Node) where
   at-path : (path front inner : List Key) (old : Node) → path ≡ front ++ inner → item_at (names front) t ≡ Some old
       → set_headed_below v inner old ≡ set_below v inner old → set_at_with_headers path v t ≡ set_at path v t
   at-path path front inner old is there same =
@@ -116,10 +168,17 @@ module _ (mode : Mode) (t : Tree) (v : Node) where
       ∙ ap (mapped (with_slots t)) (same-in v inner old same front (root_item t) there)
       ∙ sym (ap (λ q. mapped (with_slots t) (set_below v q (root_item t))) is)
 
+  -- where what the last key is in is there
+  pub no-headers-above : (path above : List Key) (k : Key) (old : Node) → path ≡ above ++ (k ∷ []) → item_at (names above) t ≡ Some old
+      → set_at_with_headers path v t ≡ set_at path v t
+  no-headers-above path above k old is there =
+      at-path path above (k ∷ []) old is there (key-same v k old (below-item (names above) (root_item t) old refl there))
+
+module _ (mode : Mode) (t : Tree) (v : Node) where
   pub no-headers : (path : List Key) → HasPlace mode t path [] → set_at_with_headers path v t ≡ set_at path v t
-  no-headers path (in_value front inner old same spelled there value) = at-path path front inner old same there (value-same v inner old value)
+  no-headers path (in_value front inner old same spelled there value) = at-path t v path front inner old same there (value-same v inner old value)
   no-headers path (at_new_key front k w same spelled names-it new takes) =
-      at-path path front (k ∷ []) (table w.fields w.slots) same
+      at-path t v path front (k ∷ []) (table w.fields w.slots) same
       (item-along names-it.way (names front) (root_visit t) w names-it.goes names-it.leads) refl
 
 pub header-stays : (mode : Mode) → HeaderStays mode
