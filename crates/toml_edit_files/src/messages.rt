@@ -1,5 +1,5 @@
 //! Messages about files and edits.
-ghost use Rattle.std.specs.Prelude.{◌≡◌, ◌++◌, IfOk, IsOkAnd, codes, option_map, string_bytes};
+ghost use Rattle.std.specs.Prelude.{◌≡◌, ◌++◌, IfOk, IsOkAnd, codes, string_bytes};
 ghost use Rattle.toml_edit_files.specs.Refusals.{refusal_text};
 ghost use Rattle.toml_edit_files.specs.Stops.{IsAbout, IsFailed, IsFor, StopsSaying, reason_for, reason_of};
 ghost use Rattle.toml_edit_files.specs.declared.stop.Reason.TheVariants.{Mistaken, Refused};
@@ -135,10 +135,10 @@ pub fn refused_edit(
         _ => String::new(alloc),
     };
     let hint = hint.as_str();
-    let Some((reason, why)) = reason_and_why(fault) else {
+    let Some(reason) = reason_for(fault) else {
         return Ok(Stop::Memory);
     };
-    let said = format!(in alloc; "{file}: edit {number} ({word} {path}): {why}{hint}")?;
+    let said = format!(in alloc; "{file}: edit {number} ({word} {path}): {fault}{hint}")?;
     Ok(Stop::Message(reason, Note::new(alloc, said.as_str())?))
 }
 
@@ -169,16 +169,13 @@ fn kind_name(item: &Item) -> &'static str {
     }
 }
 
-/// Returns the reason of a refusal and what it says, or `None` if memory ran out.
-fn reason_and_why(fault: EditFault) -> Option<(Reason, &'static str)>
-    ensures { option_map (λ told. told.0) result ≡ reason_for fault }
+/// Returns the reason of a refusal, or `None` if memory ran out.
+fn reason_for(fault: EditFault) -> Option<Reason>
+    ensures { result ≡ reason_for fault }
 {
     match fault {
-        EditFault::NoSuchPath => Some((Reason::No, "no such path")),
-        EditFault::WrongKind => Some((Reason::Mistaken, "wrong kind")),
-        EditFault::NoSuchElement => Some((Reason::No, "no such element")),
-        EditFault::Taken => Some((Reason::Mistaken, "the key is there already")),
-        EditFault::BadComment => Some((Reason::Mistaken, "bad comment")),
+        EditFault::NoSuchPath | EditFault::NoSuchElement => Some(Reason::No),
+        EditFault::WrongKind | EditFault::Taken | EditFault::BadComment => Some(Reason::Mistaken),
         EditFault::Memory => None,
     }
 }
