@@ -1,4 +1,4 @@
--- An error that `?` passes on, and what is said of it.
+-- An error that `?` passes on, and its message.
 use Rattle.std.proofs.Common.{◌≡◌, ◌∙◌, Bool, true, false, ap, refl, subst, sym, inl, inr}
 use Rattle.std.specs.Prelude.{◌≢◌, ◌⊎◌, List, Option, Some, None, Result, Ok, Err, IfErr, IfOk, IsErrAnd, IsOkAnd, MatchBool, OnErr, OnOk, string_bytes}
 use Rattle.std.specs.Io.KnownBytes.{IsAtEnd}
@@ -67,7 +67,7 @@ module _ (v : Version) (file : Text) (old new : Option (List Event)) (left : Opt
   pub unread_here : (t : Text) → IsReadOf file old new left t → IsNotRead v file t stop → IsUnread file Says stop
   unread_here t read h = inr (saying (SaysRefused v file t) Says Refused stop (λ said says. (t, read, says)) h)
 
--- ---- what is told
+-- ---- messages
 
 pub failed_not : (file : Text) (stop : Stop) → IsFailed file stop → reason_of stop ≢ Some Refused
 failed_not file Memory h is = absurd (let e : None ≡ Some Refused = is in cc)
@@ -82,7 +82,7 @@ stop_told told (Message Mistaken note) other tells = tells
 stop_told told (Message Failed note) other tells = tells
 stop_told told (Message Refused note) other tells = absurd (other refl)
 
--- a refusal is told in the output, unless memory runs out
+-- the output has the message of a refusal, unless memory runs out
 pub refused_told : (Says : Text → Type 0) (told : Told) (stop : Stop) → StopsSaying Refused Says stop → TellsOfFile (Err stop) told
     → TellsRefused Says told ⊎ TellsStop Memory told
 refused_told Says told Memory h tells = inr tells

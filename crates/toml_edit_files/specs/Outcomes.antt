@@ -19,7 +19,7 @@ Tells status output told = (told.status ≡ status) × (string_bytes told.output
 abbrev pub TellsAlone : ℕ → Text → Told → Type 0
 TellsAlone status output told = Tells status output told × (string_bytes told.notes ≡ [])
 
--- that a file is refused: what is said of it is the output
+-- that a file is refused: the output is its message
 abbrev pub TellsRefused : (Text → Type 0) → Told → Type 0
 TellsRefused Says told = (said : Text) × Says said × TellsAlone 1 (said ++ newline) told
 

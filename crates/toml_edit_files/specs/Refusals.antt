@@ -1,4 +1,4 @@
--- What is said of a file that is refused.
+-- The message about a refused file.
 use Rattle.std.specs.Prelude.{◌≡◌, ◌⊎◌, ℕ, suc, ◌++◌, Option, Some, None, codes, decimal}
 use Rattle.std.specs.Str.{IsUtf8}
 use Rattle.toml_edit.specs.Documents.{IsRefusalIn}

@@ -104,7 +104,7 @@ pub fn refused(alloc: Global, file: &str, error: &TomlError) -> Stop
     stop(alloc, Reason::Refused, refusal_text(alloc, file, error))
 }
 
-/// Returns what is said of a file that is not TOML.
+/// Returns the message about a file that is not TOML.
 fn refusal_text(alloc: Global, file: &str, error: &TomlError) -> Mem<String>
     ensures { IfOk result (λ s. string_bytes s ≡ refusal_text file.now error.now) }
 {

@@ -1,4 +1,4 @@
--- What is said of a file that is refused is written.
+-- The message about a refused file is written.
 use Rattle.toml_edit_files.specs.Edited.{version_by}
 use Rattle.toml_edit_files.proofs.RunLaws.{checked}
 use Rattle.std.proofs.Common.{Err}
