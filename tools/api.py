@@ -277,6 +277,10 @@ class Pages:
         where = "%s:%d" % (call.file, call.line)
         text = "### `%s`\n\n" % call.name + code(call.head)
         text += ("*Only here.*\n\n" if is_new else "") + self.prose(call.docs, call.module, owner, where)
+        docs = "\n".join(call.docs).partition("# Errors")[2] if call.module.crate in sources.libraries() else ""
+        for bare in re.findall(r"\b(?:Fails|Returns) (?:with )?`(?:\w+::)?(\w+)`", docs):
+            if any(bare == name for item in self.types.values() if item.kind == "enum" and item.name.endswith("Fault") for name, _ in parts(item)):
+                self.faults.append("%s: `%s` is a fault without a link" % (where, bare))
         shown = self.examples.get("%s::%s" % (owner.name, call.name) if owner else call.name)
         return text + (shown_as(shown) if shown else "") + contract(call.name, call.clauses) + "\n"
 

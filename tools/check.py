@@ -18,7 +18,8 @@
 - Help, TOMLFILE, the header of C, the manual page and the completions have the words of edits in the order of the code, with what each takes, and
   the usage and the options of each command.
 - The header of C, and what Rust declares of it, have the exports of the library, with as many parameters.
-- A page that says how much stack a call takes says what tools/stack.py and bindings/c/stack.c hold. The definitions of docs/api/base-*.md are
+- A page that says how much stack a call takes says what tools/stack.py and bindings/c/stack.c hold, and one that says how much is written at once
+  what a sink holds. The definitions of docs/api/base-*.md are
   no more than they may be. What GUIDE and ASSURANCE call by `crate::name` has a page in docs/api.
 - The list of files that share code, in DECISIONS between two comments, is that of tools/duplicates.py.
 - Pages are not too large, no sentence is too long, and no word of tools/words.txt is used.
@@ -389,6 +390,14 @@ class Check:
                 if int(found[1] or 0) * 1024 + int(found[2] or 0) != most:
                     self.fault(name, text[: found.start()].count("\n") + 1, "says `%s`, and %d KB is what runs are held to" % (found[0], most))
 
+    def held(self):
+        """What doc comments say of how much is written at once is what a sink holds."""
+        most = int(re.search(r"^const HELD: usize = (\d+);", read(TOP + "/crates/toml_edit_io/src/sinks.rt"), re.M)[1])
+        for name, text in self.texts.items():
+            for found in re.finditer(r"some ([\d,]+) bytes at a time", text):
+                if int(found[1].replace(",", "")) != most:
+                    self.fault(name, text[: found.start()].count("\n") + 1, "says `%s`, and a sink holds %d" % (found[0], most))
+
     def base(self):
         """The definitions of each page are no more than they may be."""
         for page, ((_, lines), most) in self.pages_made.base.sizes.items():
@@ -567,7 +576,7 @@ def main():
             print("%s<!-- %s -->" % (format(number, ","), word))
         return 0
     parts = [check.reference, check.shown, check.examples, check.links, check.mentions, check.counts, check.index, check.edits, check.edit_words]
-    parts += [check.usages, check.exports, check.stack, check.base, check.called, check.twice, check.sizes, check.sentences, check.words]
+    parts += [check.usages, check.exports, check.stack, check.held, check.base, check.called, check.twice, check.sizes, check.sentences, check.words]
     for part in parts if "--texts" in sys.argv else [*parts, check.runs]:
         part()
     for fault in check.faults:

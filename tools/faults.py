@@ -253,6 +253,13 @@ def larger_base(copy):
     copy.replace([name], r"may_meet_inline dotted_role dotted_role = true", "may_meet_inline dotted_role dotted_role = more_19 == 0")
 
 
+def smaller_sink(copy):
+    """A doc comment says that less is written at once."""
+    copy.replace(["crates/toml_edit/src/document/print.rt"], r"some 4,096 bytes at a time", "some 256 bytes at a time")
+    remember(copy)
+    copy.run("api.py")
+
+
 def lost_call(copy):
     """GUIDE calls a function that no page of the reference has."""
     copy.replace(["docs/GUIDE.md"], r"`toml_edit_fmt::format`", "`toml_edit_fmt::lay_out`")
@@ -284,6 +291,7 @@ FAULTS = {
     other_stack: "is what runs are held to",
     larger_base: "and may have 900",
     lost_call: "has no page for toml_edit_fmt::lay_out",
+    smaller_sink: "and a sink holds 4096",
 }
 # Those of blocks, which are compiled and run.
 RUN = {

@@ -134,7 +134,7 @@ fn put_inside_brackets<S: Sink>(
 }
 
 /// Puts the side of a decor if `stands` is set, and nothing if not.
-// Mostly nothing stands here.
+// Usually there is nothing here.
 #[inline(always)]
 fn put_side_if<S: Sink>(out: &mut S, mode: Mode, stands: bool, side: Option<&RawString>)
     ensures { WritesInCalls S.puts out.old

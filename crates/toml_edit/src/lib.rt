@@ -35,7 +35,8 @@
 //!   what must hold of an argument, such as an index in range, is a `requires` clause.
 //! - **Spans.** A *span* is a range of bytes of the source. Keys, scalars, decors, arrays and
 //!   tables of a [`Document`] have one where they were read. [`Document::into_mut`] replaces spans
-//!   by copies of their texts, so nothing of the [`DocumentMut`] that it gives has a span.
+//!   by texts, so nothing of the [`DocumentMut`] that it gives has a span. A long text is a part of
+//!   the source, which is kept until the last such text is dropped ([`Item::detach`]).
 //! - **Decor.** The whitespace and the comments before and after a key, a value or a header are its
 //!   *decor* ([`Decor`]). A comment above a key belongs to the key, one after a value to the value;
 //!   in an array, one after a comma belongs to the next value. A side that is unset prints as the
@@ -61,9 +62,10 @@
 //!   key together, and one spelling for each key. That is valid TOML and means what the text meant;
 //!   a text in normal form comes back byte for byte. [`ParseOptions::exact`] and
 //!   [`DocumentMut::set_exact`] keep line endings.
-//! - **Fits.** A document *fits* if its print is valid TOML that means what the tree shows. Parsed
-//!   documents fit. An edit can break that, by a decor that is no whitespace and no comment, say;
-//!   [`DocumentMut::fits`] checks it, and [`DocumentMut::first_misfit`] says where it is broken.
+//! - **Fits.** A document *fits* if its print is valid TOML that means what the tree shows.
+//!   Parsed documents fit. An edit can break that, by a decor that is neither whitespace nor a
+//!   comment, say; [`DocumentMut::fits`] checks it, and [`DocumentMut::first_misfit`] says where it
+//!   is broken.
 #![tactic(auto)]
 
 pub mod document;

@@ -27,7 +27,7 @@ pub enum Offset {
     Custom { minutes: i16 },
 }
 
-/// The error of a text that is no date-time, or one out of range.
+/// The error of a text that is not a date-time, or one out of range.
 ///
 /// # Examples
 ///

@@ -183,7 +183,7 @@ fn order_items<R: Report>(
     Some(last)
 }
 
-/// Returns the marks after an item of an array of tables. One that is no table is skipped.
+/// Returns the marks after an item of an array of tables. One that is not a table is skipped.
 #[cycle(order)]
 fn order_item<R: Report>(
     report: &mut R,

@@ -123,7 +123,7 @@ fn elements_fit<R: Report>(
     true
 }
 
-/// Returns `true` if an item of an array of tables fits. One that is no table is not printed.
+/// Returns `true` if an item of an array of tables fits. One that is not a table is not printed.
 #[cycle(tables)]
 fn as_element_fits<R: Report>(
     report: &mut R,

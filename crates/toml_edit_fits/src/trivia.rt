@@ -67,7 +67,8 @@ fn after_byte(is_open: bool, byte: u8) -> Option<bool>
     }
 }
 
-/// Returns whether a comment is open at the end of the trivia, or `None` if the text is no trivia.
+/// Returns whether a comment is open at the end of the trivia, or `None` if the text is not
+/// trivia.
 fn open_after(mode: Mode, text: &str) -> Option<bool>
     ensures { result ≡ tests.open_after false (shown_text (mode_of mode) text.now) }
 {

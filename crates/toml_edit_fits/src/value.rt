@@ -92,7 +92,7 @@ fn items_fit<R: Report>(report: &mut R, mode: Mode, room: usize, items: &Vec<Ite
     true
 }
 
-/// Returns `true` if an item of an array fits. One that is no value is not printed.
+/// Returns `true` if an item of an array fits. One that is not a value is not printed.
 #[cycle(value)]
 fn item_fits<R: Report>(report: &mut R, mode: Mode, room: usize, item: &Item) -> bool
     ensures { Reports R.tells (spec.item_misfits (mode_of mode) (item_view item.now)

@@ -289,7 +289,7 @@ impl Key {
         self.parts.dotted.clear();
     }
 
-    /// Returns the bytes of the source that the spelling covers, or `None` if it is no span.
+    /// Returns the bytes of the source that the spelling covers, or `None` if it is not a span.
     ///
     /// Only keys of a `Document` have one, not those of a `DocumentMut`.
     pub fn span(&self) -> Option<Range<usize>>

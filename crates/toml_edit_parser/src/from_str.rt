@@ -50,8 +50,8 @@ pub trait FromStr: Sized {
     ///
     /// # Errors
     ///
-    /// Returns `ParseFault::Toml` if the text is refused, with a span in bytes in most cases, and
-    /// `ParseFault::Memory` if out of memory.
+    /// Returns [`ParseFault::Toml`] if the text is refused, with a span in bytes in most cases, and
+    /// [`ParseFault::Memory`] if out of memory.
     fn from_str(alloc: Global, text: &str) -> Result<Self, ParseFault>
         ensures { answers text.now result };
 }
@@ -93,8 +93,8 @@ impl FromStr for Value {
     ///
     /// # Errors
     ///
-    /// Returns `ParseFault::Toml` if the text is no value, or one with a fault: an integer that 64
-    /// bits do not hold (`integer number overflowed`), a date, a time or an offset that does not
+    /// Returns `ParseFault::Toml` if the text is not a value, or one with a fault: an integer that
+    /// 64 bits do not hold (`integer number overflowed`), a date, a time or an offset that does not
     /// exist (`invalid date-time`), a key that an inline table has twice or cannot extend
     /// (`duplicate key`, `cannot extend ..`), more than 80 brackets open at once or keys in a path
     /// (`recursion limit`). Returns `ParseFault::Memory` if out of memory.

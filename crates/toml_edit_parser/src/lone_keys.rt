@@ -50,8 +50,8 @@ pub trait ParsePath: Sized {
     ///
     /// # Errors
     ///
-    /// Returns `ParseFault::Toml` if the text is refused, with a span in bytes in most cases, and
-    /// `ParseFault::Memory` if out of memory.
+    /// Returns [`ParseFault::Toml`] if the text is refused, with a span in bytes in most cases, and
+    /// [`ParseFault::Memory`] if out of memory.
     fn parse(alloc: Global, text: &str) -> Result<Vec<Self>, ParseFault>
         ensures { answers_path text.now result };
 }
@@ -107,7 +107,7 @@ impl ParsePath for Key {
     ///
     /// # Errors
     ///
-    /// `ParseFault::Toml` if the text is no path, with a span in bytes that marks the first
+    /// `ParseFault::Toml` if the text is not a path, with a span in bytes that marks the first
     /// character that does not belong there, or the quote of a string that does not end. A path of
     /// more than 80 keys is refused with `recursion limit` and no span. `ParseFault::Memory` if out
     /// of memory.

@@ -123,8 +123,9 @@ impl Decor {
     ///
     /// # Errors
     ///
-    /// Fails with `Text` if the comment has a control character other than tab, such as a newline,
-    /// and with `Memory` if out of memory. The decor is unchanged then.
+    /// Fails with [`CommentFault::Text`] if the comment has a control character other than tab,
+    /// such as a newline, and with [`CommentFault::Memory`] if out of memory. The decor is
+    /// unchanged then.
     pub fn set_comment_after(
         &mut self,
         alloc: Global,
@@ -179,8 +180,9 @@ impl Decor {
     ///
     /// # Errors
     ///
-    /// Fails with `Text` if the comment has a control character other than tab, such as a newline,
-    /// and with `Memory` if out of memory. The decor is unchanged then.
+    /// Fails with [`CommentFault::Text`] if the comment has a control character other than tab,
+    /// such as a newline, and with [`CommentFault::Memory`] if out of memory. The decor is
+    /// unchanged then.
     pub fn add_comment_before(&mut self, alloc: Global, comment: &str) -> Result<(), CommentFault>
         ensures changes { PutsComment (Some comment.now)
             (with_comment_before comment.now self.old) self.old self.new result }
@@ -228,7 +230,7 @@ fn text_of_side(side: Option<&RawString>) -> &str
     side_text(side).unwrap_or("")
 }
 
-/// Returns whether the text can be a comment: it has no control character but tab.
+/// Returns `true` if the text can be a comment: it has no control character but tab.
 fn is_comment(text: &str) -> bool
     ensures { result ≡ list_all is_visible text.now }
 {
@@ -370,7 +372,7 @@ fn last_newline(text: &str) -> &str
     "\r\n"
 }
 
-/// Returns whether the byte is a space or a tab.
+/// Returns `true` if the byte is a space or a tab.
 fn is_blank(byte: u8) -> bool
     ensures { result ≡ is_blank byte }
 {

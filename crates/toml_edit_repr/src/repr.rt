@@ -711,7 +711,7 @@ impl<T: ValueRepr> Formatted<T> {
         }
     }
 
-    /// Returns the bytes of the source that the spelling covers, or `None` if it is no span.
+    /// Returns the bytes of the source that the spelling covers, or `None` if it is not a span.
     ///
     /// Only values of a `Document` have one, not those of a `DocumentMut`.
     pub fn span(&self) -> Option<Range<usize>>

@@ -142,7 +142,7 @@ fn split_at_return(text: &str) -> Option<(&str, &str)>
     Some((&text[..at], &text[at + 1..]))
 }
 
-/// Returns whether the text is one space.
+/// Returns `true` if the text is one space.
 ///
 /// By its bytes: one comparison of texts takes ten instructions, and most sides are one space.
 #[inline(always)]

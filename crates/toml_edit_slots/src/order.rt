@@ -17,7 +17,7 @@ fn place_of<T>(slot: &Slot<T>) -> usize
     }
 }
 
-/// Returns whether the slots are in the order of their keys in the source.
+/// Returns `true` if the slots are in the order of their keys in the source.
 pub(crate) fn is_in_order<T>(entries: &[Slot<T>]) -> bool
     ensures { result ≡ is_sorted_by by_place entries.now }
 {

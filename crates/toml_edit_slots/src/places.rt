@@ -171,7 +171,7 @@ impl Places {
     }
 }
 
-/// Returns whether the slot at the place has the name.
+/// Returns `true` if the slot at the place has the name.
 pub(crate) fn is_named_at<T>(entries: &[Slot<T>], at: usize, name: &[u8]) -> bool
     ensures { result ≡ stands_at (names entries.now) at name.now }
 {
@@ -181,7 +181,7 @@ pub(crate) fn is_named_at<T>(entries: &[Slot<T>], at: usize, name: &[u8]) -> boo
     }
 }
 
-/// Returns whether the name of the slot at the place has the second hash.
+/// Returns `true` if the name of the slot at the place has the second hash.
 fn is_hashed_at<T>(entries: &[Slot<T>], at: usize, hash: u64) -> bool
     ensures { result ≡ hash_stands_at (names entries.now) at hash }
 {

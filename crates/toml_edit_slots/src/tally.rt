@@ -84,13 +84,13 @@ impl Tally {
         hash & (self.groups - 1)
     }
 
-    /// Returns whether no further name may begin in the group, or in its region.
+    /// Returns `true` if no further name may begin in the group, or in its region.
     #[inline(always)]
     pub(crate) fn is_full(&self, group: usize) -> bool {
         self.has(group, MOST_OF_GROUP) || self.has(self.groups.saturating_add(group / REGION), MOST)
     }
 
-    /// Returns whether so many names are counted at the place.
+    /// Returns `true` if so many names are counted at the place.
     #[inline(always)]
     fn has(&self, at: usize, most: u8) -> bool {
         match self.counts.get(at) {

@@ -1,4 +1,4 @@
-//! The events of a text that is one path, and what is wrong with a text that is no key.
+//! The events of a text that is one path, and what is wrong with a text that is not a key.
 ghost use Rattle.std.specs.Prelude.{◌⊎◌, List, IfOk, IsOk, IsErrOf};
 ghost use Rattle.std.specs.List.{AllByRecursion};
 ghost use Rattle.toml_edit_model.specs.Text.{Text};

@@ -29,9 +29,9 @@ pub enum Mistake {
     UnclosedHeader,
     /// An escape that does not exist.
     InvalidEscape,
-    /// Digits that are no number.
+    /// Digits that are not a number.
     InvalidNumber,
-    /// Digits that begin as a date or a time does, and are none.
+    /// Digits that begin as a date or a time does, and are not one.
     InvalidDateTime,
     /// A control character.
     ControlCharacter,

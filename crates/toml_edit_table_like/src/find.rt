@@ -10,7 +10,7 @@ use toml_edit_slots::Slots;
 use toml_edit_tree::Item;
 use toml_edit_tree::table::is_filled;
 
-/// Counts the slots that are no placeholders.
+/// Counts the slots that are not placeholders.
 pub(crate) fn filled_len(slots: &Slots<Item>) -> usize
     ensures { result ≡ length (filled (shown slots.now)) }
 {

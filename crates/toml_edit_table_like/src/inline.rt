@@ -12,7 +12,7 @@ ghost use Rattle.toml_edit_tree.specs.View.{item_view};
 use toml_edit_slots::{NoMemory, Slots};
 use toml_edit_tree::{InlineTable, Item};
 
-/// Inserts an item that is no placeholder, made a value, and returns the old one, made a value.
+/// Inserts an item that is not a placeholder, made a value, and returns the old one, made a value.
 pub(crate) fn insert_item(
     table: &mut InlineTable,
     key: &str,

@@ -66,7 +66,7 @@ pub trait AnyTable: HasSlots {
         slots.len()
     }
 
-    /// Returns the number of slots that are no placeholders, which [`iter`](Self::iter) gives.
+    /// Returns the number of slots that are not placeholders, which [`iter`](Self::iter) gives.
     fn len(&self) -> usize
         ensures { result ≡ length (filled (Self.slots_of self.now)) }
     {

@@ -59,7 +59,7 @@ impl<'a> TableRef<'a> {
         slots.len()
     }
 
-    /// Returns the number of slots that are no placeholders, which [`iter`](Self::iter) gives.
+    /// Returns the number of slots that are not placeholders, which [`iter`](Self::iter) gives.
     pub fn len(&self) -> usize
         ensures { result ≡ length (filled (ref_slots self.now)) }
     {

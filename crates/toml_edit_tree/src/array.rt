@@ -401,8 +401,9 @@ impl Array {
 
     /// Returns a mutable reference to slot `at`, of any kind, or `None` past the end.
     ///
-    /// An array can hold an item that is no value, which is not printed. [`get_mut`](Self::get_mut)
-    /// lends values alone. The contract says what the array is after a write.
+    /// An array can hold an item that is not a value, which is not printed.
+    /// [`get_mut`](Self::get_mut) lends values alone. The contract says what the array is after a
+    /// write.
     pub fn slot_at_mut(&mut self, at: usize) -> Option<&mut Item>
         ensures* writes_back { sem 𝓛 (LendsArraySlot self.entry at result) }
         ensures item { option_map (λ item. item_view item.now) result

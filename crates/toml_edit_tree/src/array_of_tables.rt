@@ -234,7 +234,7 @@ impl ArrayOfTables {
 
     /// Returns a mutable reference to slot `at`, of any kind, or `None` past the end.
     ///
-    /// An array of tables can hold an item that is no table, which is not printed.
+    /// An array of tables can hold an item that is not a table, which is not printed.
     /// [`get_mut`](Self::get_mut) lends tables alone. The contract says what the array is after a
     /// write.
     pub fn slot_at_mut(&mut self, at: usize) -> Option<&mut Item>

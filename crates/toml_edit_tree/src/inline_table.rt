@@ -75,7 +75,7 @@ pub struct InlineTable {
     pub(crate) decor: Decor,
     pub(crate) trailing: RawString,
     // No value is larger than this one, so it is kept small: the flags are side by side, and the
-    // span is no `Option`, since `is_read` says whether there is one.
+    // span is not an `Option`, since `is_read` says whether there is one.
     pub(crate) dotted: bool,
     pub(crate) trailing_comma: bool,
     pub(crate) is_read: bool,
@@ -549,8 +549,8 @@ impl InlineTable {
     /// Inserts `value` under a copy of `key` and returns the value that it replaces, if any.
     ///
     /// An existing key keeps its place, but gets the spelling and the decor of `key`. A new one is
-    /// added at the end. An old item that is no value is made one, and a placeholder is returned as
-    /// `None`. For a key of default spelling, use [`insert`](Self::insert).
+    /// added at the end. An old item that is not a value is made one, and a placeholder is returned
+    /// as `None`. For a key of default spelling, use [`insert`](Self::insert).
     ///
     /// # Errors
     ///
@@ -579,7 +579,7 @@ impl InlineTable {
 
     /// Removes the slot of `key` and returns its value, or `None` if the key is missing.
     ///
-    /// The other slots keep their order. An item that is no value is made one, as by
+    /// The other slots keep their order. An item that is not a value is made one, as by
     /// [`Item::into_value`]. A placeholder is removed as well, and `None` returned.
     pub fn remove(&mut self, key: &str) -> Option<Value>
         ensures value { option_map value_view result
@@ -596,7 +596,7 @@ impl InlineTable {
     ///
     /// The key has its spelling and its decor, so that it can be inserted again by
     /// [`insert_formatted`](Self::insert_formatted). The other slots keep their order. An item that
-    /// is no value is made one. A placeholder is removed as well, and `None` returned.
+    /// is not a value is made one. A placeholder is removed as well, and `None` returned.
     pub fn remove_entry(&mut self, key: &str) -> Option<(Key, Value)>
         ensures slot { option_map value_taken result ≡ old_slot key.now (inline_slots_of self.old) }
         ensures slots { inline_slots_of self.new ≡ without key.now (inline_slots_of self.old) }

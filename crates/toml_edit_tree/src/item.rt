@@ -101,8 +101,8 @@ impl Item {
     /// kind.
     ///
     /// A number finds a slot of an array or an array of tables, a placeholder too. A text finds an
-    /// item of a table or an inline table that is no placeholder. Indexing by `[..]` requires that
-    /// there is one.
+    /// item of a table or an inline table that is not a placeholder. Indexing by `[..]` requires
+    /// that there is one.
     ///
     /// # Examples
     ///

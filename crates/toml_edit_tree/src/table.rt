@@ -330,7 +330,7 @@ impl Table {
         self.slots.len()
     }
 
-    /// Returns the number of slots that are no placeholders, which [`iter`](Self::iter) gives.
+    /// Returns the number of slots that are not placeholders, which [`iter`](Self::iter) gives.
     ///
     /// [`slots`](Self::slots) counts placeholders too.
     pub fn len(&self) -> usize
@@ -451,7 +451,7 @@ impl Table {
         }
     }
 
-    /// Returns `true` if `key` has an item that is no placeholder.
+    /// Returns `true` if `key` has an item that is not a placeholder.
     pub fn contains_key(&self, key: &str) -> bool
         ensures found { result ≡ contains_key key.now (slots_of self.now) }
         // Then indexing by `[..]` finds the item.
@@ -712,7 +712,7 @@ impl Table {
     }
 }
 
-/// Returns `true` if the slot is no placeholder.
+/// Returns `true` if the slot is not a placeholder.
 #[doc(hidden)]
 pub fn is_filled(slot: &Slot<Item>) -> bool
     ensures { result ≡ is_item (item_view slot.now.item) }

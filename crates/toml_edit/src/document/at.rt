@@ -34,8 +34,8 @@ use toml_edit_tree::{Item, Table, Value, table_has_lines};
 impl DocumentMut {
     /// Returns the item at `path`, or `None` if there is none.
     ///
-    /// Placeholders are not found, nor are elements of an array that are no values and of an array
-    /// of tables that are no tables. The empty path leads to the root.
+    /// Placeholders are not found, nor are elements of an array that are not values and of an array
+    /// of tables that are not tables. The empty path leads to the root.
     pub fn get_at(&self, path: &[Key]) -> Option<&Item>
         ensures { option_map (λ x. item_view x.now) result
             ≡ item_at (names path.now) (tree_owned self.now) }
@@ -56,7 +56,8 @@ impl DocumentMut {
     ///
     /// Fails with [`ChangeFault::NoSuchPath`] if a key names no element, with
     /// [`ChangeFault::WrongKind`] for a table or an array of tables at the end of the path or a
-    /// scalar before it, and with [`ChangeFault::Memory`] if out of memory.
+    /// scalar before it, and with [`ChangeFault::Memory`] if out of memory. The document is
+    /// unchanged then.
     pub fn set_at(&mut self, path: &[Key], value: Value) -> Result<(), ChangeFault>
         ensures changes { Changes
             (set_at path.now (value_view value) (tree_owned self.old))
@@ -142,9 +143,9 @@ impl DocumentMut {
 
     /// Returns `true` if [`set_at`](Self::set_at) at `path` changes or adds one statement.
     ///
-    /// A value is there that is shown, so in no array of tables inside another value, and is no dotted
-    /// inline table; or the last key is missing in the root, in a table whose header is printed, or in
-    /// one that has lines, as a dotted table has.
+    /// A value is there that is shown, so in no array of tables inside another value, and is not a
+    /// dotted inline table; or the last key is missing in the root, in a table whose header is
+    /// printed, or in one that has lines, as a dotted table has.
     pub fn may_put(&self, path: &[Key]) -> bool
         ensures { IsTrue result ↔ MayBePut (tree_owned self.now) path.now }
     {
@@ -243,6 +244,7 @@ impl DocumentMut {
     /// # Errors
     ///
     /// Fails with [`ChangeFault::NoSuchPath`] if there is no such item, and with no other fault.
+    /// The document is unchanged then.
     pub fn remove_at(&mut self, path: &[Key]) -> Result<(), ChangeFault>
         ensures changes { Changes (remove_at (names path.now) (tree_owned self.old))
             (tree_owned self.old) (tree_owned self.new) result }

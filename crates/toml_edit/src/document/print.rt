@@ -146,9 +146,9 @@ impl DocumentMut {
 
     /// Writes the text that [`print`](Self::print) returns to an output that has not failed.
     ///
-    /// The text is written some 256 bytes at a time, and is never held as a whole. Only the order
-    /// of the headers takes memory, before the first write. To check that the text can be read
-    /// back, use [`fits`](Self::fits).
+    /// The text is written some 4,096 bytes at a time, from the stack, and is never held as a whole.
+    /// Only the order of the headers takes memory, before the first write. To check that the text
+    /// can be read back, use [`fits`](Self::fits).
     ///
     /// # Errors
     ///

@@ -139,7 +139,7 @@ fn read_line_scalar<'a>(
         raw(before),
         raw(suffix(reader.source, reader.mode, end.span)),
     );
-    // Most values that are no strings are integers.
+    // Most values that are not strings are integers.
     if let Some(number) = decode_integer(text) {
         let value = Value::Integer(Formatted::spanned(number, span.start, span.end, decor));
         put(item, Item::Value(value));

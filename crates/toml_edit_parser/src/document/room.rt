@@ -14,7 +14,7 @@ pub(crate) struct Behind<'a> {
     pub(crate) keys: usize,
     /// The events up to the end of the batch.
     pub(crate) events: &'a [Event],
-    /// The text after the batch, or the empty one if that is no part of the text's statements.
+    /// The text after the batch, or the empty one if that is not a part of the text's statements.
     pub(crate) ahead: &'a str,
 }
 

@@ -40,8 +40,9 @@ impl Array {
     ///
     /// # Errors
     ///
-    /// Fails with `Text` if the comment has a control character other than tab, such as a newline,
-    /// and with `Memory` if out of memory. The array is unchanged then.
+    /// Fails with [`CommentFault::Text`] if the comment has a control character other than tab,
+    /// such as a newline, and with [`CommentFault::Memory`] if out of memory. The array is
+    /// unchanged then.
     pub fn set_line_comment(&mut self, at: usize, comment: Option<&str>) -> Result<(), CommentFault>
         requires value { IsSome (value_at at (items_of self.old)) }
         requires next { at + 1 < length (items_of self.old)
@@ -87,7 +88,7 @@ impl Array {
     }
 }
 
-/// Returns whether there is no comment, or one without control characters but tab.
+/// Returns `true` if there is no comment, or one without control characters but tab.
 fn may_stand(comment: Option<&str>) -> bool
     ensures { result ≡ may_stand (option_copied comment.entry) }
 {
@@ -97,7 +98,7 @@ fn may_stand(comment: Option<&str>) -> bool
     }
 }
 
-/// Returns whether the text has no control character but tab.
+/// Returns `true` if the text has no control character but tab.
 fn is_visible(text: &str) -> bool
     ensures { result ≡ list_all is_visible text.now }
 {

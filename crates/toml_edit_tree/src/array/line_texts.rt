@@ -47,7 +47,7 @@ pub(crate) fn broken_gap(alloc: Global, gap: &str, newline: &str, indent: &str) 
     }
 }
 
-/// Returns whether a value between these texts gets lines of its own.
+/// Returns `true` if a value between these texts gets lines of its own.
 pub(crate) fn takes_lines(gap: &str, above: &str, after: &str) -> bool
     ensures { result ≡ takes_lines gap.now above.now after.now }
 {
@@ -91,7 +91,7 @@ fn add_kept_line(text: &mut String, line: &str, newline: &str, indent: &str) -> 
     Ok(())
 }
 
-/// Returns whether a line of a prefix is more than indentation.
+/// Returns `true` if a line of a prefix is more than indentation.
 fn is_kept(line: &str) -> bool
     ensures { result ≡ is_kept line.now }
 {
@@ -155,7 +155,7 @@ fn line_words(line: &str) -> &str
     split_white(split_first_line(line).0).1
 }
 
-/// Returns whether no other value is on the line of the value between these gaps.
+/// Returns `true` if no other value is on the line of the value between these gaps.
 fn is_alone(before: &str, after: &str, is_first: bool) -> bool
     ensures { result ≡ is_alone before.now after.now is_first }
 {
@@ -281,7 +281,7 @@ pub(crate) fn default_before(at: usize) -> &'static str
     if at == 0 { "" } else { " " }
 }
 
-/// Returns whether the text has a newline.
+/// Returns `true` if the text has a newline.
 pub(crate) fn is_broken(text: &str) -> bool
     ensures { result ≡ is_broken text.now }
 {
@@ -308,7 +308,7 @@ pub(crate) fn after_newline(text: &str) -> Option<&str>
     }
 }
 
-/// Returns whether the text is white space.
+/// Returns `true` if the text is white space.
 pub(crate) fn is_white(text: &str) -> bool
     ensures { result ≡ list_all is_blank text.now }
 {

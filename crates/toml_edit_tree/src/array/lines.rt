@@ -365,7 +365,7 @@ fn put_last_gap(array: &mut Array, gap: RawString)
     }
 }
 
-/// Returns whether a comma or no value is before the last gap.
+/// Returns `true` if a comma or no value is before the last gap.
 fn is_closed(array: &Array) -> bool
     ensures { result ≡ is_closed (array_fields array.now) (items_of array.now) }
 {

@@ -392,7 +392,7 @@ impl InlineTable {
 
     /// Returns the entry of `key`, to change its value or to insert one.
     ///
-    /// An existing item that is no value is made one first, as by
+    /// An existing item that is not a value is made one first, as by
     /// [`Item::make_value`](crate::Item::make_value), and a placeholder an empty inline table. A
     /// new key will have the default spelling and no decor; for another one use
     /// [`entry_format`](Self::entry_format).

@@ -34,7 +34,7 @@ pub struct Iter<'a> {
 }
 
 impl<'a> Iter<'a> {
-    /// Iterates over those of these slots that are no placeholders.
+    /// Iterates over those of these slots that are not placeholders.
     #[doc(hidden)]
     pub fn from_slots(slots: &'a [Slot<Item>]) -> Iter<'a>
         ensures { held_left result ≡ filled_pairs (slot_list (slots_view slots.now)) }
