@@ -1,7 +1,7 @@
 -- What was asked of a folder, call by call.
-use Rattle.std.proofs.Common.{◌≡◌, ◌≢◌, Bool, true, false, inl, inr, List, [], ◌∷◌, ◌++◌, Option, Some, None, Result, Ok, Err, IsErr, IsErrAnd, append_assoc, refl, sym, ap, subst, ◌∙◌}
+use Rattle.std.proofs.Common.{◌≡◌, ◌≢◌, ◌⊎◌, Bool, true, false, inl, inr, List, [], ◌∷◌, ◌++◌, Option, Some, None, Result, Ok, Err, IsErr, IsErrAnd, append_assoc, refl, sym, ap, subst, ◌∙◌}
 use Rattle.file_replace.specs.Events.{Text, Call, Event, Notes, cleared, made, removed, synced_folder, renamed, likened, wrote, synced, held, done, failed, more, succeeds}
-use Rattle.file_replace.specs.Replacing.{Asked, AreOther, Asks, Checks, Compares, Fills, FillsBy, IsWhy, IsWhyNot, MakesOther, Removes, Replaces, Stops, all_done, checked, compared, filling, prepared, replaced, replacing, taken, undone}
+use Rattle.file_replace.specs.Replacing.{Asked, AreOther, Asks, Checks, Compares, Fills, FillsBy, IsReplaced, IsWhy, IsWhyNot, MakesOther, Removes, Replaces, Stops, StopsReplacing, all_done, checked, compared, filling, prepared, replaced, replacing, taken, undone}
 use Rattle.file_replace.specs.declared.replacement.ReplaceFault.{ReplaceFault}
 use Rattle.file_replace.specs.declared.replacement.ReplaceFault.TheVariants.{Changed, ReadOnly, Failed}
 
@@ -212,3 +212,10 @@ module _ (a : Asked) where
           let (ns, apart, q) = subst (λ (y : Result A E). MakesOther a a.name name k m y) works makes in
           ended ns (name x) o m n r apart (noted (prepared a) (taken ns ++ (done (made (name x)) ∷ [])) o k m prepared_all q)
           (subst (λ (b : Text). FillsBy a b m n r) v fills)
+
+  -- of a folder that tells its history, what holds of each run's calls holds of those of this one
+  pub tells : (m n : List Event) (r : Result (Unit {0}) ReplaceFault) (P : List Event → Type 0) → Replaces a (Some m) (Some n) r
+      → ((es : List Event) → IsReplaced a es ⊎ StopsReplacing a es → P es)
+      → (known es : List Event) × (Some m ≡ Some known) × (Some n ≡ Some (known ++ es)) × P es
+  tells m n (Ok u) P (es, is, told) holds = (m, es, refl, told, holds es (inl is))
+  tells m n (Err f) P (es, is, why, told) holds = (m, es, refl, told, holds es (inr is))
