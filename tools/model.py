@@ -687,9 +687,9 @@ def try_rows(programs, count, seed, plants):
 def edit_of(maker, root):
     """A random edit: its words, its name in the model, and its arguments."""
     verb, takes = maker.choice([
-        ("set", "value"), ("string", "text"), ("header", "value"), ("table", "inline"), ("remove", None), ("append", "value"),
-        ("append", "inline"), ("insert", "value"), ("insert", "inline"), ("take", "element"), ("rename", "key"), ("move", "path"),
-        ("sort", None), ("comment", "comment")])
+        ("set", "value"), ("string", "text"), ("header", "value"), ("table", "inline"), ("section", None), ("remove", None),
+        ("append", "value"), ("append", "inline"), ("insert", "value"), ("insert", "inline"), ("take", "element"), ("rename", "key"),
+        ("move", "path"), ("sort", None), ("comment", "comment")])
     keys, names = maker.way(root)
     words, arguments = [verb, ".".join(keys)], [names]
     if takes in ("value", "inline", "element"):

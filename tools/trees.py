@@ -389,6 +389,12 @@ def forget_positions(node):
             forget_positions(inner)
 
 
+def last_position(node):
+    """The greatest position of a table of an item, or 0."""
+    inner = [inner for _, inner in node.slots] + node.items if node.kind in ("table", "tables") else []
+    return max([node.position or 0, *map(last_position, inner)])
+
+
 # ---- conversions
 
 
@@ -820,6 +826,17 @@ class Edits:
         for name in reversed(path[at + 1:]):
             made = Node("table", implicit=True, slots=[[Key(name), made]])
         return put_in(item_at(self.root, path[:at]), Key(path[at]), made)
+
+    def section(self, path):
+        at = led(self.root, path)
+        if at == len(path):
+            raise Refused("the key is there already")
+        unnumbered(self.root, path)
+        blank = "" if all(item.kind == "nothing" for _, item in self.root.slots) else "\n"
+        made = Node("table", decor=[blank, None], position=last_position(self.root) + 1)
+        for name in reversed(path[at + 1:]):
+            made = Node("table", implicit=True, slots=[[Key(name), made]])
+        put_in(item_at(self.root, path[:at]), Key(path[at]), made)
 
     def remove(self, path):
         remove_at(self.root, path, True)

@@ -157,6 +157,7 @@ struct toml_edit_answer toml_edit_format(
  *     string PATH TEXT     puts the string of these characters, as `set` does
  *     header PATH VALUE    puts a value, below headers where tables are missing
  *     table PATH VALUE     adds `[[PATH]]` with the pairs of an inline table
+ *     section PATH         adds an empty `[PATH]` after all other headers
  *     remove PATH          removes an item: an element of an array with its line and its comments
  *     append PATH VALUE    adds a value at the end of an array, on a line if the others are
  *     insert PATH VALUE    inserts a value before an element, or at the end

@@ -14,7 +14,7 @@ _tomlfile() {
         edit)
             [[ $word == -* ]] && COMPREPLY=($(compgen -W '--script --dry-run --output --locked --force --help' -- "$word"))
             if ((COMP_CWORD == at + 2)) || [[ ${COMP_WORDS[COMP_CWORD - 1]} == , ]]; then
-                COMPREPLY+=($(compgen -W 'set string header table remove append insert take rename move sort comment' -- "$word"))
+                COMPREPLY+=($(compgen -W 'set string header table section remove append insert take rename move sort comment' -- "$word"))
                 return
             fi ;;
     esac

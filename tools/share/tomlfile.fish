@@ -6,4 +6,4 @@ complete -c tomlfile -n "__fish_seen_subcommand_from keys" -l all
 complete -c tomlfile -n "__fish_seen_subcommand_from fmt" -l check -l keys -l sort -l force
 complete -c tomlfile -n "__fish_seen_subcommand_from edit" -l script -l dry-run -l output -l locked -l force
 complete -c tomlfile -n "__fish_seen_subcommand_from edit" \
-    -a "set string header table remove append insert take rename move sort comment"
+    -a "set string header table section remove append insert take rename move sort comment"

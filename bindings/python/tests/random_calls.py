@@ -22,7 +22,7 @@ PARTS = [b"a = 1\n", b"[a.b]\n", b"[[t]]\n", b"x.y = 'z' # c\r\n", b'"\\u00e9" =
 PARTS += [b"\xef\xbb\xbf", b"d = 1979-05-27T07:32:00Z", b"\n", b"\r", b"[", b"]", b"=", b"#\x01", b"\xff", b"'''", b"f = -inf\n", b"\0"]
 PATHS = [b"a", b"a.b", b"t.0", b"x.y", b"l.1.0", b"i.j", b"", b"\xff", b"a..b", b"'q'.r", b'"\\u00e9"', b"t.0.n.m"]
 VALUES = [b"1", b"'s'", b"[1, 2]", b"{ a = 1 }", b"1979-05-27", b"", b"\xff", b"{ a = 1, }", b"[", b"+inf", b'"""\n"""']
-WORDS = [b"set", b"header", b"remove", b"append", b"insert", b"take", b"table", b"string", b"rename", b"move", b"sort", b"comment", b"other", b"\xff"]
+WORDS = [b"set", b"header", b"remove", b"append", b"insert", b"take", b"table", b"section", b"string", b"rename", b"move", b"sort", b"comment", b"other", b"\xff"]
 # The statuses of a script that say of which edit they are.
 OF_EDITS = {4, 5, 6, 7, 11, 12, 13, 14}
 GUARD = 16
@@ -46,7 +46,7 @@ def script(random_: random.Random) -> bytes:
     for _ in range(random_.randrange(4)):
         word = random_.choice(WORDS)
         words += [word, random_.choice(PATHS)]
-        if word not in (b"remove", b"sort"):
+        if word not in (b"section", b"remove", b"sort"):
             words.append(random_.choice(VALUES + PATHS))
     return b"".join(word + b"\0" for word in words)[: None if random_.randrange(8) else -1]
 

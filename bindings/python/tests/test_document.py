@@ -267,6 +267,7 @@ class Editing(unittest.TestCase):
             (["set", "t.", "1"], ValueError, "bad path"),
             (["set", "a", "hi"], ValueError, "bad value"),
             (["sort", "a"], TypeError, "wrong kind"),
+            (["section", "t"], ValueError, "the key is there already"),
             (["paint", "a", "red"], ValueError, "no such edit"),
             (["take", "b", "2"], ValueError, "no such element"),
             (["rename", "a", "b"], ValueError, "the key is there already"),

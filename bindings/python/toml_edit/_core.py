@@ -150,7 +150,7 @@ def edit(flags: int, text: bytes, edits: Sequence[Sequence[bytes]]) -> bytes:
         if any(b"\0" in word for word in words):
             # The library would take what is behind a NUL for the next word.
             raise ValueError("%s: a word has a NUL" % named(edits, number))
-        if len(words) != (2 if words[:1] in ([b"remove"], [b"sort"]) else 3):
+        if len(words) != (2 if words[:1] in ([b"section"], [b"remove"], [b"sort"]) else 3):
             raise ValueError("%s: too few words, or too many" % named(edits, number))
     return call("edit", flags, text, b"".join(word + b"\0" for words in edits for word in words), edits=edits)
 

@@ -138,7 +138,7 @@ impl RefusedEdit {
     fn new(script: &str, number: usize, reason: Error) -> RefusedEdit {
         let mut words = script.split('\0');
         for _ in 1..number {
-            let operands = if matches!(words.next(), Some("remove" | "sort")) { 1 } else { 2 };
+            let operands = if matches!(words.next(), Some("section" | "remove" | "sort")) { 1 } else { 2 };
             words.nth(operands - 1);
         }
         let mut word = || words.next().unwrap_or_default().to_string();

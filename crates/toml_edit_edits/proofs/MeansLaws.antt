@@ -5,10 +5,10 @@ use Rattle.std.specs.Option.{ok_or, option_map_or}
 use Rattle.toml_edit_model.specs.Comments.{with_comment_after}
 use Rattle.toml_edit_model.specs.ArrayCalls.{inserted_at, removed_at}
 use Rattle.toml_edit_model.specs.Conversions.{with_decor}
-use Rattle.toml_edit_model.specs.Keys.{names}
+use Rattle.toml_edit_model.specs.Keys.{cleared_key, names}
 use Rattle.toml_edit_model.specs.Lists.{is_dotted_inline, is_dotted_table, is_tables_node, item_list, items_from, on_slots, slot_list, slots_from, slots_in}
 use Rattle.toml_edit_model.specs.Meaning.{SameFacts, an_array, fact}
-use Rattle.toml_edit_model.specs.Paths.{Path, to_element}
+use Rattle.toml_edit_model.specs.Paths.{Path, to_element, to_key}
 use Rattle.toml_edit_model.specs.Rearranging.{is_free, renamed_slot}
 use Rattle.toml_edit_model.specs.Shown.{inside_facts, is_shown, is_table_node, list_facts, node_facts, shown_meaning}
 use Rattle.toml_edit_model.specs.Slots.{Slot, changed_at}
@@ -50,8 +50,10 @@ use Rattle.toml_edit_edits.specs.Effects as effects
 use Rattle.toml_edit_edits.specs.Effects.{array_at, array_set, body_of, first_same, in_order, on_table, place_up_to, renamed, slots_renamed, values_of, with_comment}
 use Rattle.toml_edit_edits.specs.Elements as elements
 use Rattle.toml_edit_edits.specs.Elements.{inserted, is_tables_at, moved_among, on_kind}
+use Rattle.toml_edit_edits.specs.FirstTable.{held_below}
 use Rattle.toml_edit_edits.specs.Means.{MadeMeans, RenamingMeans, SettingMeans, ValuesMean}
 use Rattle.toml_edit_edits.specs.Outcomes.{and_then}
+use Rattle.toml_edit_edits.specs.Sections.{section, sectioned}
 use Rattle.toml_edit_edits.specs.declared.edit.Edit.TheVariants as edits
 use Rattle.toml_edit_edits.specs.declared.fault.EditFault.{EditFault}
 use Rattle.toml_edit_edits.specs.declared.fault.EditFault.TheVariants.{NoSuchElement, NoSuchPath}
@@ -61,7 +63,9 @@ use Rattle.toml_edit_edits.proofs.staying.Arrays.{array-found}
 use Rattle.toml_edit_edits.proofs.staying.Carrying.{same-all}
 use Rattle.toml_edit_edits.proofs.staying.Effects.{at-end-was, headed-was, kind-was, was-changed, was-commented, was-renamed, was-sorted}
 use Rattle.toml_edit_edits.proofs.staying.Removals.{InArray, line-gone}
+use Rattle.toml_edit_edits.proofs.staying.SectionMore.{section-left}
 use Rattle.toml_edit_edits.proofs.staying.Sets.{no-headers-above}
+use Rattle.toml_edit_edits.proofs.staying.SlotMeans.{item-means}
 use Rattle.toml_edit_edits.proofs.staying.Words.{IsCommented, IsSorted}
 
 -- ---- what stays
@@ -432,6 +436,11 @@ meant-there t path made meant = by_item (item_at path t) refl
     by_item None is =
         absurd (none-there (meant_at t path) (shown_meaning t) meant.0 (absent_means t path made is) (from-contained meant.0 (shown_meaning t) meant.1) meant.2)
 
+-- tables down to one that is shown are shown
+held-shown : (path : List Key) (t : Tree) → is_shown (held_below path (section t)) ≡ true
+held-shown [] t = refl
+held-shown (k ∷ path) t = ap (λ b. b || false) (held-shown path t)
+
 -- ---- each edit
 
 pub made-means : MadeMeans
@@ -463,6 +472,10 @@ made-means (edits.Insert path v) t u made h = λ above k xs i same at.
     xs i at
 made-means (edits.Take path v) t u made h = taken-means t u path.items (value_view v) made h
 made-means (edits.Table path v) t u made h = tt
+made-means (edits.Section path) t u made h = λ above w k below same named meant none.
+    subst (λ (y : Tree). SameFacts (shown_meaning y) (shown_meaning t ++ node_facts (held_below below (section t)) (to_key w.path k.name)))
+    (sym (section-left t u above w k below made named none (ap (λ q. sectioned q t) (sym same) ∙ h)))
+    (item-means w (cleared_key k) (held_below below (section t)) (held-shown below t) t named.way made named.leads meant)
 made-means (edits.Move path to) t u made h = λ above k name is ends other.
     renaming-means t u (names path.items) above k name made is
     (kind-was (moved_among k name) (renamed above k name t) above t u other

@@ -14,7 +14,7 @@ use Rattle.toml_edit_edits.specs.Said.{IsNoKeys, IsNoName, IsWrong, SaysEdit, Sa
 use Rattle.toml_edit_edits.specs.declared.edit.Edit.{Edit}
 use Rattle.toml_edit_edits.specs.declared.fault.WordFault.{WordFault}
 use Rattle.toml_edit_edits.specs.declared.fault.WordFault.TheVariants as faults
-use Rattle.toml_edit_edits.specs.declared.edit.PathVerb.TheVariants.{Remove, Sort}
+use Rattle.toml_edit_edits.specs.declared.edit.PathVerb.TheVariants.{Section, Remove, Sort}
 use Rattle.toml_edit_edits.specs.declared.edit.TextVerb.TheVariants.{String as OfString, Comment}
 use Rattle.toml_edit_edits.specs.declared.edit.ValueVerb.TheVariants.{Set, Header, Append, Insert, Take, Table}
 use Rattle.toml_edit_edits.specs.declared.edit.Verb.{Verb}
@@ -122,20 +122,21 @@ take-next n t ws = let next : n + 1 ≡ suc n = omega arith in ap (λ m. take m 
 -- ---- the names
 
 -- none of all edits has the name
-pub none-named : (name : Text) (count : ℕ) → 12 ≤ count → ((i : ℕ) → i < count → name ≢ name_of (get_or all_verbs i Move)) → (v : Verb)
+pub none-named : (name : Text) (count : ℕ) → 13 ≤ count → ((i : ℕ) → i < count → name ≢ name_of (get_or all_verbs i Move)) → (v : Verb)
     → name ≢ name_of v
 none-named name count all none (Value Set) = none 0 (omega (arith, all))
 none-named name count all none (OfText OfString) = none 1 (omega (arith, all))
 none-named name count all none (Value Header) = none 2 (omega (arith, all))
 none-named name count all none (Value Table) = none 3 (omega (arith, all))
-none-named name count all none (Path Remove) = none 4 (omega (arith, all))
-none-named name count all none (Value Append) = none 5 (omega (arith, all))
-none-named name count all none (Value Insert) = none 6 (omega (arith, all))
-none-named name count all none (Value Take) = none 7 (omega (arith, all))
-none-named name count all none Rename = none 8 (omega (arith, all))
-none-named name count all none Move = none 9 (omega (arith, all))
-none-named name count all none (Path Sort) = none 10 (omega (arith, all))
-none-named name count all none (OfText Comment) = none 11 (omega (arith, all))
+none-named name count all none (Path Section) = none 4 (omega (arith, all))
+none-named name count all none (Path Remove) = none 5 (omega (arith, all))
+none-named name count all none (Value Append) = none 6 (omega (arith, all))
+none-named name count all none (Value Insert) = none 7 (omega (arith, all))
+none-named name count all none (Value Take) = none 8 (omega (arith, all))
+none-named name count all none Rename = none 9 (omega (arith, all))
+none-named name count all none Move = none 10 (omega (arith, all))
+none-named name count all none (Path Sort) = none 11 (omega (arith, all))
+none-named name count all none (OfText Comment) = none 12 (omega (arith, all))
 
 -- each edit is found by its name
 pub verb-of : (v : Verb) → verb_of (name_of v) ≡ Some v
@@ -143,6 +144,7 @@ verb-of (Value Set) = refl
 verb-of (OfText OfString) = refl
 verb-of (Value Header) = refl
 verb-of (Value Table) = refl
+verb-of (Path Section) = refl
 verb-of (Path Remove) = refl
 verb-of (Value Append) = refl
 verb-of (Value Insert) = refl

@@ -15,7 +15,11 @@ pub mod Arrays
 pub mod Effects
 pub mod Carrying
 pub mod Fitting
-pub mod Edits
 pub mod TableMore
 pub mod ElementMore
+pub mod SlotMore
 pub mod FirstMore
+pub mod Positions
+pub mod SectionMore
+pub mod SlotMeans
+pub mod Edits

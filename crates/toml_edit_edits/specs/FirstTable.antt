@@ -13,12 +13,16 @@ use Rattle.toml_edit_edits.specs.Outcomes.{and_then}
 use Rattle.toml_edit_edits.specs.declared.fault.EditFault.{EditFault}
 use Rattle.toml_edit_edits.specs.declared.fault.EditFault.TheVariants.{NoSuchPath}
 
--- tables down a path to an array of one table; they exist only for it
-abbrev pub first_below : List Key → Node → Node
-first_below [] n = tables None (item n no_items)
-first_below (k ∷ path) n =
+-- tables down a path to an item; they exist only for it
+abbrev pub held_below : List Key → Node → Node
+held_below [] n = n
+held_below (k ∷ path) n =
     table (record new_table { is_implicit = true })
-    (slot (cleared_key k) (first_below path n) no_slots)
+    (slot (cleared_key k) (held_below path n) no_slots)
+
+-- such tables to an array of one table
+abbrev pub first_below : List Key → Node → Node
+first_below path n = held_below path (tables None (item n no_items))
 
 -- Where the path leads to nothing, these are put under the first key that does.
 abbrev pub tabled_from : List Key → List Key → Node → Tree → Result Tree EditFault

@@ -6,6 +6,7 @@ pub mod Effects
 pub mod Elements
 pub mod Moves
 pub mod FirstTable
+pub mod Sections
 pub mod Slots
 pub mod Lists
 pub mod Along

@@ -10,6 +10,7 @@ use Rattle.toml_edit_edits.specs.Elements.{on_kind}
 use Rattle.toml_edit_edits.specs.FirstTable.{tabled}
 use Rattle.toml_edit_edits.specs.Moves.{moved}
 use Rattle.toml_edit_edits.specs.Outcomes.{and_then}
+use Rattle.toml_edit_edits.specs.Sections.{sectioned}
 use Rattle.toml_edit_edits.specs.declared.edit.Edit.{Edit}
 use Rattle.toml_edit_edits.specs.declared.edit.Edit.TheVariants as edits
 use Rattle.toml_edit_edits.specs.declared.fault.EditFault.{EditFault}
@@ -32,6 +33,7 @@ effect (edits.Insert path v) t =
 effect (edits.Take path v) t =
     on_kind (elements.taken (value_view v)) (effects.taken path.items (value_view v) t) (names path.items) t
 effect (edits.Table path v) t = tabled path.items (value_view v) t
+effect (edits.Section path) t = sectioned path.items t
 effect (edits.Rename path u) t =
     at_end (λ above k. renamed above k (string_bytes u) t) (names path.items)
 effect (edits.Move path to) t = moved (names path.items) (names to.items) t

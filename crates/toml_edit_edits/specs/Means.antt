@@ -1,22 +1,27 @@
 -- What edits that are made change in the meaning of a tree.
 use Rattle.std.specs.Prelude.{◌≡◌, ℕ, false, true, List, [], ◌∷◌, ◌++◌, length, map, None, Ok, Some, string_bytes}
 use Rattle.toml_edit_model.specs.ArrayCalls.{inserted_at, removed_at}
+use Rattle.toml_edit_model.specs.HeaderOrder.{Visit}
 use Rattle.toml_edit_model.specs.Keys.{names}
-use Rattle.toml_edit_model.specs.Lists.{items_from}
+use Rattle.toml_edit_model.specs.Lists.{items_from, slot_list}
 use Rattle.toml_edit_model.specs.Meaning.{SameFacts}
-use Rattle.toml_edit_model.specs.Shown.{inside_facts, shown_meaning}
+use Rattle.toml_edit_model.specs.Paths.{to_key}
+use Rattle.toml_edit_model.specs.Shown.{inside_facts, node_facts, shown_meaning}
+use Rattle.toml_edit_model.specs.Slots.{lookup_slot}
 use Rattle.toml_edit_model.specs.Text.{Text, one}
 use Rattle.toml_edit_model.specs.Tree.{ArrayFields, Key, Node, SlotsAreWellMade, Tree, list}
 use Rattle.toml_edit_laws.specs.Locality.{is_plain_value}
 use Rattle.toml_edit_edit_laws.specs.Commands.{item_at}
-use Rattle.toml_edit_edit_laws.specs.CommandLaws.{made_below}
+use Rattle.toml_edit_edit_laws.specs.CommandLaws.{NamesTable, made_below}
 use Rattle.toml_edit_edit_laws.specs.Means.{IsMeant, MeansWith, meant_at, shown_at}
 use Rattle.toml_edit_edit_laws.specs.PathEdits.{CallMeans, RemovalMeans, sets}
 use Rattle.toml_edit_edit_laws.specs.Renaming.{renamed_fact}
 use Rattle.toml_edit_tree.specs.View.{value_view}
 use Rattle.toml_edit_edits.specs.Effects.{first_same, place_up_to}
 use Rattle.toml_edit_edits.specs.Elements.{is_tables_at}
+use Rattle.toml_edit_edits.specs.FirstTable.{held_below}
 use Rattle.toml_edit_edits.specs.Lists.{effect}
+use Rattle.toml_edit_edits.specs.Sections.{section}
 use Rattle.toml_edit_edits.specs.declared.edit.Edit.{Edit}
 use Rattle.toml_edit_edits.specs.declared.edit.Edit.TheVariants as edits
 
@@ -48,8 +53,17 @@ RenamingMeans path name t u =
     (n : Node) → item_at path t ≡ Some n
     → SameFacts (shown_meaning u) (map (renamed_fact (meant_at t path) name) (shown_meaning t))
 
--- What an edit changes. Of tables that are made, and of what is moved to another table or among
--- elements, nothing is known.
+-- An empty table is added at a new key of a table that the walk enters and that is shown, or below
+-- such a key: its fact is added, and those of the tables down to it.
+abbrev pub SectionMeans : List Key → Tree → Tree → Type 0
+SectionMeans path t u =
+    (above : List Key) (w : Visit) (k : Key) (below : List Key) → path ≡ above ++ (k ∷ below)
+    → NamesTable t (names above) w → IsMeant t w.path → lookup_slot k.name (slot_list w.slots) ≡ None
+    → let more = node_facts (held_below below (section t)) (to_key w.path k.name) in
+    SameFacts (shown_meaning u) (shown_meaning t ++ more)
+
+-- What an edit changes. Of a table that is made for a value or an array of tables, and of what is
+-- moved to another table or among elements, nothing is known.
 abbrev pub EditMeans : Edit → Tree → Tree → Type 0
 EditMeans (edits.Sort path) t u = SameFacts (shown_meaning u) (shown_meaning t)
 EditMeans (edits.Comment path text) t u = SameFacts (shown_meaning u) (shown_meaning t)
@@ -71,6 +85,7 @@ EditMeans (edits.Insert path v) t u =
 EditMeans (edits.Take path v) t u =
     (xs : List Node) (i : ℕ) → first_same (value_view v) xs ≡ Some i
     → ValuesMean (names path.items) xs (removed_at i xs) t u
+EditMeans (edits.Section path) t u = SectionMeans path.items t u
 EditMeans _ t u = Unit {0}
 
 -- edits one after another: each in the tree that those before it left, if that is well made

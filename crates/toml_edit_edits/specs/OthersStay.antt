@@ -8,11 +8,11 @@ use Rattle.toml_edit_model.specs.Keys.{cleared_key, names}
 use Rattle.toml_edit_model.specs.Lists.{item_list, slot_list, slots_from}
 use Rattle.toml_edit_model.specs.Mode.{Mode}
 use Rattle.toml_edit_model.specs.Paths.{Path, to_element, to_key}
-use Rattle.toml_edit_model.specs.Print.{lines_of, printed}
+use Rattle.toml_edit_model.specs.Print.{lines_of, printed, printed_table}
 use Rattle.toml_edit_model.specs.Slots.{keyed, lookup_slot}
 use Rattle.toml_edit_model.specs.Text.{Text, is_empty, one}
-use Rattle.toml_edit_model.specs.Tree.{ArrayFields, Extent, InlineFields, IsWellMade, Items, Key, Node, Slots, SlotsAreWellMade, Tree, inline, is_value_node, list, tables}
-use Rattle.toml_edit_laws.specs.Locality.{element_count, has_block, is_plain_value}
+use Rattle.toml_edit_model.specs.Tree.{ArrayFields, Extent, InlineFields, IsWellMade, Items, Key, Node, Slots, SlotsAreWellMade, TableFields, Tree, inline, is_value_node, list, no_slots, tables}
+use Rattle.toml_edit_laws.specs.Locality.{StaysSteady, element_count, has_block, is_plain_value}
 use Rattle.toml_edit_edit_laws.specs.CallsFit.{IsHarmlessBelow}
 use Rattle.toml_edit_edit_laws.specs.Commands.{item_at}
 use Rattle.toml_edit_edit_laws.specs.CommandLaws.{AreSpelled, NamesTable, is_scalar}
@@ -24,6 +24,7 @@ use Rattle.toml_edit_edits.specs.Effects.{changed_below, headed}
 use Rattle.toml_edit_edits.specs.Elements.{inserted, is_tables_at}
 use Rattle.toml_edit_edits.specs.FirstTable.{tabled}
 use Rattle.toml_edit_edits.specs.Lists.{applied, effect}
+use Rattle.toml_edit_edits.specs.Sections.{HasNextPosition, section_fields, sectioned}
 use Rattle.toml_edit_edit_laws.specs.Places.{place_of}
 use Rattle.toml_edit_edits.specs.declared.edit.Edit.{Edit}
 use Rattle.toml_edit_edits.specs.declared.edit.Edit.TheVariants as edits
@@ -40,6 +41,7 @@ paths_of (edits.Append path v) = one (names path.items)
 paths_of (edits.Insert path v) = one (names path.items)
 paths_of (edits.Take path v) = one (names path.items)
 paths_of (edits.Table path v) = one (names path.items)
+paths_of (edits.Section path) = one (names path.items)
 paths_of (edits.Rename path u) = names path.items ∷ one (with_last (string_bytes u) (names path.items))
 paths_of (edits.Move path to) = names path.items ∷ one (names to.items)
 paths_of (edits.Sort path) = one (names path.items)
@@ -95,6 +97,25 @@ abbrev pub first_visit : Path → List Key → Key → List Key → Slots → Vi
 first_visit p ks k [] ss = element_visit (to_element (to_key p k.name) 0) (ks ++ one (cleared_key k)) ss
 first_visit p ks k (j ∷ more) ss = first_visit (to_key p k.name) (ks ++ one (cleared_key k)) j more ss
 
+-- ---- empty tables with headers
+
+-- where one may be added: at a new key of a table that the walk enters, or below such a key
+pub record IsNewBelow (t : Tree) (path : List Key) : Type 0 where
+  pub above : List Key
+  pub key : Key
+  pub below : List Key
+  pub visit : Visit
+  pub is : path ≡ above ++ (key ∷ below)
+  pub spelled : AreSpelled (key ∷ below)
+  pub named : NamesTable t (names above) visit
+  pub none : lookup_slot key.name (slot_list visit.slots) ≡ None
+  pub room : HasNextPosition t
+
+-- such a table as the walk enters it, below new keys
+abbrev pub section_visit : Path → List Key → Key → List Key → TableFields → Visit
+section_visit p ks k [] f = visit_of (to_key p k.name) (ks ++ one (cleared_key k)) false f no_slots
+section_visit p ks k (j ∷ more) f = section_visit (to_key p k.name) (ks ++ one (cleared_key k)) j more f
+
 -- ---- which edits leave a steady tree
 
 module _ (mode : Mode) where
@@ -136,6 +157,7 @@ module _ (mode : Mode) where
       → is_tables_at (names above) t ≡ false)
   IsLocal (edits.Take path v) t = is_tables_at (names path.items) t ≡ false
   IsLocal (edits.Table path v) t = ⊥
+  IsLocal (edits.Section path) t = IsNewBelow t path.items
   IsLocal (edits.Move path to) t = MayMove t (names path.items) (names to.items)
   IsLocal _ t = Unit {0}
 
@@ -216,3 +238,17 @@ module _ (mode : Mode) where
       → NamesTable t (names path) w → lookup_slot k.name (slot_list w.slots) ≡ None
       → has_values ss ≡ true → tabled (path ++ (k ∷ more)) (inline f ss) t ≡ Ok u
       → OneTableMore mode t u (to_key w.path k.name) (first_visit w.path w.keys k more ss)
+
+  -- The statements of the second tree are those of the first, and after them those of a table more,
+  -- which is empty. It is steady.
+  abbrev pub AddsHeader : Tree → Tree → Visit → Type 0
+  AddsHeader t u v = (printed mode u ≡ printed mode t ++ printed_table mode true v) × StaysSteady mode t u
+
+  -- So it is where such a table is added.
+  abbrev pub SectionAddsHeader : Type 0
+  SectionAddsHeader =
+      (t u : Tree) (path : List Key) (w : Visit) (k : Key) (more : List Key)
+      → SlotsAreWellMade t.slots → is_steady_in mode t ≡ true → HasNextPosition t
+      → NamesTable t (names path) w → lookup_slot k.name (slot_list w.slots) ≡ None
+      → sectioned (path ++ (k ∷ more)) t ≡ Ok u
+      → AddsHeader t u (section_visit w.path w.keys k more (section_fields t))

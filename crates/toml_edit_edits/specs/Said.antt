@@ -14,7 +14,7 @@ use Rattle.toml_edit_edits.specs.declared.fault.WordFault.{WordFault}
 use Rattle.toml_edit_edits.specs.declared.fault.WordFault.TheVariants as faults
 use Rattle.toml_edit_edits.specs.declared.fault.WordsFault.{WordsFault}
 use Rattle.toml_edit_edits.specs.declared.edit.PathVerb.{PathVerb}
-use Rattle.toml_edit_edits.specs.declared.edit.PathVerb.TheVariants.{Remove, Sort}
+use Rattle.toml_edit_edits.specs.declared.edit.PathVerb.TheVariants.{Section, Remove, Sort}
 use Rattle.toml_edit_edits.specs.declared.edit.TextVerb.{TextVerb}
 use Rattle.toml_edit_edits.specs.declared.edit.TextVerb.TheVariants.{String, Comment}
 use Rattle.toml_edit_edits.specs.declared.edit.ValueVerb.{ValueVerb}
@@ -25,6 +25,7 @@ use Rattle.toml_edit_edits.specs.declared.edit.Verb.TheVariants.{Path, Value, Te
 -- ---- the names of edits, and how many words follow them
 
 abbrev pub path_name : PathVerb → Text
+path_name Section = codes "section"
 path_name Remove = codes "remove"
 path_name Sort = codes "sort"
 
@@ -53,8 +54,8 @@ operands v = 2
 
 abbrev pub all_verbs : List Verb
 all_verbs =
-    Value Set ∷ OfText String ∷ Value Header ∷ Value Table ∷ Path Remove ∷ Value Append ∷ Value Insert
-    ∷ Value Take ∷ Rename ∷ Move ∷ Path Sort ∷ OfText Comment ∷ []
+    Value Set ∷ OfText String ∷ Value Header ∷ Value Table ∷ Path Section ∷ Path Remove ∷ Value Append
+    ∷ Value Insert ∷ Value Take ∷ Rename ∷ Move ∷ Path Sort ∷ OfText Comment ∷ []
 
 -- the edit of this name
 abbrev pub verb_of : Text → Option Verb
@@ -98,6 +99,7 @@ module _ (version : Version) where
       ⊎ Takes (λ t. value_view v ≡ leaf (string t) None unset) (text_name String) ws path.items
   SaysEdit ws (edits.Header path v) = TakesValue Header ws path.items (value_view v)
   SaysEdit ws (edits.Table path v) = TakesValue Table ws path.items (value_view v)
+  SaysEdit ws (edits.Section path) = TakesPath (path_name Section) ws path.items
   SaysEdit ws (edits.Remove path) = TakesPath (path_name Remove) ws path.items
   SaysEdit ws (edits.Append path v) = TakesValue Append ws path.items (value_view v)
   SaysEdit ws (edits.Insert path v) = TakesValue Insert ws path.items (value_view v)

@@ -3,3 +3,4 @@ pub mod Elements
 pub mod Means
 pub mod OthersStay
 pub mod Said
+pub mod Sections

@@ -26,6 +26,10 @@ pub enum Edit {
     /// Adds a table of the pairs of an inline table at the end of the array of tables at the path,
     /// which it makes where nothing is.
     Table(Vec<Key>, Value),
+    /// Adds an empty table with a header at the path, where nothing is. The header is printed last,
+    /// and the tables above it that are missing have none. In an element of an array of tables that
+    /// isn't the last one, the result doesn't fit.
+    Section(Vec<Key>),
     /// Gives the key at the end of the path another name.
     Rename(Vec<Key>, String),
     /// Moves the key at the end of the first path, with its item, to the second path; or an element
@@ -49,6 +53,7 @@ impl Edit {
             Edit::Insert(_, _) => Verb::Value(ValueVerb::Insert),
             Edit::Take(_, _) => Verb::Value(ValueVerb::Take),
             Edit::Table(_, _) => Verb::Value(ValueVerb::Table),
+            Edit::Section(_) => Verb::Path(PathVerb::Section),
             Edit::Rename(_, _) => Verb::Rename,
             Edit::Move(_, _) => Verb::Move,
             Edit::Sort(_) => Verb::Path(PathVerb::Sort),
@@ -66,6 +71,7 @@ impl Edit {
             | Edit::Insert(path, _)
             | Edit::Take(path, _)
             | Edit::Table(path, _)
+            | Edit::Section(path)
             | Edit::Rename(path, _)
             | Edit::Move(path, _)
             | Edit::Sort(path)
@@ -87,6 +93,7 @@ pub enum Verb {
 /// An edit of a path alone.
 #[derive(Clone, Copy, Debug, PartialEq, Eq)]
 pub enum PathVerb {
+    Section,
     Remove,
     Sort,
 }
@@ -110,11 +117,12 @@ pub enum TextVerb {
 }
 
 /// All edits, in the order in which help lists them.
-pub const VERBS: [Verb; 12] = [
+pub const VERBS: [Verb; 13] = [
     Verb::Value(ValueVerb::Set),
     Verb::Text(TextVerb::String),
     Verb::Value(ValueVerb::Header),
     Verb::Value(ValueVerb::Table),
+    Verb::Path(PathVerb::Section),
     Verb::Path(PathVerb::Remove),
     Verb::Value(ValueVerb::Append),
     Verb::Value(ValueVerb::Insert),
@@ -135,6 +143,7 @@ impl Verb {
             Verb::Text(TextVerb::String) => "string",
             Verb::Value(ValueVerb::Header) => "header",
             Verb::Value(ValueVerb::Table) => "table",
+            Verb::Path(PathVerb::Section) => "section",
             Verb::Path(PathVerb::Remove) => "remove",
             Verb::Value(ValueVerb::Append) => "append",
             Verb::Value(ValueVerb::Insert) => "insert",

@@ -8,7 +8,7 @@ ghost use Rattle.toml_edit_tree.specs.Containers.{table_node};
 ghost use Rattle.toml_edit_tree.specs.View.{item_view, table_view, value_view};
 ghost use Rattle.toml_edit.specs.DocumentView.{IsPrintedAs, tree_owned};
 ghost use Rattle.toml_edit_edits.specs.FirstTable as first_table;
-ghost use Rattle.toml_edit_edits.specs.FirstTable.{first_below};
+ghost use Rattle.toml_edit_edits.specs.FirstTable.{first_below, held_below};
 ghost use Rattle.toml_edit_edits.specs.Outcomes.{Makes};
 ghost use Rattle.toml_edit_edits.specs.Slots.{shown_slot};
 
@@ -38,23 +38,23 @@ pub(crate) fn add_table(
             if is_numbered(&path[there..]) {
                 return Err(EditFault::NoSuchPath);
             }
-            let table = table_of(alloc, value)?;
-            let slot = slot_below(alloc, key, more, table)?;
+            let first = array_of(alloc, table_of(alloc, value)?)?;
+            let slot = slot_below(alloc, key, more, first)?;
             put_slot(document, &path[..there], slot)
         }
     }
 }
 
-/// Returns a slot of the key with tables down the path, to an array of this table.
-fn slot_below(alloc: Global, key: &Key, path: &[Key], table: Table) -> Mem<Slot<Item>>
+/// Returns a slot of the key with tables down the path, to this item.
+pub(crate) fn slot_below(alloc: Global, key: &Key, path: &[Key], item: Item) -> Mem<Slot<Item>>
     ensures { IfOk result (λ made. shown_slot made
-        ≡ keyed (cleared_key key.now) (first_below path.now (table_node (table_view table)))) }
+        ≡ keyed (cleared_key key.now) (held_below path.now (item_view item))) }
 {
-    let item = match path.split_first() {
-        None => array_of(alloc, table)?,
-        Some((next, rest)) => holder_of(alloc, slot_below(alloc, next, rest, table)?)?,
+    let held = match path.split_first() {
+        None => item,
+        Some((next, rest)) => holder_of(alloc, slot_below(alloc, next, rest, item)?)?,
     };
-    slot_of(alloc, key, item)
+    slot_of(alloc, key, held)
 }
 
 /// Returns an array of this table.

@@ -2,7 +2,7 @@
 ghost use Rattle.toml_edit_model.specs.Mode.{Mode};
 ghost use Rattle.toml_edit_edits.specs.LinesStay.{InsertedLines, RemovedLines};
 ghost use Rattle.toml_edit_edits.specs.Means.{MadeMeans};
-ghost use Rattle.toml_edit_edits.specs.OthersStay.{AppliedStay, ElementAddsTable, FirstAddsTable, HeaderAddsTable};
+ghost use Rattle.toml_edit_edits.specs.OthersStay.{AppliedStay, ElementAddsTable, FirstAddsTable, HeaderAddsTable, SectionAddsHeader};
 
 /// Where the values of an array have lines of their own, the print of the array after a value is
 /// inserted with its line, by [`Edit::Append`](crate::Edit::Append) or
@@ -20,7 +20,7 @@ pub fn lines_stay()
 ///
 /// A value is put where one is, in one, or under a new key of the root, of a table with a printed
 /// header or of one that has lines. A key is moved below its own table, or with a value to such a
-/// place.
+/// place. An empty table with a header is added under a new key of any table, or below one.
 pub fn others_stay()
     ensures edits { (mode : Mode) → AppliedStay mode }
 {}
@@ -28,8 +28,9 @@ pub fn others_stay()
 /// What an edit that is made changes in the meaning of a well-made tree. A sort and a comment leave it.
 /// A renaming gives the new name to the facts at its path and below it. Where a value is set, the facts
 /// there are those of the value; where an array gets a value or loses one, those of what it is then;
-/// and where something is removed, they are gone. All others stay. Of tables that are made, and of what
-/// is moved to another table or among elements, nothing is known.
+/// and where something is removed, they are gone. An empty table with a header adds its fact, and those
+/// of the tables down to it. All others stay. Of a table that is made for a value or for an array of
+/// tables, and of what is moved to another table or among elements, nothing is known.
 pub fn edit_means()
     ensures means { MadeMeans }
 {}
@@ -46,4 +47,11 @@ pub fn header_adds()
 pub fn element_adds()
     ensures last { (mode : Mode) → ElementAddsTable mode }
     ensures first { (mode : Mode) → FirstAddsTable mode }
+{}
+
+/// An [`Edit::Section`](crate::Edit::Section) leaves all statements of a steady tree as they were,
+/// and adds one after them, if a position is left there: the header of the new table. The tree is
+/// steady again.
+pub fn section_adds()
+    ensures header { (mode : Mode) → SectionAddsHeader mode }
 {}

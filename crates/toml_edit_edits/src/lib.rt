@@ -16,6 +16,7 @@ mod read_edit;
 mod removes;
 mod same;
 mod script;
+mod sections;
 mod text;
 
 pub use apply_edits::ApplyEdits;

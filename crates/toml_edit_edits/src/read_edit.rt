@@ -136,6 +136,7 @@ fn path_edit(alloc: Global, verb: PathVerb, path: &str) -> Result<Edit, WordFaul
 {
     match keys_of(alloc, path) {
         Ok(keys) => Ok(match verb {
+            PathVerb::Section => Edit::Section(keys),
             PathVerb::Remove => Edit::Remove(keys),
             PathVerb::Sort => Edit::Sort(keys),
         }),

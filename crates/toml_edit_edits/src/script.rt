@@ -17,6 +17,7 @@ use crate::laws::{edit_means, others_stay};
 use crate::missing::{is_numbered, keys_there};
 use crate::moves::relocate;
 use crate::removes::remove_first;
+use crate::sections::add_section;
 use std::alloc::Global;
 use toml_edit::{DocumentMut, Key, Value};
 
@@ -109,6 +110,7 @@ fn make(alloc: Global, document: &mut DocumentMut, edit: &Edit) -> Result<(), Ed
         Edit::Insert(path, value) => insert(alloc, document, path.as_slice(), value),
         Edit::Take(path, value) => take(alloc, document, path.as_slice(), value),
         Edit::Table(path, value) => add_table(alloc, document, path.as_slice(), value),
+        Edit::Section(path) => add_section(alloc, document, path.as_slice()),
         Edit::Rename(path, name) => rename(document, path.as_slice(), name.as_str()),
         Edit::Move(path, to) => relocate(alloc, document, path.as_slice(), to.as_slice()),
         Edit::Sort(path) => sort(alloc, document, path.as_slice()),

@@ -13,7 +13,7 @@ use Rattle.toml_edit_edits.specs.declared.edit.Edit.TheVariants as edits
 use Rattle.toml_edit_edits.specs.declared.fault.WordFault.{WordFault}
 use Rattle.toml_edit_edits.specs.declared.fault.WordFault.TheVariants as faults
 use Rattle.toml_edit_edits.specs.declared.edit.PathVerb.{PathVerb}
-use Rattle.toml_edit_edits.specs.declared.edit.PathVerb.TheVariants.{Remove, Sort}
+use Rattle.toml_edit_edits.specs.declared.edit.PathVerb.TheVariants.{Section, Remove, Sort}
 use Rattle.toml_edit_edits.specs.declared.edit.TextVerb.{TextVerb}
 use Rattle.toml_edit_edits.specs.declared.edit.TextVerb.TheVariants.{String as OfString, Comment}
 use Rattle.toml_edit_edits.specs.declared.edit.ValueVerb.{ValueVerb}
@@ -39,6 +39,7 @@ verb-of (Value Insert) = refl
 verb-of (Value Take) = refl
 verb-of (OfText OfString) = refl
 verb-of (OfText Comment) = refl
+verb-of (Path Section) = refl
 verb-of (Path Remove) = refl
 verb-of (Path Sort) = refl
 verb-of Rename = refl
@@ -127,6 +128,7 @@ module _ (version : Version) (ws : List Text) where
       elim said [ inl value ↦ by-value Set path.items (value_view v) value | inr text ↦ by-text OfString _ path.items text ]
   right-of (edits.Header path v) said = by-value Header path.items (value_view v) said
   right-of (edits.Table path v) said = by-value Table path.items (value_view v) said
+  right-of (edits.Section path) said = by-path Section path.items said
   right-of (edits.Remove path) said = by-path Remove path.items said
   right-of (edits.Append path v) said = by-value Append path.items (value_view v) said
   right-of (edits.Insert path v) said = by-value Insert path.items (value_view v) said

@@ -148,6 +148,7 @@ The status is 1 if nothing is at a path.
   string PATH TEXT    put a string, of which TEXT has the characters
   header PATH VALUE   as set, with headers for the tables that are missing
   table PATH VALUE    add a [[PATH]] with the pairs of an inline table
+  section PATH        add an empty [PATH] after all other headers
   remove PATH         remove a key, or an element with its line
   append PATH VALUE   add a value to an array, with a line where others have one
   insert PATH VALUE   the same, before the element at PATH

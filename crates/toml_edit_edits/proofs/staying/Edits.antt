@@ -36,6 +36,7 @@ use Rattle.toml_edit_edits.proofs.staying.Comments.{commented-stays, within-at}
 use Rattle.toml_edit_edits.proofs.staying.Fitting.{one-fits}
 use Rattle.toml_edit_edits.proofs.staying.Effects.{at-end-was, headed-was, kind-was, last-is, was-changed, was-commented, was-sorted}
 use Rattle.toml_edit_edits.proofs.staying.Removals.{line-removal-stays}
+use Rattle.toml_edit_edits.proofs.staying.SectionMore.{section-stays}
 use Rattle.toml_edit_edits.proofs.staying.Sets.{header-stays, set-stays}
 use Rattle.toml_edit_edits.proofs.staying.Sorting.{sort-rearranges, sorted-stays}
 
@@ -102,6 +103,7 @@ module _ (mode : Mode) (t u : Tree) (made : SlotsAreWellMade t.slots) (steady : 
       (λ a n w g. taken-made (value_view v) a n w g)
       (kind-was (taken (value_view v)) (effects.taken path.items (value_view v) t) (names path.items) t u local h))
   one-stays (edits.Table path v) local h = absurd local
+  one-stays (edits.Section path) local h = section-stays mode t u path.items made steady local h
   one-stays (edits.Rename path name) local h =
       let x = at-end-was (λ above k. renamed above k (string_bytes name) t) (names path.items) u h in
       subst (λ (q : List Text). StaysButAt mode (place_of t (names path.items) ∷ place_of t q ∷ []) t u)

@@ -29,15 +29,14 @@ use Rattle.toml_edit_edit_laws.proofs.commands.Finding.{some-and}
 use Rattle.toml_edit_edit_laws.proofs.commands.Going.{item-along}
 use Rattle.toml_edit_paths.specs.Calls.{replaced_at}
 use Rattle.toml_edit_edits.specs.Effects.{changed_at}
-use Rattle.toml_edit_edits.specs.FirstTable.{first_below, tabled_from}
+use Rattle.toml_edit_edits.specs.FirstTable.{first_below, tabled, tabled_from}
 use Rattle.toml_edit_edits.specs.Missing.{is_numbered, keys_there, unled}
 use Rattle.toml_edit_edits.specs.Moves.{put_in}
 use Rattle.toml_edit_edits.specs.OthersStay.{FirstAddsTable, first_visit, has_values}
 use Rattle.toml_edit_edits.specs.declared.fault.EditFault.TheVariants.{NoSuchPath}
 use Rattle.toml_edit_edit_laws.proofs.path_calls.Places.{names-join}
-use Rattle.toml_edit_edits.proofs.staying.Carrying.{put-was}
-use Rattle.toml_edit_edits.proofs.staying.Effects.{was-changed}
 use Rattle.toml_edit_edits.proofs.staying.ElementMore.{has-header, one-block, own_slots}
+use Rattle.toml_edit_edits.proofs.staying.SlotMore.{more-blocks, new-keys, old-keys, one_more, put-left, same-splice}
 use Rattle.toml_edit_edits.proofs.staying.TableMore.{nothing_lined, one-table-more}
 use Rattle.toml_edit_edits.proofs.staying.Tables.{walk-left}
 
@@ -103,14 +102,14 @@ module _ (mode : Mode) (t : Tree) (way : List Turn) (w : Visit) (k : Key) (more 
   abbrev n : Node
   n = first_below more (own mode ss values)
 
+  pub unlined : (lk : List Key) → slot_lines mode (cleared_key k) n lk ≡ []
+  unlined = no-line mode ss values (cleared_key k) more
+
   abbrev pub more_slots : List (Slot Node) → List (Slot Node)
-  more_slots = λ es. es ++ (keyed (cleared_key k) n ∷ [])
+  more_slots = one_more mode w (cleared_key k) n unlined is_new
 
   abbrev q : Path
   q = to_key w.path k.name
-
-  abbrev walk : List Visit
-  walk = node_walk n q (w.keys ++ (cleared_key k ∷ [])) false
 
   parts : NewBlocks mode ss values w.path w.keys k more
   parts = new-blocks mode ss values w.path w.keys k more
@@ -118,120 +117,43 @@ module _ (mode : Mode) (t : Tree) (way : List Turn) (w : Visit) (k : Key) (more 
   abbrev last : Visit
   last = first_visit w.path w.keys k more ss
 
-  others : HaveOtherKeys k.name (slot_list w.slots)
-  others = none-there k.name (slot_list w.slots) is_new
-
-  same-lines : (lk : List Key) → table_lines mode (slots_under more_slots w.slots) lk ≡ table_lines mode w.slots lk
-  same-lines lk =
-      lines-append mode (slot_list w.slots) (keyed (cleared_key k) n ∷ []) lk
-      ∙ ap (λ z. table_lines mode z lk ++ (slot_lines mode (cleared_key k) n lk ++ [])) (slots_from-list w.slots)
-      ∙ ap (λ z. table_lines mode w.slots lk ++ (z ++ [])) (no-line mode ss values (cleared_key k) more lk)
-      ∙ append-nil (table_lines mode w.slots lk)
-
-  edit-lines : (bp : Path) (lk : List Key) → below bp lk ≡ w.path
-      → LineSplice mode q bp (nothing_lined mode lk) (nothing_lined mode lk) (table_lines mode w.slots lk)
-      (table_lines mode (slots_under more_slots w.slots) lk)
-  edit-lines bp lk at =
-      record {
-        front = table_lines mode w.slots lk;
-        back = [];
-        first = sym (append-nil (table_lines mode w.slots lk));
-        second = same-lines lk ∙ sym (append-nil (table_lines mode w.slots lk));
-        out_front = subst (λ z. AllByRecursion (IsLineOut q bp) (table_lines mode z lk)) (slots_from-list w.slots)
-            (other-lines-out mode q w.path k.name (front-refl q) bp lk (slot_list w.slots) at others);
-        out_back = tt;
-      }
-
-  own-blocks : BlockSplice mode q itself [] (blocks mode walk) (blocks mode (slots_walk w.slots w.path w.keys))
-      (blocks mode (slots_walk (slots_under more_slots w.slots) w.path w.keys))
-  own-blocks =
-      record {
-        front = blocks mode (slots_walk w.slots w.path w.keys);
-        back = [];
-        first = sym (append-nil (blocks mode (slots_walk w.slots w.path w.keys)));
-        second = ap (map itself)
-            (ap (blocks mode)
-            (walk-append (slot_list w.slots) (keyed (cleared_key k) n ∷ []) w.path w.keys
-            ∙ ap (λ z. slots_walk z w.path w.keys ++ (walk ++ [])) (slots_from-list w.slots))
-            ∙ blocks-append mode (slots_walk w.slots w.path w.keys) (walk ++ [])
-            ∙ ap (λ z. blocks mode (slots_walk w.slots w.path w.keys) ++ z) (blocks-append mode walk []));
-        out_front = subst (λ z. AllByRecursion (IsBlockOut q) (blocks mode (slots_walk z w.path w.keys))) (slots_from-list w.slots)
-            (other-blocks-out mode q w.path k.name (front-refl q) w.keys (slot_list w.slots) others);
-        out_back = tt;
-      }
-
   pub first-more : OneTableMore mode t (edited way more_slots t) q last
   first-more =
       one-table-more mode t way w more_slots q (at_key k.name) (front-refl q) parts.implied last parts.bare_ones
       (all-append (λ (b : Block). b.fields.position ≡ None) parts.implied (block_of mode last ∷ []) parts.unplaced (parts.last_unplaced, tt))
       parts.headed
       (subst (AllByRecursion (IsBlockUnder q)) parts.is (node-under mode q n q (w.keys ++ (cleared_key k ∷ [])) false (front-refl q)))
-      made st leads edit-lines
+      made st leads (same-splice mode w (cleared_key k) n unlined is_new)
       (subst (λ m. BlockSplice mode q itself [] m (blocks mode (slots_walk w.slots w.path w.keys))
-      (blocks mode (slots_walk (slots_under more_slots w.slots) w.path w.keys))) parts.is own-blocks)
-
--- ---- the keys that are there
-
-drop-front : {A : Type 0} (xs ys : List A) → drop (length xs) (xs ++ ys) ≡ ys
-drop-front [] ys = refl
-drop-front (x ∷ xs) ys = drop-front xs ys
-
-take-front : {A : Type 0} (xs ys : List A) → take (length xs) (xs ++ ys) ≡ xs
-take-front [] ys = refl
-take-front {A} (x ∷ xs) ys = ap (λ (zs : List A). x ∷ zs) (take-front xs ys)
-
-there-along : (path : List Key) (rest : List Text) (n m : Node) → item_below (names path) n ≡ Some m → keys_there rest m ≡ 0
-    → keys_there (names path ++ rest) n ≡ length path
-there-along [] rest n m h none = ap (keys_there rest) (some-is n m h) ∙ none
-there-along (j ∷ path) rest n m h none =
-    let c = some-and (item_below (names path)) (child j.name n) m h in
-    ap (λ o. option_map_or (λ x. suc (keys_there (names path ++ rest) x)) o 0) c.1 ∙ ap suc (there-along path rest c.0 m c.2 none)
+      (blocks mode (slots_walk (slots_under more_slots w.slots) w.path w.keys))) parts.is (more-blocks mode w (cleared_key k) n unlined is_new))
 
 -- ---- the law
 
-module _ (mode : Mode) (t u : Tree) (path : List Key) (w : Visit) (k : Key) (more : List Key) (f : InlineFields) (ss : Slots)
-    (made : SlotsAreWellMade t.slots) (st : Steady mode t) (way : List Turn) (leads : Leads way (root_visit t) w)
-    (there : item_at (names path) t ≡ Some (table w.fields w.slots)) (is_new : lookup_slot k.name (slot_list w.slots) ≡ None)
-    (values : has_values ss ≡ true) where
-  abbrev s : Slot Node
-  s = keyed (cleared_key k) (first_below more (own mode ss values))
+was : (mode : Mode) (t u : Tree) (path : List Key) (w : Visit) (k : Key) (more : List Key) (f : InlineFields) (ss : Slots) (values : has_values ss ≡ true)
+    → item_at (names path) t ≡ Some (table w.fields w.slots) → lookup_slot k.name (slot_list w.slots) ≡ None
+    → tabled (path ++ (k ∷ more)) (inline f ss) t ≡ Ok u
+    → changed_at (put_in (keyed (cleared_key k) (first_below more (own mode ss values)))) (names path) t ≡ Ok u
+was mode t u path w k more f ss values there is_new h =
+    by_test (is_numbered (k ∷ more)) (ap (λ q. tabled_from all q (inline f ss) t) (sym (new-keys t path w k more there is_new)) ∙ h)
+  where
+    all : List Key
+    all = path ++ (k ∷ more)
 
-  abbrev all : List Key
-  all = path ++ (k ∷ more)
+    s : Slot Node
+    s = keyed (cleared_key k) (first_below more (own mode ss values))
 
-  count : keys_there (names all) (root_item t) ≡ length path
-  count =
-      ap (λ q. keys_there q (root_item t)) (names-join path (k ∷ more))
-      ∙ there-along path (k.name ∷ names more) (root_item t) (table w.fields w.slots) there
-      (ap (λ o. option_map_or (λ x. suc (keys_there (names more) x)) (present o) 0) is_new)
-
-  was : tabled_from all (unled all t) (inline f ss) t ≡ Ok u → changed_at (put_in s) (names path) t ≡ Ok u
-  was h =
-      by_test (is_numbered (k ∷ more))
-      (ap (λ q. tabled_from all q (inline f ss) t) (sym (ap (λ i. drop i all) count ∙ drop-front path (k ∷ more))) ∙ h)
-    where
-      by_test : (b : Bool)
-          → (if b then Err NoSuchPath else changed_at (put_in s) (names (take (keys_there (names all) (root_item t)) all)) t) ≡ Ok u
-          → changed_at (put_in s) (names path) t ≡ Ok u
-      by_test true g = absurd cc
-      by_test false g = ap (λ q. changed_at (put_in s) (names q) t) (sym (ap (λ i. take i all) count ∙ take-front path (k ∷ more))) ∙ g
-
-  put-left : tabled_from all (unled all t) (inline f ss) t ≡ Ok u
-      → replaced_at (names path) (table w.fields (slots_from (slot_list w.slots ++ one s))) t ≡ done u
-  put-left h =
-      let x = was-changed (put_in s) (names path) t u _ (was h) in
-      let p = put-was s x.old x.new (is_value_node x.old && not (is_value_node s.item)) x.goes in
-      let old : x.old ≡ table w.fields w.slots = sym (some-is (table w.fields w.slots) x.old (sym there ∙ x.there)) in
-      let slots : slot_list w.slots ≡ p.slots = some-is (slot_list w.slots) p.slots (ap slots_in (sym old) ∙ p.there) in
-      let new : x.new ≡ table w.fields (slots_from (slot_list w.slots ++ one s)) =
-      p.is ∙ ap (λ n. on_slots (λ _. p.slots ++ one s) n) old ∙ ap (λ es. table w.fields (slots_from (es ++ one s))) (sym slots) in
-      ap (λ n. replaced_at (names path) n t) (sym new) ∙ x.put
+    by_test : (b : Bool)
+        → (if b then Err NoSuchPath else changed_at (put_in s) (names (take (keys_there (names all) (root_item t)) all)) t) ≡ Ok u
+        → changed_at (put_in s) (names path) t ≡ Ok u
+    by_test true g = absurd cc
+    by_test false g = ap (λ q. changed_at (put_in s) (names q) t) (sym (old-keys t path w k more there is_new)) ∙ g
 
 pub first-adds : (mode : Mode) → FirstAddsTable mode
 first-adds mode t u path w k more f ss made steady named is_new values h =
     let st = steady-parts mode t steady in
     let at = item-along named.way (names path) (root_visit t) w named.goes named.leads in
-    let put = put-left mode t u path w k more f ss made st named.way named.leads at is_new values h in
+    let put = put-left t u (names path) w (keyed (cleared_key k) (first_below more (own mode ss values))) at
+    (was mode t u path w k more f ss values at is_new h) in
     let g : List (Slot Node) → List (Slot Node) = more_slots mode t named.way w k more ss values made st named.leads is_new in
     let is : u ≡ edited named.way g t =
     walk-left t u (names path) w.fields w.slots g made (record { visit = w; named = named; fields = refl; slots = refl }) put in

@@ -54,6 +54,7 @@ module _ (mode : Mode) (t u : Tree) (made : SlotsAreWellMade t.slots) (steady : 
   one-fits (edits.Insert path v) local h fits harmless = absurd harmless
   one-fits (edits.Take path v) local h fits harmless = absurd harmless
   one-fits (edits.Table path v) local h fits harmless = absurd local
+  one-fits (edits.Section path) local h fits harmless = absurd harmless
   one-fits (edits.Rename path name) local h fits harmless = absurd harmless
   one-fits (edits.Move path to) local h fits harmless = absurd harmless
   one-fits (edits.Sort path) local h fits harmless = absurd harmless

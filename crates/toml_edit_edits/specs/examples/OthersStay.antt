@@ -15,7 +15,7 @@ use Rattle.toml_edit_laws.specs.Locality.{is_plain_value, root_visit}
 use Rattle.toml_edit_tree.specs.declared.value.Value.{Value}
 use Rattle.toml_edit_edit_laws.specs.Commands.{item_at}
 use Rattle.toml_edit_edit_laws.specs.CommandLaws.{NamesTable}
-use Rattle.toml_edit_edits.specs.OthersStay.{HasPlace, IsHarmless, IsHarmlessAt, IsLocal, IsSort, MayMove, at_new_key, beside, in_value, into_table, paths_of, places_of}
+use Rattle.toml_edit_edits.specs.OthersStay.{HasPlace, IsHarmless, IsHarmlessAt, IsLocal, IsNewBelow, IsSort, MayMove, at_new_key, beside, in_value, into_table, paths_of, places_of}
 use Rattle.toml_edit_edit_laws.specs.Places.{place_of}
 use Rattle.toml_edit_edits.specs.declared.edit.Edit.TheVariants as edits
 
@@ -74,6 +74,21 @@ x_stays n there flat =
 
 x_gets_a_name : MayMove plain small (x ∷ []) (b ∷ [])
 x_gets_a_name = beside [] x b refl refl refl
+
+-- an empty table may be under a new key, or below one
+new_under_x : IsNewBelow small (new_key x ∷ new_key a ∷ new_key b ∷ [])
+new_under_x =
+    record {
+      above = new_key x ∷ [];
+      key = new_key a;
+      below = new_key b ∷ [];
+      visit = visit_x;
+      is = refl;
+      spelled = (tt, (tt, tt));
+      named = x_is_named;
+      none = refl;
+      room = refl;
+    }
 
 -- the root is no place
 root_is_no_place : HasPlace plain small [] [] → ⊥
