@@ -136,8 +136,8 @@ error_for WrongKind = Mistaken mistakes.WrongKind
 error_for faults.Memory = Memory
 
 -- what is held fits, and was printed
-abbrev pub Printed : Held → OutputChange → Type 0
-Printed h s = (x : Text) × IsPrintFor h h.tree x × Appends s.old s.new x
+abbrev pub HasPrinted : Held → OutputChange → Type 0
+HasPrinted h s = (x : Text) × IsPrintFor h h.tree x × Appends s.old s.new x
 
 -- its print, if it fits, stops so
 abbrev pub StopsPrinting : Held → OutputChange → RunError → Type 0

@@ -6,8 +6,7 @@ ghost use Rattle.toml_edit_command.specs.Run.{Begins, Does, IsUnwritten, Tells, 
 ghost use Rattle.toml_edit_command.specs.Words.{IsCommand, IsPrint, SaysAction, request};
 
 use crate::act::{Ending, perform};
-use crate::error::RunError;
-use crate::tell::report_error;
+use crate::error::{RunError, report_error};
 use crate::words::Command;
 use std::alloc::Global;
 use toml_edit_io::{Input, Output};
@@ -62,19 +61,16 @@ pub fn run<I: Input, O: Output, E: Output>(
     ensures status { result ≤ 4 }
 
     // 0: done.
-    ensures done { result ≡ 0
-        → Does (request words.now) (I.remaining input.old)
+    ensures done { result ≡ 0 → Does (request words.now) (I.remaining input.old)
         (written O.contents O.has_failed output.old output.new) }
     ensures quiet { result ≡ 0 → errors.new ≡ errors.old }
 
     // 1: the input is refused.
-    ensures refused { result ≡ 1
-        → TellsRefusal (request words.now) (I.remaining input.old)
+    ensures refused { result ≡ 1 → TellsRefusal (request words.now) (I.remaining input.old)
         (written E.contents E.has_failed errors.old errors.new) }
 
     // 2: the words are mistaken, or what they say of the document.
-    ensures mistaken { result ≡ 2
-        → TellsMistake (request words.now) (I.remaining input.old)
+    ensures mistaken { result ≡ 2 → TellsMistake (request words.now) (I.remaining input.old)
         (written E.contents E.has_failed errors.old errors.new) }
     ensures wrong_words { ¬ (IsCommand (request words.now).command)
         → (result ≡ 2) × Tells usage_line (written E.contents E.has_failed errors.old errors.new) }
@@ -93,9 +89,8 @@ pub fn run<I: Input, O: Output, E: Output>(
         → IsUnwritten (written O.contents O.has_failed output.old output.new) }
     ensures write_fault { O.has_failed output.new ≡ true
         → Tells write_line (written E.contents E.has_failed errors.old errors.new) }
-    ensures beginning { O.has_failed output.new ≡ true
-        → Begins (request words.now) (I.remaining input.old)
-        (written O.contents O.has_failed output.old output.new) }
+    ensures beginning { O.has_failed output.new ≡ true → Begins (request words.now)
+        (I.remaining input.old) (written O.contents O.has_failed output.old output.new) }
 
     // What several of these share: what the words say, what was read, and what was written.
     ensures said { (result ≡ 0) ⊎ (result ≡ 1) ⊎ (result ≡ 4) → SaysAction (request words.now) }

@@ -3,11 +3,8 @@
 
 mod act;
 mod command;
-mod edit;
 mod error;
-mod get;
 mod read;
-mod tell;
 mod words;
 
 pub use act::{Ending, perform};

@@ -10,7 +10,7 @@ ghost use Rattle.toml_edit_command.specs.Steps.{HasReadAll, StopsReading};
 ghost use Rattle.toml_edit_command.specs.Written.{IsHeldOf, held};
 ghost use Rattle.toml_edit_parser.specs.Options.{mode_of, version_of};
 
-use crate::error::RunError;
+use crate::error::{RunError, Step};
 use std::alloc::Global;
 use toml_edit::{Document, DocumentMut, ParseFault, ParseOptions};
 use toml_edit_io::{Input, ReadFault, read_to_end};
@@ -20,10 +20,9 @@ pub fn read_document<I: Input>(
     alloc: Global,
     input: &mut I,
     options: ParseOptions,
-) -> Result<DocumentMut, RunError>
+) -> Step<DocumentMut>
     requires { I.has_failed input.old ≡ false }
-    ensures read { IfOk result
-        (λ m. IfSome (I.remaining input.old)
+    ensures read { IfOk result (λ m. IfSome (I.remaining input.old)
         (λ bytes. IsHeldOf (mode_of options) (version_of options) bytes (held m))) }
     ensures mode { IfOk result (λ m. mode_owned m ≡ mode_of options) }
     ensures ok { OnOk result (I.has_failed input.new ≡ false) }
@@ -43,8 +42,7 @@ pub fn read_document<I: Input>(
     }
 }
 
-/// Reads the text of the input.
-fn text_of<I: Input>(alloc: Global, input: &mut I) -> Result<String, RunError>
+fn text_of<I: Input>(alloc: Global, input: &mut I) -> Step<String>
     requires { I.has_failed input.old ≡ false }
     ensures text { IfOk result
         (λ s. IfSome (I.remaining input.old) (λ bytes. string_bytes s ≡ bytes)) }
@@ -69,7 +67,6 @@ fn text_of<I: Input>(alloc: Global, input: &mut I) -> Result<String, RunError>
     }
 }
 
-/// Parses the text by these options.
 fn document_of(
     alloc: Global,
     text: String,
@@ -78,9 +75,8 @@ fn document_of(
     ensures ok { IfOk result
         (λ m. IsHeldOf (mode_of options) (version_of options) (string_bytes text) (held m)) }
     ensures mode { IfOk result (λ m. mode_owned m ≡ mode_of options) }
-    ensures refused { IfErr result
-        (λ e. IfToml e (λ r. IsRefused (version_of options) (string_bytes text)
-        × IsRefusalIn (version_of options) (string_bytes text) r)) }
+    ensures refused { IfErr result (λ e. IfToml e (λ r. IsRefused (version_of options)
+        (string_bytes text) × IsRefusalIn (version_of options) (string_bytes text) r)) }
 {
     let document = Document::parse_with(alloc, text, options)?;
     Ok(document.into_mut(alloc)?)

@@ -9,7 +9,7 @@ ghost use Rattle.toml_edit_command.specs.Forms.{IsForm, MayStopPath, MayStopValu
 ghost use Rattle.toml_edit_parser.specs.Options.{mode_of, version_of};
 ghost use Rattle.toml_edit_tree.specs.View.{value_view};
 
-use crate::error::{CommandError, RunError};
+use crate::error::{CommandError, RunError, Step};
 use std::alloc::Global;
 use toml_edit::{Key, ParseFault, ParseOptions, Value, Version};
 use toml_edit_words::{path_in, value_in};
@@ -34,7 +34,7 @@ enum CommandForm<'a> {
 
 impl Command {
     /// Reads the command that the words say, and how it parses its input.
-    pub fn of_words(alloc: Global, words: &[String]) -> Result<(Command, ParseOptions), RunError>
+    pub fn of_words(alloc: Global, words: &[String]) -> Step<(Command, ParseOptions)>
         ensures said { IfOk result (λ r. Says (request words.now) (action_of r.0)) }
         ensures mode { IfOk result (λ r. mode_of r.1 ≡ (request words.now).mode) }
         ensures version { IfOk result (λ r. version_of r.1 ≡ (request words.now).version) }
@@ -48,7 +48,7 @@ impl Command {
     }
 
     /// Reads the command that the words say, with VALUE parsed by these options.
-    fn read_by(alloc: Global, words: &[String], options: ParseOptions) -> Result<Command, RunError>
+    fn read_by(alloc: Global, words: &[String], options: ParseOptions) -> Step<Command>
         ensures said { IfOk result
             (λ command. Says (request_by options words.now) (action_of command)) }
         ensures stops { IfErr result (StopsInWords (request_by options words.now)) }
@@ -102,7 +102,6 @@ fn form_of(words: &[String]) -> Option<CommandForm<'_>>
     }
 }
 
-/// Returns the form of a command of no operands.
 fn form_alone(name: &str) -> Option<CommandForm<'_>>
     ensures { IsForm (name.now ∷ []) result }
 {
@@ -112,7 +111,6 @@ fn form_alone(name: &str) -> Option<CommandForm<'_>>
     }
 }
 
-/// Returns the form of a command of one operand.
 fn form_with_path<'a>(name: &str, path: &'a str) -> Option<CommandForm<'a>>
     ensures { IsForm (name.now ∷ path.now ∷ []) result }
 {
@@ -123,7 +121,6 @@ fn form_with_path<'a>(name: &str, path: &'a str) -> Option<CommandForm<'a>>
     }
 }
 
-/// Returns the form of a command of two operands.
 fn form_with_value<'a>(name: &str, path: &'a str, value: &'a str) -> Option<CommandForm<'a>>
     ensures { IsForm (name.now ∷ path.now ∷ value.now ∷ []) result }
 {
@@ -133,8 +130,7 @@ fn form_with_value<'a>(name: &str, path: &'a str, value: &'a str) -> Option<Comm
     }
 }
 
-/// Parses PATH.
-fn path_of(alloc: Global, text: &str) -> Result<Vec<Key>, RunError>
+fn path_of(alloc: Global, text: &str) -> Step<Vec<Key>>
     ensures spelled { IfOk result (λ keys. SpellsPath text.now (names keys.items)) }
     ensures stops { IfErr result (MayStopPath text.now) }
 {
@@ -145,8 +141,7 @@ fn path_of(alloc: Global, text: &str) -> Result<Vec<Key>, RunError>
     }
 }
 
-/// Parses VALUE.
-fn value_of(alloc: Global, text: &str, options: ParseOptions) -> Result<Value, RunError>
+fn value_of(alloc: Global, text: &str, options: ParseOptions) -> Step<Value>
     ensures spelled { IfOk result
         (λ value. SpellsValue (version_of options) text.now (value_view value)) }
     ensures stops { IfErr result (MayStopValue (version_of options) text.now) }

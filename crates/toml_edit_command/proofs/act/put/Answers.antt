@@ -4,7 +4,7 @@ use Rattle.toml_edit.specs.DocumentView.{tree_owned}
 use Rattle.toml_edit_edit_laws.specs.Commands.{set_at}
 use Rattle.toml_edit_paths.specs.Changes.{Changes}
 use Rattle.toml_edit_tree.specs.View.{value_view}
-use Rattle.toml_edit_command.proofs.edit.put.Goals as goal
+use Rattle.toml_edit_command.proofs.act.put.Goals as goal
 
 pub returns-clause-changes : goal.returns-clause-changes
 returns-clause-changes c =
