@@ -11,6 +11,7 @@ pub mod LaidView
 pub mod Tails
 pub mod Holding
 pub mod LinesReparse
+pub mod Headline
 -- Worked examples: nothing cites them.
 pub mod examples
 -- What contracts of the crates below cite, for a program that lists `toml_edit` alone.

@@ -75,12 +75,14 @@ mod item;
 mod last_line;
 pub mod laws;
 mod open_end;
+mod promise;
 mod root;
 mod tail;
 pub mod visit;
 
 pub use document::{Document, DocumentMut, PrintFault, SourceText};
 pub use item::value;
+pub use promise::headline;
 pub use toml_edit_datetime::{Date, Datetime, DatetimeFault, FloatText, Offset, Time};
 pub use toml_edit_error::{Excerpt, ParseFault, TomlError, line_column};
 pub use toml_edit_fits::{FitRule, Misfit};
