@@ -1,0 +1,2 @@
+-- Laws that proofs of the programs share.
+pub mod KeyLaws
