@@ -32,9 +32,9 @@ import sources
 import unproved
 from sources import TOP, read
 
-MANY = ("README.md", "docs/GUIDE.md", "docs/TOMLFILE.md", "docs/ERRORS.md", "docs/PROVING.md", "docs/MIGRATING.md", "bindings/README.md")
+MANY = ("README.md", "docs/GUIDE.md", "docs/TOMLFILE.md", "docs/TOMLED.md", "docs/ERRORS.md", "docs/PROVING.md", "docs/MIGRATING.md", "bindings/README.md")
 # The crates that hold what pages show. What a block of the first names by `crate::` is a module of the program too.
-SHOWN = ("example_tasks", "example_tools", "example_calls")
+SHOWN = ("example_tasks", "example_tools", "example_calls", "example_proofs")
 BESIDE = "toml_edit_io toml_edit_fmt toml_edit_edits toml_edit_json"
 PROGRAMS = ("tomled", "tomlfile")
 USED = "Array ArrayOfTables DocumentMut Document InlineTable Item Key ParsePath Table Value FromStr AsTableLike value"
@@ -160,9 +160,9 @@ class Program:
         self.places[name] = (page, line)
 
     def module_of(self, lines):
-        """The name of the file that has the first public function of a block."""
+        """The name of the file that has the first public function of a block. GUIDE shows none of `example_calls`, which has some of the same names."""
         name = (re.findall(r"^pub fn (\w+)", "\n".join(lines), re.M) or ["none"])[0]
-        for crate in SHOWN:
+        for crate in sorted(SHOWN, key="example_calls".__eq__):
             folder = "%s/crates/%s/src" % (TOP, crate)
             for file in sorted(os.listdir(folder)):
                 if re.search(r"^pub fn %s\b" % name, read(folder + "/" + file), re.M):

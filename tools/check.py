@@ -38,7 +38,7 @@ import duplicates
 import sources
 from sources import TOP, read
 
-GUIDES = ("example_calls", "example_tasks", "example_tools", "example")
+GUIDES = ("example_calls", "example_tasks", "example_tools", "example_proofs", "example")
 SHOWING = ("README.md", "docs/GUIDE.md", "docs/PROVING.md", "docs/MIGRATING.md")
 # The most bytes that a page may have, and some together.
 SIZES = {
