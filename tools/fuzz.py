@@ -317,7 +317,7 @@ def build(folder, program="tomled"):
     if not clang:
         sys.exit("no clang: install " + PACKAGES)
     if not os.path.exists(made + ".bc"):
-        unproved.module(program, made + ".bc")
+        unproved.module(program, made + ".bc", top=unproved.TOP)
     unproved.compiled(made + ".bc", made + ".o", WATCHED)
     renamed = [word for name in LED.items() for word in ("--redefine-sym", "=".join(name))]
     subprocess.run(["objcopy", *renamed, made + ".o"], check=True)

@@ -41,7 +41,7 @@ def built(crate, folder):
     """Builds the program of a crate, or its tests, in a folder, where it leaves the module."""
     made = "%s/%s" % (folder, crate)
     if not os.path.exists(made):
-        unproved.module(crate, made + ".bc")
+        unproved.module(crate, made + ".bc", top=unproved.TOP)
         unproved.compiled(made + ".bc", made + ".o", ["-O1"])
         unproved.linked([made + ".o"], made)
     return made
