@@ -1,5 +1,5 @@
 #!/usr/bin/env python3
-"""Fuzzes the library, led by the blocks that are entered, with the address sanitizer.
+"""Fuzzes the library, led by the blocks that are entered, with the sanitizers of addresses and of undefined behaviour.
 
     tools/fuzz.py [--keep FOLDER] [SECONDS [TARGET..]]     fuzzes each target for so long (60), two processes at a time
     tools/fuzz.py [--keep FOLDER] --replay [TARGET..]      runs the corpus alone
@@ -14,9 +14,21 @@ what is built, which takes some two minutes each, and what was found. It wants t
   2. What it writes is accepted, and the print of that is printed as it is.
 - `calls`: up to eight calls on one document, as the steps of a row of `test_rows_tables`. The first byte says how many, and each has a byte
   for the call and one for each argument; behind them is the document. Where it fits after the calls, its print is accepted.
+- `edit`: `tomlfile edit` by a script. The first line of the input has a letter for each word, `s` for `strict`, `n` for `normal` and `l` for
+  `--locked`; the script ends at the first empty line, and the rest is the document. It ends with a status up to 5. What it writes is accepted
+  by `check` under the same words, and what no edit makes of that stays where no edit is made.
+- `fmt`: `tomlfile fmt`. The first line has such letters, and `k` for `--keys`; the second is the PATH of `--sort`, if it isn't empty; the rest
+  is the document. It ends with a status up to 5. What it writes is accepted, formatted again it is the same, and it stays where no edit is made.
+
+No file is opened: a script is in memory, too, and under any other name nothing is found.
+
+The driver, in C, has `-fsanitize=address,undefined`. What is built of the library is a module of LLVM's, to which `undefined` adds nothing, as
+clang puts those checks in where it reads C. So the library has `address` and `local-bounds`, which works on modules, and the checks that the
+front end puts into an unproved module: of alignment, divisors, casts, invalid values, overflow, offsets, shifts and places that are never
+reached. Each ends the run. Left out is what neither has: null and types behind function pointers.
 
 `fuzz/corpus` has small inputs, each of which enters something that the others do not; `exact` has those of `print`. Ends with status 1 if
-an input crashes the program, takes more than ten seconds, or breaks what is said above; the input is kept.
+an input crashes the program, takes more than a minute by the clock, or breaks what is said above; the input is kept.
 """
 import concurrent.futures
 import os
@@ -28,13 +40,13 @@ import tempfile
 import unproved
 from unproved import TOP
 
-TARGETS = ("print", "exact", "set", "calls")
+TARGETS = ("print", "exact", "set", "calls", "edit", "fmt")
 CORPUS = {target: "%s/fuzz/corpus/%s" % (TOP, "print" if target == "exact" else target) for target in TARGETS}
-PROGRAMS = {target: "test_rows_tables" if target == "calls" else "tomled" for target in TARGETS}
+PROGRAMS = {"print": "tomled", "exact": "tomled", "set": "tomled", "calls": "test_rows_tables", "edit": "tomlfile", "fmt": "tomlfile"}
 PACKAGES = "Debian's packages clang and libclang-rt-14-dev"
-WATCHED = ["-O1", "-fsanitize=address", "-fsanitize-coverage=inline-8bit-counters,pc-table,trace-cmp"]
+WATCHED = ["-O1", "-fsanitize=address,local-bounds", "-fsanitize-coverage=inline-8bit-counters,pc-table,trace-cmp"]
 # The program's own calls of these are led to the driver.
-LED = {"main": "program_main", "read": "program_read", "write": "program_write"}
+LED = {name: "program_" + name for name in ("main", "read", "write", "open", "close")}
 DRIVER = r"""
 #include <errno.h>
 #include <stdint.h>
@@ -44,22 +56,30 @@ DRIVER = r"""
 #include <sys/types.h>
 int program_main(int count, char **words);
 
-/* The words, the input and the output of a run. */
-static const char *words[4];
+/* The words, the input and the output of a run, and the script that it may open. */
+static const char *words[12];
 static uint64_t count;
-static const uint8_t *input;
-static size_t left;
+typedef struct { const uint8_t *at; size_t left; } Input;
+static Input input, script, opened;
 static uint8_t *output;
 static size_t size, room;
+enum { SCRIPT = 1000 };
 
+int program_open(const char *path, int flags, ...) {
+  (void) flags;
+  if (!strcmp(path, "script")) { opened = script; return SCRIPT; }
+  errno = ENOENT;
+  return -1;
+}
+int program_close(int file) { (void) file; return 0; }
 ssize_t program_read(int file, void *to, size_t most) {
-  (void) file;
-  size_t taken = most < left ? most : left;
-  memcpy(to, input, taken); input += taken; left -= taken;
+  Input *from = file == SCRIPT ? &opened : &input;
+  size_t taken = most < from->left ? most : from->left;
+  if (taken) { memcpy(to, from->at, taken); from->at += taken; from->left -= taken; }
   return taken;
 }
 ssize_t program_write(int file, const void *from, size_t more) {
-  if (file != 1) return more;
+  if (file != 1 || !more) return more;
   if (room < size + more) { room = 2 * (size + more); output = realloc(output, room); }
   memcpy(output + size, from, more); size += more;
   return more;
@@ -68,7 +88,7 @@ int64_t rattle_arg(uint64_t at, uint8_t *to, uint64_t most) {
   if (at >= count) return -1;
   size_t length = strlen(words[at]);
   if (length > most) return -2;
-  memcpy(to, words[at], length);
+  if (length) memcpy(to, words[at], length);
   return length;
 }
 
@@ -109,7 +129,7 @@ static void free_all(void) {
 }
 
 static int run(const uint8_t *text, size_t length) {
-  input = text; left = length; size = 0;
+  input = (Input) {text, length}; size = 0;
   int status = program_main(0, 0);
   free_all();
   return status;
@@ -137,7 +157,7 @@ static void is_print(int is_exact) {
   size_t length = size;
   uint8_t *first = copied();
   print_again(is_exact);
-  if (size != length || memcmp(first, output, length)) wrong("what was written is printed otherwise");
+  if (size != length || (length && memcmp(first, output, length))) wrong("what was written is printed otherwise");
   free(first);
 }
 
@@ -149,6 +169,65 @@ static char *line(const uint8_t **at, size_t *length) {
   made[taken] = 0;
   *at += taken + (end != 0); *length -= taken + (end != 0);
   return made;
+}
+
+/* Runs a command of tomlfile on a text, under the words `strict` and `normal` if the letters have theirs. */
+typedef struct { const char *name, *words[3]; } Command;
+static int run_command(const char *letters, const uint8_t *text, size_t length, Command command) {
+  count = 0;
+  words[count++] = "tomlfile";
+  if (strchr(letters, 's')) words[count++] = "strict";
+  if (strchr(letters, 'n')) words[count++] = "normal";
+  words[count++] = command.name;
+  words[count++] = "-";
+  for (size_t at = 0; at < 3; at++) if (command.words[at]) words[count++] = command.words[at];
+  int status = run(text, length);
+  if (status < 0 || status > 5) wrong("the status");
+  return status;
+}
+/* Runs a command on a text, which must be done, and leave the text if it is to stay. */
+static void run_again(const char *letters, const uint8_t *text, size_t length, int stays, Command command) {
+  script.left = 0;
+  if (run_command(letters, text, length, command)) wrong("what was written is refused");
+  if (stays && (size != length || (length && memcmp(text, output, length)))) wrong("what was written is written otherwise");
+}
+/* What was written is accepted. Where nothing is edited, it stays once it was printed so, or from the first. */
+static void is_written(const char *letters, int stays) {
+  Command no_edit = {"edit", {"--script", "script", 0}};
+  size_t length = size;
+  uint8_t *text = copied();
+  run_again(letters, text, length, 0, (Command) {"check", {0, 0, 0}});
+  run_again(letters, text, length, stays, no_edit);
+  free(text); length = size; text = copied();
+  if (!stays) run_again(letters, text, length, 1, no_edit);
+  free(text);
+}
+static int edit(const uint8_t *text, size_t length) {
+  char *letters = line(&text, &length);
+  script = (Input) {text, length};
+  for (size_t at = 0; at < length; at++) {
+    if (text[at] != '\n' || (at && text[at - 1] != '\n')) continue;
+    script.left = at; text += at + 1; length -= at + 1;
+    break;
+  }
+  if (script.at + script.left == text + length) length = 0;
+  Command edit = {"edit", {"--script", "script", strchr(letters, 'l') ? "--locked" : 0}};
+  if (!run_command(letters, text, length, edit)) is_written(letters, 0);
+  free(letters);
+  return 0;
+}
+static int format(const uint8_t *text, size_t length) {
+  char *letters = line(&text, &length), *path = line(&text, &length);
+  Command fmt = {"fmt", {strchr(letters, 'k') ? "--keys" : 0, *path ? "--sort" : 0, *path ? path : 0}};
+  if (!run_command(letters, text, length, fmt)) {
+    size_t formatted = size;
+    uint8_t *copy = copied();
+    run_again(letters, copy, formatted, 1, fmt);
+    free(copy);
+    is_written(letters, 1);
+  }
+  free(letters); free(path);
+  return 0;
 }
 
 /* A row of test_rows_tables, and its steps, which are the calls. */
@@ -285,6 +364,8 @@ int LLVMFuzzerTestOneInput(const uint8_t *text, size_t length) {
   static const char *target;
   if (!target) target = getenv("TARGET");
   if (!strcmp(target, "calls")) return calls(text, length);
+  if (!strcmp(target, "edit")) return edit(text, length);
+  if (!strcmp(target, "fmt")) return format(text, length);
   count = 0;
   words[count++] = "tomled";
   if (!strcmp(target, "set")) {
@@ -323,7 +404,8 @@ def build(folder, program="tomled"):
     subprocess.run(["objcopy", *renamed, made + ".o"], check=True)
     with open(folder + "/driver.c", "w", encoding="utf-8") as file:
         file.write(DRIVER)
-    words = [clang, "-O1", "-fsanitize=address,fuzzer", folder + "/driver.c", made + ".o", unproved.kit().KIT + "/c/libos_c.a"]
+    sanitized = ["-fsanitize=address,undefined,fuzzer", "-fno-sanitize-recover=undefined"]
+    words = [clang, "-O1", *sanitized, folder + "/driver.c", made + ".o", unproved.kit().KIT + "/c/libos_c.a"]
     ran = subprocess.run([*words, "-o", fuzzer], capture_output=True, text=True)
     if ran.returncode:
         sys.exit("the fuzzer does not link; install %s:\n%s" % (PACKAGES, ran.stderr[-2000:]))
@@ -334,7 +416,7 @@ def ran(fuzzer, target, folder, words):
     """Runs the fuzzer, and returns whether all is well, and the number of runs."""
     found = "%s/%s-" % (folder, target)
     given = {**os.environ, "TARGET": target, "ASAN_OPTIONS": "detect_leaks=0:allocator_may_return_null=1"}
-    words = [fuzzer, "-artifact_prefix=" + found, "-timeout=10", "-max_len=300", "-print_final_stats=1", *words]
+    words = [fuzzer, "-artifact_prefix=" + found, "-timeout=60", "-max_len=300", "-print_final_stats=1", *words]
     run = subprocess.run(words, capture_output=True, text=True, errors="replace", env=given)
     lines = run.stderr.split("\n")
     runs = [line.split()[-1] for line in lines if line.startswith("stat::number_of_executed_units")]
