@@ -4,8 +4,8 @@
 `tools/definitions.py [WORD]` takes the changes whose file or title holds WORD (all), in a copy of the repository, and wants `rt` on the path.
 A change of a definition is checked in the definition's own crate, whose worked examples are checked with it, and if that is still proved in
 `toml_edit_laws`. It is refused by the first that is no longer proved; after the name of that crate come the first examples and lemmas that
-no longer hold. A change that the checker can't read shows nothing. The last line counts, and the status is 1 where a change is still proved
-or can't be read.
+no longer hold. A change that the checker can't read shows nothing, nor does a check that ends without naming any. The last line counts, and the
+status is 1 where a change is still proved, can't be read or isn't checked.
 `tools/definitions.py --list` proves nothing: it prints the changes that can't be made, since their old text isn't found once in their file,
 and the definitions of the base, what is accepted, what it means and what is printed, that have fewer than two changes.
 """
@@ -47,6 +47,9 @@ def refusal(crate, printed):
     if any(folder.endswith("specs") for folder, _, _ in failed):
         return "CAN'T BE READ"
     names = list(dict.fromkeys("%s.%s" % (file, name) for _, file, name in failed))
+    if not names:
+        # It was killed, or ran out of memory.
+        return "NOT CHECKED"
     more = " and %d more" % (len(names) - 4) if len(names) > 4 else ""
     return "refused by %s (%s%s)" % (crate, ", ".join(names[:4]), more)
 
