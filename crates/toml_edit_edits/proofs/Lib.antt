@@ -4,6 +4,7 @@ pub mod LeaveLaws
 pub mod LineEdits
 pub mod LineLaws
 pub mod LineTexts
+pub mod LineWordLaws
 pub mod LinesStayLaws
 pub mod ListLaws
 pub mod MeansLaws

@@ -5,6 +5,7 @@ use Rattle.std.proofs.lemmas.Slice.Eq.{bytes_eq-Decides}
 use Rattle.toml_edit_error.specs.Fault.{IfToml}
 use Rattle.toml_edit_error.specs.declared.toml_error.ParseFault.{ParseFault}
 use Rattle.toml_edit_error.specs.declared.toml_error.ParseFault.TheVariants as causes
+use Rattle.toml_edit_error.specs.declared.toml_error.TomlError.{TomlError}
 use Rattle.toml_edit_model.specs.Keys.{names}
 use Rattle.toml_edit_model.specs.Text.{Text}
 use Rattle.toml_edit_model.specs.Tree.{Key}
@@ -104,6 +105,15 @@ taken (Value v) path end rest = (rest, refl, refl, refl)
 taken (OfText v) path end rest = (rest, refl, refl, refl)
 taken Rename path end rest = (rest, refl, refl, refl)
 taken Move path end rest = (rest, refl, refl, refl)
+
+-- so a path that is none is wrong
+pub wrong-path : (version : Version) (e : TomlError) (v : Verb) (path end : Text) → IsNoKeys path
+    → IsWrong version (faults.Path e) v (take (operands v) (path ∷ end ∷ []))
+wrong-path version e (Path v) path end none = none
+wrong-path version e (Value v) path end none = none
+wrong-path version e (OfText v) path end none = none
+wrong-path version e Rename path end none = none
+wrong-path version e Move path end none = none
 
 rest-is : (n : ℕ) (words : List (Bor Text)) → n ≤ length words → take (length words - n) (drop n words) ≡ drop n words
 rest-is n words within = grind (arith, common_steps)

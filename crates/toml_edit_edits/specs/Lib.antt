@@ -1,6 +1,7 @@
 pub mod Same
 pub mod Outcomes
 pub mod Said
+pub mod LineWords
 pub mod Missing
 pub mod Effects
 pub mod Elements

@@ -6,7 +6,7 @@ ghost use Rattle.toml_edit_model.specs.Version.{Version};
 ghost use Rattle.toml_edit_parser.specs.Options.{version_of};
 ghost use Rattle.toml_edit_tree.specs.View.{value_view};
 ghost use Rattle.toml_edit_words.specs.Spelled.{SpellsValue};
-ghost use Rattle.toml_edit_edits.specs.Said.{IsNoKeys, IsNoName, IsWrong, SaysEdit, SaysEdits, SpellsKeys, SpellsName, StopsEdit, StopsEdits, StopsOperands, Takes, name_of, operands, path_name, text_name, value_name};
+ghost use Rattle.toml_edit_edits.specs.Said.{AreKeys, IsNoKeys, IsNoName, IsWrong, SaysEdit, SaysEdits, SpellsKeys, SpellsName, StopsEdit, StopsEdits, StopsOperands, Takes, name_of, operands, text_name, value_name};
 ghost use Rattle.toml_edit_edits.specs.declared.edit.Verb.TheVariants as verbs;
 
 use crate::edit::{Edit, PathVerb, TextVerb, ValueVerb, Verb};
@@ -98,7 +98,7 @@ fn edit_of(
     match words {
         [path, operand, ..] => edit_with(alloc, options, verb, *path, *operand),
         [path] => match verb {
-            Verb::Path(verb) => path_edit(alloc, verb, *path),
+            Verb::Path(_) => edit_with(alloc, options, verb, *path, ""),
             _ => Err(WordFault::Operands(verb)),
         },
         [] => Err(WordFault::Operands(verb)),
@@ -118,62 +118,44 @@ fn edit_with(
     ensures stops { IfErr result (λ fault. IsWrong (version_of options) fault verb
         (take (operands verb) (path.now ∷ operand.now ∷ []))) }
 {
+    let keys = match keys_of(alloc, path) {
+        Ok(keys) => keys,
+        Err(ParseFault::Toml(error)) => return Err(WordFault::Path(error)),
+        Err(ParseFault::Memory) => return Err(WordFault::Memory),
+    };
     match verb {
-        Verb::Path(verb) => path_edit(alloc, verb, path),
-        Verb::Value(verb) => value_edit(alloc, options, verb, path, operand),
-        Verb::Text(verb) => text_edit(alloc, verb, path, operand),
-        Verb::Rename => rename_edit(alloc, path, operand),
-        Verb::Move => move_edit(alloc, path, operand),
+        Verb::Path(PathVerb::Section) => Ok(Edit::Section(keys)),
+        Verb::Path(PathVerb::Remove) => Ok(Edit::Remove(keys)),
+        Verb::Path(PathVerb::Sort) => Ok(Edit::Sort(keys)),
+        Verb::Value(verb) => value_edit(alloc, options, verb, keys, operand),
+        Verb::Text(verb) => text_edit(alloc, verb, keys, operand),
+        Verb::Rename => rename_edit(alloc, keys, operand),
+        Verb::Move => move_edit(alloc, keys, operand),
     }
 }
 
-/// Reads an edit of a path alone.
-fn path_edit(alloc: Global, verb: PathVerb, path: &str) -> Result<Edit, WordFault>
-    ensures said { (version : Version) → IfOk result
-        (SaysEdit version (path_name verb ∷ path.now ∷ [])) }
-    ensures stops { (version : Version) → IfErr result (λ fault. IsWrong version fault
-        (verbs.Path verb) (path.now ∷ [])) }
-{
-    match keys_of(alloc, path) {
-        Ok(keys) => Ok(match verb {
-            PathVerb::Section => Edit::Section(keys),
-            PathVerb::Remove => Edit::Remove(keys),
-            PathVerb::Sort => Edit::Sort(keys),
-        }),
-        Err(ParseFault::Toml(error)) => Err(WordFault::Path(error)),
-        Err(ParseFault::Memory) => Err(WordFault::Memory),
-    }
-}
-
-/// Reads an edit that takes a value.
 fn value_edit(
     alloc: Global,
     options: ParseOptions,
     verb: ValueVerb,
-    path: &str,
+    keys: Vec<Key>,
     value: &str,
 ) -> Result<Edit, WordFault>
-    ensures said { IfOk result (SaysEdit (version_of options)
-        (value_name verb ∷ path.now ∷ value.now ∷ [])) }
-    ensures stops { IfErr result (λ fault. IsWrong (version_of options) fault
-        (verbs.Value verb) (path.now ∷ value.now ∷ [])) }
+    ensures said { (path : Text) → SpellsKeys path keys.items → IfOk result
+        (SaysEdit (version_of options) (value_name verb ∷ path ∷ value.now ∷ [])) }
+    ensures stops { (path : Text) → AreKeys path → IfErr result
+        (λ fault. IsWrong (version_of options) fault (verbs.Value verb) (path ∷ value.now ∷ [])) }
 {
-    match keys_of(alloc, path) {
-        Ok(keys) => match value_in(alloc, value, options) {
-            Ok(value) => Ok(valued(verb, keys, value)),
-            Err(ParseFault::Toml(error)) => Err(WordFault::Value(error)),
-            Err(ParseFault::Memory) => Err(WordFault::Memory),
-        },
-        Err(ParseFault::Toml(error)) => Err(WordFault::Path(error)),
+    match value_in(alloc, value, options) {
+        Ok(value) => Ok(valued(verb, keys, value)),
+        Err(ParseFault::Toml(error)) => Err(WordFault::Value(error)),
         Err(ParseFault::Memory) => Err(WordFault::Memory),
     }
 }
 
-/// Returns an edit that takes a value.
 fn valued(verb: ValueVerb, keys: Vec<Key>, value: Value) -> Edit
-    ensures { (version : Version) (ws : List Text)
-        → Takes (λ t. SpellsValue version t (value_view value)) (value_name verb) ws keys.items
-        → SaysEdit version ws result }
+    ensures { (version : Version) (ws : List Text) → Takes (λ t. SpellsValue version t
+        (value_view value)) (value_name verb) ws keys.items → SaysEdit version ws result }
 {
     match verb {
         ValueVerb::Set => Edit::Set(keys, value),
@@ -185,18 +167,12 @@ fn valued(verb: ValueVerb, keys: Vec<Key>, value: Value) -> Edit
     }
 }
 
-/// Reads an edit that takes a text.
-fn text_edit(alloc: Global, verb: TextVerb, path: &str, text: &str) -> Result<Edit, WordFault>
-    ensures said { (version : Version) → IfOk result
-        (SaysEdit version (text_name verb ∷ path.now ∷ text.now ∷ [])) }
-    ensures stops { (version : Version) → IfErr result (λ fault. IsWrong version fault
-        (verbs.Text verb) (path.now ∷ text.now ∷ [])) }
+fn text_edit(alloc: Global, verb: TextVerb, keys: Vec<Key>, text: &str) -> Result<Edit, WordFault>
+    ensures said { (version : Version) (path : Text) → SpellsKeys path keys.items → IfOk result
+        (SaysEdit version (text_name verb ∷ path ∷ text.now ∷ [])) }
+    ensures stops { (version : Version) (path : Text) → IfErr result
+        (λ fault. IsWrong version fault (verbs.Text verb) (path ∷ text.now ∷ [])) }
 {
-    let keys = match keys_of(alloc, path) {
-        Ok(keys) => keys,
-        Err(ParseFault::Toml(error)) => return Err(WordFault::Path(error)),
-        Err(ParseFault::Memory) => return Err(WordFault::Memory),
-    };
     match verb {
         TextVerb::String => match Value::string(alloc, text) {
             Ok(value) => Ok(Edit::Set(keys, value)),
@@ -210,38 +186,29 @@ fn text_edit(alloc: Global, verb: TextVerb, path: &str, text: &str) -> Result<Ed
 }
 
 /// Reads a renaming, whose key is spelled as in a path.
-fn rename_edit(alloc: Global, path: &str, key: &str) -> Result<Edit, WordFault>
-    ensures said { (version : Version) → IfOk result
-        (SaysEdit version (name_of verbs.Rename ∷ path.now ∷ key.now ∷ [])) }
-    ensures stops { (version : Version) → IfErr result (λ fault. IsWrong version fault
-        verbs.Rename (path.now ∷ key.now ∷ [])) }
+fn rename_edit(alloc: Global, keys: Vec<Key>, key: &str) -> Result<Edit, WordFault>
+    ensures said { (version : Version) (path : Text) → SpellsKeys path keys.items → IfOk result
+        (SaysEdit version (name_of verbs.Rename ∷ path ∷ key.now ∷ [])) }
+    ensures stops { (version : Version) (path : Text) → AreKeys path → IfErr result
+        (λ fault. IsWrong version fault verbs.Rename (path ∷ key.now ∷ [])) }
 {
-    match keys_of(alloc, path) {
-        Ok(keys) => match key_name(alloc, key) {
-            Ok(Some(name)) => Ok(Edit::Rename(keys, name)),
-            Ok(None) => Err(WordFault::Key(None)),
-            Err(ParseFault::Toml(error)) => Err(WordFault::Key(Some(error))),
-            Err(ParseFault::Memory) => Err(WordFault::Memory),
-        },
-        Err(ParseFault::Toml(error)) => Err(WordFault::Path(error)),
+    match key_name(alloc, key) {
+        Ok(Some(name)) => Ok(Edit::Rename(keys, name)),
+        Ok(None) => Err(WordFault::Key(None)),
+        Err(ParseFault::Toml(error)) => Err(WordFault::Key(Some(error))),
         Err(ParseFault::Memory) => Err(WordFault::Memory),
     }
 }
 
-/// Reads a move.
-fn move_edit(alloc: Global, path: &str, to: &str) -> Result<Edit, WordFault>
-    ensures said { (version : Version) → IfOk result
-        (SaysEdit version (name_of verbs.Move ∷ path.now ∷ to.now ∷ [])) }
-    ensures stops { (version : Version) → IfErr result (λ fault. IsWrong version fault
-        verbs.Move (path.now ∷ to.now ∷ [])) }
+fn move_edit(alloc: Global, keys: Vec<Key>, to: &str) -> Result<Edit, WordFault>
+    ensures said { (version : Version) (path : Text) → SpellsKeys path keys.items → IfOk result
+        (SaysEdit version (name_of verbs.Move ∷ path ∷ to.now ∷ [])) }
+    ensures stops { (version : Version) (path : Text) → AreKeys path → IfErr result
+        (λ fault. IsWrong version fault verbs.Move (path ∷ to.now ∷ [])) }
 {
-    match keys_of(alloc, path) {
-        Ok(keys) => match keys_of(alloc, to) {
-            Ok(to) => Ok(Edit::Move(keys, to)),
-            Err(ParseFault::Toml(error)) => Err(WordFault::To(error)),
-            Err(ParseFault::Memory) => Err(WordFault::Memory),
-        },
-        Err(ParseFault::Toml(error)) => Err(WordFault::Path(error)),
+    match keys_of(alloc, to) {
+        Ok(to) => Ok(Edit::Move(keys, to)),
+        Err(ParseFault::Toml(error)) => Err(WordFault::To(error)),
         Err(ParseFault::Memory) => Err(WordFault::Memory),
     }
 }

@@ -125,8 +125,7 @@ fn set(
     path: &[Key],
     value: &Value,
 ) -> Result<(), EditFault>
-    ensures makes { Makes
-        (effects.set path.now (value_view value.now) (tree_owned document.old))
+    ensures makes { Makes (effects.set path.now (value_view value.now) (tree_owned document.old))
         (tree_owned document.old) (tree_owned document.new) result }
     ensures printed { IsPrintedAs document.new document.old }
 {
@@ -142,8 +141,7 @@ fn set_below_header(
     path: &[Key],
     value: &Value,
 ) -> Result<(), EditFault>
-    ensures makes { Makes
-        (effects.headed path.now (value_view value.now) (tree_owned document.old))
+    ensures makes { Makes (effects.headed path.now (value_view value.now) (tree_owned document.old))
         (tree_owned document.old) (tree_owned document.new) result }
     ensures printed { IsPrintedAs document.new document.old }
 {

@@ -4,7 +4,8 @@ use Rattle.toml_edit_parser.specs.Options.{version_of}
 use Rattle.toml_edit_edits.specs.Said.{value_name}
 use Rattle.toml_edit_edits.proofs.read_edit.value_edit.Goals as goal
 
-pub returns-in-Ok-value_in-clause-said : goal.returns-in-Ok-value_in-clause-said
-returns-in-Ok-value_in-clause-said c =
-    c.valued.ensures (version_of c.args.options) (value_name c.args.verb ∷ c.args.path.now ∷ c.args.value.now ∷ [])
-    (c.args.path.now, c.args.value.now, refl, c.in-Ok.ensures.spelled, c.in-Ok-value_in.ensures.spelled)
+pub returns-in-Ok-clause-said : goal.returns-in-Ok-clause-said
+returns-in-Ok-clause-said c =
+    λ path spelled.
+    c.valued.ensures (version_of c.args.options) (value_name c.args.verb ∷ path ∷ c.args.value.now ∷ [])
+    (path, c.args.value.now, refl, spelled, c.in-Ok.ensures.spelled)
