@@ -28,7 +28,7 @@ OUTER = ("std", "core", "fmt", "arrayvec", "bumpalo", "memchr", "itoa", "jiff")
 # The calls of upstream's trait are in two traits here.
 ALSO = {"AnyTable": "TableLike"}
 # Crates beside the library that programs call.
-BESIDE = ("toml_edit_fmt", "toml_edit_edits", "toml_edit_json", "file_replace")
+BESIDE = ("toml_edit_fmt", "toml_edit_edits", "toml_edit_json", "toml_edit_items", "file_replace")
 # What stands for a call of upstream.
 INSTEAD = {
     "as_float": "[`as_float_text`](%s.md#as_float_text)",
@@ -116,7 +116,7 @@ class Pages:
         given = [item for item in root.items if item.is_public and item.kind in TYPES + ("fn",)]
         found = [self.library.find(root, path) for path, is_public, is_hidden in root.uses.values() if is_public and not is_hidden]
         given += [one[0] for one in found if one and not one[1]]
-        laws = [item for item in root.modules["laws"].items if item.kind == "fn" and item.is_public]
+        laws = [item for item in root.modules["laws"].items if item.kind == "fn" and item.is_public] if "laws" in root.modules else []
         for item in given:
             if item.kind in TYPES and not item.is_hidden:
                 self.types.setdefault(item.name, item)

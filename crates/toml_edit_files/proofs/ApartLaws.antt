@@ -22,7 +22,8 @@ use Rattle.toml_edit_edits.specs.declared.edit.Verb.{Verb}
 use Rattle.toml_edit_edits.specs.declared.edit.Verb.TheVariants.{Path, Value, Text as OfText, Rename, Move}
 use Rattle.toml_edit_files.proofs.OutcomeLaws.{is_false}
 use Rattle.toml_edit_files.proofs.SplitLaws.{by-mistake}
-use Rattle.toml_edit_files.specs.Lines.{AddsEdit, AddsLine, AreWords, BeginsNoEdit, SaysLines, first_word, is_memory, is_passed, operands_in, rest_of}
+use Rattle.toml_edit_edits.specs.LineWords.{AreWords, first_word, operands_in, rest_of}
+use Rattle.toml_edit_files.specs.Lines.{AddsEdit, AddsLine, BeginsNoEdit, SaysLines, is_memory, is_passed}
 use Rattle.toml_edit_files.specs.Requests.{SaysApart}
 use Rattle.toml_edit_files.specs.Stops.{IsFor, IsMistaken}
 use Rattle.toml_edit_files.specs.declared.stop.Reason.{Reason}

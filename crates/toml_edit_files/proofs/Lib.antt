@@ -1,4 +1,3 @@
-pub mod KeyLaws
 pub mod GetLaws
 pub mod EditLaws
 pub mod FolderLaws

@@ -17,7 +17,7 @@ use Rattle.toml_edit_files.proofs.ApartLaws.{empty-says-none}
 use Rattle.toml_edit_files.proofs.OutcomeLaws.{is_false, is_true}
 use Rattle.toml_edit_files.proofs.RunLaws.{chosen, chosen_not}
 use Rattle.toml_edit_files.proofs.SplitLaws.{map-more, next-at, not-empty, option_of}
-use Rattle.toml_edit_files.specs.Requests.{AreFileAndPath, ArePaths, AreSorts, IsEdit, IsFmt, IsGet, IsHas, IsKind, IsNoneBy, SaysApart, SaysBy, kind_of, shape_in}
+use Rattle.toml_edit_files.specs.Requests.{AreFileAndPath, ArePaths, AreSorts, IsEdit, IsFmt, IsGet, IsHas, IsKind, IsNoneBy, SaysApart, SaysBy, shape_in}
 use Rattle.toml_edit_files.specs.Split.{Words, last_of}
 use Rattle.toml_edit_files.specs.declared.help.Topic.TheVariants as topics
 use Rattle.toml_edit_files.specs.declared.words.Command.{Command}
@@ -26,10 +26,11 @@ use Rattle.toml_edit_files.specs.declared.words.EditCommand.{EditCommand}
 use Rattle.toml_edit_files.specs.declared.words.Fmt.{Fmt}
 use Rattle.toml_edit_files.specs.declared.words.Get.{Get}
 use Rattle.toml_edit_files.specs.declared.words.Has.{Has}
-use Rattle.toml_edit_files.specs.declared.words.Kind.{Kind}
+use Rattle.toml_edit_items.specs.Kinds.{kind_named}
+use Rattle.toml_edit_items.specs.declared.kind.Kind.{Kind}
 use Rattle.toml_edit_files.specs.declared.words.Question.TheVariants as questions
-use Rattle.toml_edit_files.specs.declared.words.Shape.{Shape}
-use Rattle.toml_edit_files.specs.declared.words.Shape.TheVariants as shapes
+use Rattle.toml_edit_items.specs.declared.shape.Shape.{Shape}
+use Rattle.toml_edit_items.specs.declared.shape.Shape.TheVariants as shapes
 
 -- ---- the words of a slice
 
@@ -408,11 +409,11 @@ module _ (version : Version) (s : Words) where
       let e : file ∷ (path ∷ more) ≡ c.file.now ∷ (is.0 ∷ is.1) = sym at ∙ is.2 in let same : is.0 ≡ path = cc in
       none (names c.path.items) (subst (λ (t : Text). SpellsPath t (names c.path.items)) same is.3))
 
-  pub has-no-kind : (file path kind : Text) → s.operands ≡ file ∷ (path ∷ (kind ∷ [])) → kind_of kind ≡ None → IsNoneBy version topics.Has s
+  pub has-no-kind : (file path kind : Text) → s.operands ≡ file ∷ (path ∷ (kind ∷ [])) → kind_named kind ≡ None → IsNoneBy version topics.Has s
   has-no-kind file path kind at none =
       of-has (λ c is.
       let e : file ∷ (path ∷ (kind ∷ [])) ≡ c.file.now ∷ (is.0 ∷ is.1) = sym at ∙ is.2 in let same : is.1 ≡ kind ∷ [] = cc in
-      let k : IsTrue (is_some c.kind) × (c.kind ≡ kind_of kind) = subst (λ l. IsKind l c.kind) same is.4 in
+      let k : IsTrue (is_some c.kind) × (c.kind ≡ kind_named kind) = subst (λ l. IsKind l c.kind) same is.4 in
       let unlike : false ≡ true = sym (ap (λ (o : Option Kind). is_some o) (k.1 ∙ none)) ∙ k.0 in absurd cc)
 
   pub edit-empty : s.operands ≡ [] → IsNoneBy version topics.Edit s

@@ -9,8 +9,7 @@ use Rattle.toml_edit_files.specs.declared.stop.Reason.{Reason}
 use Rattle.toml_edit_files.specs.declared.stop.Reason.TheVariants.{No}
 use Rattle.toml_edit_files.specs.declared.words.Question.{Question}
 use Rattle.toml_edit_files.specs.declared.words.Question.TheVariants.{Get, Has, Keys, Json}
-use Rattle.toml_edit_files.specs.Get.{AreGot, HasAt, IsNotGot, found_at}
-use Rattle.toml_edit_files.specs.Keys.{IsListedAt, IsNotListed}
+use Rattle.toml_edit_files.specs.Get.{AreGot, HasAt, IsListedAt, IsNotGot, IsNotListed, found_at}
 use Rattle.toml_edit_json.specs.Values.{json_text}
 
 -- the item at the path as JSON, and a newline

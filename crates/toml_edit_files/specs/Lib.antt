@@ -1,8 +1,7 @@
 pub mod Refusals
 pub mod Stops
 pub mod Get
-pub mod Keys
-pub mod KeyPaths
+pub mod Steps
 pub mod Folders
 pub mod Notes
 pub mod Outcomes

@@ -22,13 +22,13 @@ use Rattle.toml_edit_files.specs.declared.words.EditCommand.{EditCommand}
 use Rattle.toml_edit_files.specs.declared.words.Fmt.{Fmt}
 use Rattle.toml_edit_files.specs.declared.words.Get.{Get}
 use Rattle.toml_edit_files.specs.declared.words.Has.{Has}
-use Rattle.toml_edit_files.specs.declared.words.Kind.{Kind}
-use Rattle.toml_edit_files.specs.declared.words.Kind.TheVariants as kinds
+use Rattle.toml_edit_items.specs.Kinds.{kind_named}
+use Rattle.toml_edit_items.specs.declared.kind.Kind.{Kind}
 use Rattle.toml_edit_files.specs.declared.words.Question.TheVariants as questions
 use Rattle.toml_edit_files.specs.declared.words.Reading.{Reading}
 use Rattle.toml_edit_files.specs.declared.words.Request.{Request}
-use Rattle.toml_edit_files.specs.declared.words.Shape.{Shape}
-use Rattle.toml_edit_files.specs.declared.words.Shape.TheVariants as shapes
+use Rattle.toml_edit_items.specs.declared.shape.Shape.{Shape}
+use Rattle.toml_edit_items.specs.declared.shape.Shape.TheVariants as shapes
 
 -- ---- how files are read
 
@@ -94,22 +94,10 @@ pub record IsGet (s : Words) (c : Get) : Type 0 where
   pub shape : c.shape ≡ shape_in shapes.Spelled s.options
   pub default : option_copied c.default ≡ last_of (codes "--default") s.options
 
-abbrev pub kind_of : Text → Option Kind
-kind_of w =
-    if bytes_eq w (codes "string") then Some kinds.String
-    else (if bytes_eq w (codes "integer") then Some kinds.Integer
-    else (if bytes_eq w (codes "float") then Some kinds.Float
-    else (if bytes_eq w (codes "boolean") then Some kinds.Boolean
-    else (if bytes_eq w (codes "datetime") then Some kinds.Datetime
-    else (if bytes_eq w (codes "array") then Some kinds.Array
-    else (if bytes_eq w (codes "table") then Some kinds.Table
-    else (if bytes_eq w (codes "tables") then Some kinds.Tables
-    else None)))))))
-
 -- no word is a kind, or one is
 abbrev pub IsKind : List Text → Option Kind → Type 0
 IsKind [] kind = kind ≡ None
-IsKind (w ∷ []) kind = IsTrue (is_some kind) × (kind ≡ kind_of w)
+IsKind (w ∷ []) kind = IsTrue (is_some kind) × (kind ≡ kind_named w)
 IsKind (w ∷ (v ∷ ws)) kind = ⊥
 
 abbrev pub IsHas : Words → Has → Type 0

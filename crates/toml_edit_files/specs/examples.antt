@@ -1,6 +1,5 @@
 -- Worked examples of what commands write.
-pub mod Keys
-pub mod Get
+pub mod Edited
 pub mod Outcomes
 pub mod Refusals
 pub mod Requests

@@ -11,15 +11,15 @@ ghost use Rattle.toml_edit_model.specs.Text.{Text};
 ghost use Rattle.toml_edit_model.specs.Version.{v1_0};
 ghost use Rattle.toml_edit_edits.specs.Lists.{applied};
 
-use crate::edits::edits_of_script;
 use crate::form::{MARK, check_form};
 use crate::messages::refused_edit;
-use crate::note::Note;
 use crate::outcome::Done;
 use crate::paths::path_text;
 use crate::put::{held_of, put, put_at};
 use crate::read::{STREAM, document_of, text_of};
+use crate::script::edits_of_script;
 use crate::stop::{Reason, Stop};
+use crate::told::Note;
 use crate::words::{EditCommand, Reading};
 use file_replace::Folder;
 use std::alloc::Global;

@@ -4,8 +4,8 @@ ghost use Rattle.toml_edit.specs.DocumentView.{print_of};
 ghost use Rattle.toml_edit_files.specs.Edited.{IsNotInForm, unmarked};
 ghost use Rattle.toml_edit_files.specs.Stops.{reason_of};
 
-use crate::note::{Note, PROGRAM};
-use crate::stop::{Reason, Stop};
+use crate::stop::{Reason, Step, Stop};
+use crate::told::{Note, PROGRAM};
 use crate::words::{EditCommand, Reading};
 use std::alloc::Global;
 use toml_edit::{DocumentMut, Mem};
@@ -13,7 +13,6 @@ use toml_edit::{DocumentMut, Mem};
 /// A byte order mark.
 pub const MARK: &str = "\u{feff}";
 
-/// Returns the text of a file without its byte order mark.
 fn without_mark(text: &str) -> &str
     ensures { result.now ≡ unmarked text.now }
 {
@@ -28,7 +27,7 @@ pub fn check_form(
     text: &str,
     document: &DocumentMut,
     reading: Reading,
-) -> Result<String, Stop>
+) -> Step<String>
     ensures locked { OnOk result
         (IsTrue command.now.locked → print_of document.now ≡ unmarked text.now) }
     ensures quiet { IfOk result
@@ -56,8 +55,7 @@ pub fn check_form(
 /// Returns a line for each run of lines of a text that differ from those of another one.
 fn lines_note(alloc: Global, file: &str, text: &str, other: &str, note: &str) -> Mem<Note> {
     let mut said = String::new(alloc);
-    for run in runs_between(alloc, text, other)? {
-        let (first, last) = run;
+    for (first, last) in runs_between(alloc, text, other)? {
         if !said.is_empty() {
             said.push('\n')?;
             said.push_str(PROGRAM)?;
@@ -71,13 +69,14 @@ fn lines_note(alloc: Global, file: &str, text: &str, other: &str, note: &str) ->
 /// Returns the first and the last line of each run of lines of a text that differ from those of
 /// another one.
 fn runs_between(alloc: Global, text: &str, other: &str) -> Mem<Vec<(usize, usize)>> {
-    let lines = lines_of(alloc, text)?;
-    let others = lines_of(alloc, other)?;
+    let (mut lines, mut others) = (lines_of(alloc, text)?, lines_of(alloc, other)?);
     if lines.len() == others.len() {
         return runs_apart(alloc, lines.as_slice(), others.as_slice());
     }
     let first = equal_front(lines.as_slice(), others.as_slice()).saturating_add(1);
-    let equal = equal_back(lines.as_slice(), others.as_slice());
+    lines.reverse();
+    others.reverse();
+    let equal = equal_front(lines.as_slice(), others.as_slice());
     let mut runs = Vec::new(alloc);
     runs.push((first, lines.len().saturating_sub(equal).max(first)))?;
     Ok(runs)
@@ -85,26 +84,18 @@ fn runs_between(alloc: Global, text: &str, other: &str) -> Mem<Vec<(usize, usize
 
 /// Returns the runs of lines that differ, of as many lines.
 fn runs_apart(alloc: Global, lines: &[&str], others: &[&str]) -> Mem<Vec<(usize, usize)>> {
-    let mut runs = Vec::new(alloc);
-    // The first line of a run that goes on, or 0.
-    let mut first = 0;
+    let mut runs: Vec<(usize, usize)> = Vec::new(alloc);
     for at in 0..lines.len().min(others.len()) {
-        if lines[at] == others[at] {
-            if first > 0 {
-                runs.push((first, at))?;
-                first = 0;
+        if lines[at] != others[at] {
+            match runs.last_mut() {
+                Some(run) if run.1 == at => run.1 = at + 1,
+                _ => runs.push((at + 1, at + 1))?,
             }
-        } else if first == 0 {
-            first = at + 1;
         }
-    }
-    if first > 0 {
-        runs.push((first, lines.len()))?;
     }
     Ok(runs)
 }
 
-/// Returns the lines of a text, each with its newline.
 fn lines_of<'t>(alloc: Global, text: &'t str) -> Mem<Vec<&'t str>> {
     let mut lines = Vec::new(alloc);
     for line in text.split_inclusive('\n') {
@@ -117,17 +108,6 @@ fn lines_of<'t>(alloc: Global, text: &'t str) -> Mem<Vec<&'t str>> {
 fn equal_front(lines: &[&str], others: &[&str]) -> usize {
     for at in 0..lines.len() {
         if at >= others.len() || lines[at] != others[at] {
-            return at;
-        }
-    }
-    lines.len()
-}
-
-/// Returns the number of lines at the end that are equal.
-fn equal_back(lines: &[&str], others: &[&str]) -> usize {
-    for at in 0..lines.len() {
-        let line = lines[lines.len() - at - 1];
-        if at >= others.len() || line != others[others.len() - at - 1] {
             return at;
         }
     }

@@ -42,19 +42,20 @@ pub fn topic_of(name: &str) -> Option<Topic>
     }
 }
 
-/// Returns the usage of a command, as one line.
-pub fn usage(topic: Topic) -> &'static str
-    ensures { result.now ≡ usage_of topic }
+/// Returns the usage of a command, as one line, and what it does, with its options and examples.
+pub fn page(topic: Topic) -> (&'static str, &'static str)
+    ensures usage { result.0.now ≡ usage_of topic }
+    ensures about { result.1.now ≡ about_of topic }
 {
     match topic {
-        Topic::Program => PROGRAM_USAGE,
-        Topic::Get => GET_USAGE,
-        Topic::Has => HAS_USAGE,
-        Topic::Edit => EDIT_USAGE,
-        Topic::Keys => KEYS_USAGE,
-        Topic::Json => JSON_USAGE,
-        Topic::Check => CHECK_USAGE,
-        Topic::Fmt => FMT_USAGE,
+        Topic::Program => (PROGRAM_USAGE, PROGRAM_HELP),
+        Topic::Get => (GET_USAGE, GET_HELP),
+        Topic::Has => (HAS_USAGE, HAS_HELP),
+        Topic::Edit => (EDIT_USAGE, EDIT_HELP),
+        Topic::Keys => (KEYS_USAGE, KEYS_HELP),
+        Topic::Json => (JSON_USAGE, JSON_HELP),
+        Topic::Check => (CHECK_USAGE, CHECK_HELP),
+        Topic::Fmt => (FMT_USAGE, FMT_HELP),
     }
 }
 
@@ -62,23 +63,8 @@ pub fn usage(topic: Topic) -> &'static str
 pub fn help(alloc: Global, topic: Topic) -> Mem<String>
     ensures { IfOk result (λ s. string_bytes s ≡ help_on topic) }
 {
-    ["usage: ", usage(topic), "\n\n", about(topic)].concat(alloc)
-}
-
-/// Returns what a command does, with its options and examples.
-fn about(topic: Topic) -> &'static str
-    ensures { result.now ≡ about_of topic }
-{
-    match topic {
-        Topic::Program => PROGRAM_HELP,
-        Topic::Get => GET_HELP,
-        Topic::Has => HAS_HELP,
-        Topic::Edit => EDIT_HELP,
-        Topic::Keys => KEYS_HELP,
-        Topic::Json => JSON_HELP,
-        Topic::Check => CHECK_HELP,
-        Topic::Fmt => FMT_HELP,
-    }
+    let (usage, about) = page(topic);
+    ["usage: ", usage, "\n\n", about].concat(alloc)
 }
 
 pub const PROGRAM_USAGE: &str =

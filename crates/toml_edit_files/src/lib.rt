@@ -4,22 +4,18 @@
 
 mod check;
 mod edit;
-mod edits;
 mod fmt;
 mod form;
 mod get;
 mod help;
-mod json;
-mod keys;
-mod line;
 mod messages;
-mod note;
 mod outcome;
 mod paths;
 mod program;
 mod put;
 mod read;
 mod request;
+mod script;
 mod split;
 mod stop;
 mod told;

@@ -4,18 +4,17 @@ ghost use Rattle.toml_edit_files.specs.Refusals.{refusal_text};
 ghost use Rattle.toml_edit_files.specs.Stops.{IsAbout, IsFailed, IsFor, StopsSaying, reason_for, reason_of};
 ghost use Rattle.toml_edit_files.specs.declared.stop.Reason.TheVariants.{Mistaken, Refused};
 
-use crate::get::kind_of;
-use crate::help::{COMMANDS, Topic, usage};
-use crate::note::Note;
+use crate::help::{COMMANDS, Topic, page};
 use crate::paths::{hint, near, path_text};
 use crate::split::is_option;
 use crate::stop::{Reason, Stop};
-use crate::words::Kind;
+use crate::told::Note;
 use std::alloc::Global;
 use std::io;
 use std::io::ErrorKind;
 use toml_edit::{DocumentMut, Item, Key, Mem, TomlError};
 use toml_edit_edits::{Edit, EditFault};
+use toml_edit_items::{Kind, kind_of};
 
 /// Returns that a run ends for this reason, with a message.
 fn stop(alloc: Global, reason: Reason, said: Mem<String>) -> Stop
@@ -50,7 +49,7 @@ pub fn mistaken(alloc: Global, said: Mem<String>) -> Stop
 pub fn wrong_words(alloc: Global, topic: Topic) -> Stop
     ensures { IsFor Mistaken (reason_of result) }
 {
-    let usage = usage(topic);
+    let (usage, _) = page(topic);
     mistaken(alloc, format!(in alloc; "usage: {usage}"))
 }
 
@@ -63,7 +62,7 @@ pub fn no_command(alloc: Global, name: &str) -> Stop
     }
     match near(alloc, name, COMMANDS) {
         Ok(near) => {
-            let (near, usage) = (near.as_str(), usage(Topic::Program));
+            let (near, (usage, _)) = (near.as_str(), page(Topic::Program));
             mistaken(
                 alloc,
                 format!(in alloc; "unknown command {name}{near}\ntomlfile: usage: {usage}"),
@@ -77,7 +76,7 @@ pub fn no_command(alloc: Global, name: &str) -> Stop
 pub fn no_option(alloc: Global, topic: Topic, name: &str) -> Stop
     ensures { IsFor Mistaken (reason_of result) }
 {
-    let usage = usage(topic);
+    let (usage, _) = page(topic);
     mistaken(
         alloc,
         format!(in alloc; "no option {name}\ntomlfile: usage: {usage}"),

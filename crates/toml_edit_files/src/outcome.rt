@@ -4,9 +4,8 @@ ghost use Rattle.toml_edit_files.specs.Notes.{unnamed};
 ghost use Rattle.toml_edit_files.specs.Outcomes.{TellsAlone, TellsOf, TellsOfFile, TellsStop};
 ghost use Rattle.toml_edit_files.specs.declared.stop.Stop.TheVariants.{Memory, Message};
 
-use crate::note::Note;
 use crate::stop::{DONE, NO, NO_MEMORY, Reason, Stop};
-use crate::told::Told;
+use crate::told::{Note, Told};
 use std::alloc::Global;
 
 /// What a command that is done leaves.

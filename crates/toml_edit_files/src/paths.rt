@@ -1,57 +1,52 @@
 //! Paths in words and in messages.
-ghost use Rattle.std.specs.Prelude.{IfErr, IfOk};
-ghost use Rattle.toml_edit_files.specs.Stops.{IsFor, IsMistaken, reason_of};
+ghost use Rattle.std.specs.Prelude.{IfOk};
+ghost use Rattle.toml_edit_files.specs.Steps.{Mistakes};
+ghost use Rattle.toml_edit_files.specs.Stops.{IsFor, reason_of};
 ghost use Rattle.toml_edit_files.specs.declared.stop.Reason.TheVariants.{Mistaken};
 ghost use Rattle.toml_edit_model.specs.Keys.{names};
 ghost use Rattle.toml_edit_edits.specs.Said.{IsNoKeys, SpellsKeys};
 ghost use Rattle.toml_edit_words.specs.Spelled.{IsNoPath, SpellsPath};
 
 use crate::messages::mistaken;
-use crate::stop::Stop;
+use crate::stop::{Step, Stop};
 use std::alloc::Global;
 use toml_edit::{DocumentMut, Item, Key, Mem, ParseFault, TomlError};
 use toml_edit_edits::keys_of;
 use toml_edit_words::path_in;
 
 /// Parses PATH. A message about it begins with `place`: the file, or an edit of it.
-pub fn path_of(alloc: Global, place: &str, text: &str) -> Result<Vec<Key>, Stop>
+pub fn path_of(alloc: Global, place: &str, text: &str) -> Step<Vec<Key>>
     ensures spelled { IfOk result (λ keys. SpellsPath text.now (names keys.items)) }
-    ensures stops { IfErr result
-        (λ stop. IsMistaken (IsNoPath text.now) (reason_of stop)) }
+    ensures stops { Mistakes (IsNoPath text.now) result }
 {
     match path_in(alloc, text) {
         Ok(path) => Ok(path),
-        Err(ParseFault::Toml(error)) => Err(bad_path(alloc, place, text, Some(&error))),
+        Err(ParseFault::Toml(error)) => Err(bad_path(alloc, place, text, &error)),
         Err(ParseFault::Memory) => Err(Stop::Memory),
     }
 }
 
 /// Parses the PATH of a sort, for which the empty text is the root.
-pub fn sort_path_of(alloc: Global, place: &str, text: &str) -> Result<Vec<Key>, Stop>
+pub fn sort_path_of(alloc: Global, place: &str, text: &str) -> Step<Vec<Key>>
     ensures spelled { IfOk result (λ keys. SpellsKeys text.now keys.items) }
-    ensures stops { IfErr result
-        (λ stop. IsMistaken (IsNoKeys text.now) (reason_of stop)) }
+    ensures stops { Mistakes (IsNoKeys text.now) result }
 {
     match keys_of(alloc, text) {
         Ok(path) => Ok(path),
-        Err(ParseFault::Toml(error)) => Err(bad_path(alloc, place, text, Some(&error))),
+        Err(ParseFault::Toml(error)) => Err(bad_path(alloc, place, text, &error)),
         Err(ParseFault::Memory) => Err(Stop::Memory),
     }
 }
 
 /// Returns that a path is none, and why.
-pub fn bad_path(alloc: Global, place: &str, text: &str, error: Option<&TomlError>) -> Stop
+fn bad_path(alloc: Global, place: &str, text: &str, error: &TomlError) -> Stop
     ensures { IsFor Mistaken (reason_of result) }
 {
     mistaken(alloc, bad_path_text(alloc, place, text, error))
 }
 
-/// Returns the message that a path is none.
-fn bad_path_text(alloc: Global, place: &str, text: &str, error: Option<&TomlError>) -> Mem<String> {
-    let why = match error {
-        Some(error) => why_of(alloc, error)?,
-        None => String::new(alloc),
-    };
+fn bad_path_text(alloc: Global, place: &str, text: &str, error: &TomlError) -> Mem<String> {
+    let why = why_of(alloc, error)?;
     let why = why.as_str();
     format!(in alloc; "{place}: bad path {text}{why}")
 }

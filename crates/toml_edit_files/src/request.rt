@@ -2,35 +2,36 @@
 ghost use Rattle.std.specs.Prelude.{◌≡◌, ◌==◌, ◌&&◌, ◌∷◌, Any, IfErr, IfOk, List, None, Some, false, is_none, length, map, string_bytes};
 ghost use Rattle.toml_edit_files.specs.Edited.{version_by};
 ghost use Rattle.toml_edit_files.specs.Help.{help_on};
-ghost use Rattle.toml_edit_files.specs.Requests.{AreFileAndPath, ArePaths, AreSorts, IsNoCommand, IsKind, IsNoRequest, IsNoneAfter, IsNoneBy, SaysAfter, SaysApart, SaysBy, SaysCommand, SaysRequest, Shows, asks_help, help_by, is_help, is_help_option, is_version, kind_of, marked, reading_in, shape_in};
+ghost use Rattle.toml_edit_files.specs.Requests.{AreFileAndPath, ArePaths, AreSorts, IsNoCommand, IsKind, IsNoRequest, IsNoneAfter, IsNoneBy, SaysAfter, SaysApart, SaysBy, SaysCommand, SaysRequest, Shows, asks_help, help_by, is_help, is_help_option, is_version, marked, reading_in, shape_in};
 ghost use Rattle.toml_edit_files.specs.Split.{Words, split_of};
 ghost use Rattle.toml_edit_model.specs.Text.{Text};
 ghost use Rattle.toml_edit_model.specs.Tree.{Key};
 ghost use Rattle.toml_edit_model.specs.Version.{Version};
 ghost use Rattle.toml_edit_edits.specs.declared.edit.Edit.{Edit};
 ghost use Rattle.toml_edit_words.specs.Spelled.{IsNoPath};
-ghost use Rattle.toml_edit_files.specs.Stops.{IsMistaken, reason_of};
-ghost use Rattle.toml_edit_files.specs.declared.words.Shape.TheVariants.{Spelled};
+ghost use Rattle.toml_edit_files.specs.Steps.{Mistakes, SaidBy, UnsaidBy};
+ghost use Rattle.toml_edit_files.specs.Stops.{reason_of};
+ghost use Rattle.toml_edit_items.specs.declared.shape.Shape.TheVariants.{Spelled};
 ghost use Rattle.toml_edit_files.specs.declared.help.Topic.TheVariants as topics;
 
-use crate::edits::edit_at;
 use crate::help::{Topic, VERSION, help, topic_of};
 use crate::messages::{no_command, wrong_words};
 use crate::paths::{path_of, sort_path_of};
+use crate::script::edit_at;
 use crate::split::{Split, split_words};
-use crate::stop::Stop;
+use crate::stop::Step;
 use crate::words::{
-    Command, EditCommand, Fmt, Get, Has, Json, Keys, Kind, Question, Reading, Request, Shape, Style,
+    Command, EditCommand, Fmt, Get, Has, Json, Keys, Question, Reading, Request, Style,
 };
 use std::alloc::Global;
 use toml_edit::Key;
 use toml_edit_edits::Edit;
+use toml_edit_items::{Kind, Shape};
 
 /// Reads the words of a call.
-pub fn request_of<'w>(alloc: Global, words: &'w [String]) -> Result<Request<'w>, Stop>
+pub fn request_of<'w>(alloc: Global, words: &'w [String]) -> Step<Request<'w>>
     ensures says { IfOk result (SaysRequest (map string_bytes words.now)) }
-    ensures stops { IfErr result
-        (λ stop. IsMistaken (IsNoRequest (map string_bytes words.now)) (reason_of stop)) }
+    ensures stops { Mistakes (IsNoRequest (map string_bytes words.now)) result }
 {
     let (reading, words) = reading_of(words);
     match command_of(alloc, words, reading) {
@@ -77,11 +78,10 @@ fn reading_of(words: &[String]) -> (Reading, &[String])
 }
 
 /// Reads the command after the words `strict` and `normal`.
-fn command_of<'w>(alloc: Global, words: &'w [String], reading: Reading) -> Result<Command<'w>, Stop>
-    ensures says { IfOk result
-        (SaysCommand (version_by reading) (map string_bytes words.now)) }
-    ensures stops { IfErr result (λ stop. IsMistaken
-        (IsNoCommand (version_by reading) (map string_bytes words.now)) (reason_of stop)) }
+fn command_of<'w>(alloc: Global, words: &'w [String], reading: Reading) -> Step<Command<'w>>
+    ensures says { IfOk result (SaysCommand (version_by reading) (map string_bytes words.now)) }
+    ensures stops { Mistakes
+        (IsNoCommand (version_by reading) (map string_bytes words.now)) result }
 {
     let [name, operands @ ..] = words else {
         return Err(wrong_words(alloc, Topic::Program));
@@ -106,14 +106,12 @@ fn is_help(word: &str) -> bool
     is_help_option(word) || word == "help"
 }
 
-/// Returns `true` if the word is the option that asks for help.
 fn is_help_option(word: &str) -> bool
     ensures { result ≡ is_help_option word.now }
 {
     word == "--help" || word == "-h"
 }
 
-/// Returns `true` if the word asks for the version.
 fn is_version(word: &str) -> bool
     ensures { result ≡ is_version word.now }
 {
@@ -121,10 +119,9 @@ fn is_version(word: &str) -> bool
 }
 
 /// Reads what help is asked about.
-fn help_of<'w>(alloc: Global, words: &[String]) -> Result<Command<'w>, Stop>
+fn help_of<'w>(alloc: Global, words: &[String]) -> Step<Command<'w>>
     ensures shows { IfOk result (Shows (help_by (map string_bytes words.now))) }
-    ensures stops { IfErr result (λ stop. IsMistaken
-        (help_by (map string_bytes words.now) ≡ None) (reason_of stop)) }
+    ensures stops { Mistakes (help_by (map string_bytes words.now) ≡ None) result }
 {
     match words {
         [] => help_about(alloc, Topic::Program),
@@ -136,8 +133,7 @@ fn help_of<'w>(alloc: Global, words: &[String]) -> Result<Command<'w>, Stop>
     }
 }
 
-/// Returns the command that writes the help on a command.
-fn help_about<'w>(alloc: Global, topic: Topic) -> Result<Command<'w>, Stop>
+fn help_about<'w>(alloc: Global, topic: Topic) -> Step<Command<'w>>
     ensures shows { IfOk result (Shows (Some (help_on topic))) }
     ensures memory { IfErr result (λ stop. reason_of stop ≡ None) }
 {
@@ -150,11 +146,10 @@ fn operands_of<'w>(
     topic: Topic,
     words: &'w [String],
     reading: Reading,
-) -> Result<Command<'w>, Stop>
-    ensures says { IfOk result
-        (SaysAfter (version_by reading) topic (map string_bytes words.now)) }
-    ensures stops { IfErr result (λ stop. IsMistaken
-        (IsNoneAfter (version_by reading) topic (map string_bytes words.now)) (reason_of stop)) }
+) -> Step<Command<'w>>
+    ensures says { IfOk result (SaysAfter (version_by reading) topic (map string_bytes words.now)) }
+    ensures stops { Mistakes
+        (IsNoneAfter (version_by reading) topic (map string_bytes words.now)) result }
 {
     if asks_help(words) {
         return help_about(alloc, topic);
@@ -182,12 +177,9 @@ fn asks_help(words: &[String]) -> bool
     }
 }
 
-/// Reads the words of `get`.
-fn get_of<'w>(alloc: Global, words: &Split<'w>) -> Result<Command<'w>, Stop>
-    ensures says { (version : Version) → IfOk result
-        (SaysBy version topics.Get (split_of words.now)) }
-    ensures stops { (version : Version) → IfErr result (λ stop. IsMistaken
-        (IsNoneBy version topics.Get (split_of words.now)) (reason_of stop)) }
+fn get_of<'w>(alloc: Global, words: &Split<'w>) -> Step<Command<'w>>
+    ensures says { SaidBy topics.Get (split_of words.now) result }
+    ensures stops { UnsaidBy topics.Get (split_of words.now) result }
 {
     let [file, texts @ ..] = words.operands.as_slice() else {
         return Err(wrong_words(alloc, Topic::Get));
@@ -205,12 +197,10 @@ fn get_of<'w>(alloc: Global, words: &Split<'w>) -> Result<Command<'w>, Stop>
     })))
 }
 
-/// Parses paths.
-fn paths_of(alloc: Global, file: &str, texts: &[&str]) -> Result<Vec<Vec<Key>>, Stop>
+fn paths_of(alloc: Global, file: &str, texts: &[&str]) -> Step<Vec<Vec<Key>>>
     ensures paths { IfOk result (λ paths. ArePaths (map (λ t. t.now) texts.now)
         (map (λ path. path.items) paths.items)) }
-    ensures stops { IfErr result (λ stop. IsMistaken
-        (Any IsNoPath (map (λ t. t.now) texts.now)) (reason_of stop)) }
+    ensures stops { Mistakes (Any IsNoPath (map (λ t. t.now) texts.now)) result }
 {
     let mut paths = Vec::new(alloc);
     'texts: for text in texts {
@@ -235,16 +225,13 @@ fn shape_of(words: &Split<'_>) -> Shape
     shape
 }
 
-/// Reads the words of `has`.
-fn has_of<'w>(alloc: Global, words: &Split<'w>) -> Result<Command<'w>, Stop>
-    ensures says { (version : Version) → IfOk result
-        (SaysBy version topics.Has (split_of words.now)) }
-    ensures stops { (version : Version) → IfErr result (λ stop. IsMistaken
-        (IsNoneBy version topics.Has (split_of words.now)) (reason_of stop)) }
+fn has_of<'w>(alloc: Global, words: &Split<'w>) -> Step<Command<'w>>
+    ensures says { SaidBy topics.Has (split_of words.now) result }
+    ensures stops { UnsaidBy topics.Has (split_of words.now) result }
 {
     match words.operands.as_slice() {
         [file, path] => has_at(alloc, *file, *path, None),
-        [file, path, kind] => match kind_of(*kind) {
+        [file, path, kind] => match Kind::named(*kind) {
             Some(kind) => has_at(alloc, *file, *path, Some(kind)),
             None => Err(wrong_words(alloc, Topic::Has)),
         },
@@ -252,72 +239,38 @@ fn has_of<'w>(alloc: Global, words: &Split<'w>) -> Result<Command<'w>, Stop>
     }
 }
 
-/// Reads the path of `has`.
-fn has_at<'w>(
-    alloc: Global,
-    file: &'w str,
-    path: &str,
-    kind: Option<Kind>,
-) -> Result<Command<'w>, Stop>
-    ensures says { (version : Version) (s : Words) (more : List Text)
-        → s.operands ≡ file.now ∷ (path.now ∷ more) → IsKind more kind
-        → IfOk result (SaysBy version topics.Has s) }
-    ensures stops { IfErr result (λ stop. IsMistaken (IsNoPath path.now) (reason_of stop)) }
+fn has_at<'w>(alloc: Global, file: &'w str, path: &str, kind: Option<Kind>) -> Step<Command<'w>>
+    ensures says { (version : Version) (s : Words) (more : List Text) → s.operands ≡ file.now ∷
+        (path.now ∷ more) → IsKind more kind → IfOk result (SaysBy version topics.Has s) }
+    ensures stops { Mistakes (IsNoPath path.now) result }
 {
     let path = path_of(alloc, file, path)?;
     Ok(Command::Ask(Question::Has(Has { file, path, kind })))
 }
 
-/// Returns the kind of this name.
-fn kind_of(name: &str) -> Option<Kind>
-    ensures { result ≡ kind_of name.now }
-{
-    match name {
-        "string" => Some(Kind::String),
-        "integer" => Some(Kind::Integer),
-        "float" => Some(Kind::Float),
-        "boolean" => Some(Kind::Boolean),
-        "datetime" => Some(Kind::Datetime),
-        "array" => Some(Kind::Array),
-        "table" => Some(Kind::Table),
-        "tables" => Some(Kind::Tables),
-        _ => None,
-    }
-}
-
-/// Reads the words of `keys`.
-fn keys_of<'w>(alloc: Global, words: &Split<'w>) -> Result<Command<'w>, Stop>
-    ensures says { (version : Version) → IfOk result
-        (SaysBy version topics.Keys (split_of words.now)) }
-    ensures stops { (version : Version) → IfErr result (λ stop. IsMistaken
-        (IsNoneBy version topics.Keys (split_of words.now)) (reason_of stop)) }
+fn keys_of<'w>(alloc: Global, words: &Split<'w>) -> Step<Command<'w>>
+    ensures says { SaidBy topics.Keys (split_of words.now) result }
+    ensures stops { UnsaidBy topics.Keys (split_of words.now) result }
 {
     let (file, path) = file_and_path(alloc, Topic::Keys, words)?;
     let all = words.has("--all");
     Ok(Command::Ask(Question::Keys(Keys { file, path, all })))
 }
 
-/// Reads the words of `json`.
-fn json_of<'w>(alloc: Global, words: &Split<'w>) -> Result<Command<'w>, Stop>
-    ensures says { (version : Version) → IfOk result
-        (SaysBy version topics.Json (split_of words.now)) }
-    ensures stops { (version : Version) → IfErr result (λ stop. IsMistaken
-        (IsNoneBy version topics.Json (split_of words.now)) (reason_of stop)) }
+fn json_of<'w>(alloc: Global, words: &Split<'w>) -> Step<Command<'w>>
+    ensures says { SaidBy topics.Json (split_of words.now) result }
+    ensures stops { UnsaidBy topics.Json (split_of words.now) result }
 {
     let (file, path) = file_and_path(alloc, Topic::Json, words)?;
     Ok(Command::Ask(Question::Json(Json { file, path })))
 }
 
 /// Reads a file and a path, which is that of the root if it is missing.
-fn file_and_path<'w>(
-    alloc: Global,
-    topic: Topic,
-    words: &Split<'w>,
-) -> Result<(&'w str, Vec<Key>), Stop>
+fn file_and_path<'w>(alloc: Global, topic: Topic, words: &Split<'w>) -> Step<(&'w str, Vec<Key>)>
     ensures says { IfOk result
         (λ r. AreFileAndPath (split_of words.now).operands r.0.now r.1.items) }
-    ensures stops { IfErr result (λ stop. IsMistaken ((file : Text) (path : List Key)
-        → AreFileAndPath (split_of words.now).operands file path → ⊥) (reason_of stop)) }
+    ensures stops { Mistakes ((file : Text) (path : List Key)
+        → AreFileAndPath (split_of words.now).operands file path → ⊥) result }
 {
     match words.operands.as_slice() {
         [file] => Ok((*file, Vec::new(alloc))),
@@ -326,12 +279,10 @@ fn file_and_path<'w>(
     }
 }
 
-/// Reads the words of `edit`.
-fn edit_of<'w>(alloc: Global, words: &Split<'w>, reading: Reading) -> Result<Command<'w>, Stop>
-    ensures says { IfOk result
-        (SaysBy (version_by reading) topics.Edit (split_of words.now)) }
-    ensures stops { IfErr result (λ stop. IsMistaken
-        (IsNoneBy (version_by reading) topics.Edit (split_of words.now)) (reason_of stop)) }
+fn edit_of<'w>(alloc: Global, words: &Split<'w>, reading: Reading) -> Step<Command<'w>>
+    ensures says { IfOk result (SaysBy (version_by reading) topics.Edit (split_of words.now)) }
+    ensures stops { Mistakes
+        (IsNoneBy (version_by reading) topics.Edit (split_of words.now)) result }
 {
     let [file, edits @ ..] = words.operands.as_slice() else {
         return Err(wrong_words(alloc, Topic::Edit));
@@ -361,16 +312,11 @@ fn is_idle(edits: &[Edit], script: Option<&str>) -> bool
 }
 
 /// Reads edits with commas between them.
-fn edits_apart(
-    alloc: Global,
-    file: &str,
-    words: &[&str],
-    reading: Reading,
-) -> Result<Vec<Edit>, Stop>
+fn edits_apart(alloc: Global, file: &str, words: &[&str], reading: Reading) -> Step<Vec<Edit>>
     ensures said { IfOk result (λ edits. SaysApart (version_by reading)
         (map (λ w. w.now) words.now) edits.items) }
-    ensures stops { IfErr result (λ stop. IsMistaken ((edits : List Edit)
-        → SaysApart (version_by reading) (map (λ w. w.now) words.now) edits → ⊥) (reason_of stop)) }
+    ensures stops { Mistakes ((edits : List Edit)
+        → SaysApart (version_by reading) (map (λ w. w.now) words.now) edits → ⊥) result }
 {
     let mut edits = Vec::new(alloc);
     if words.is_empty() {
@@ -389,12 +335,9 @@ fn edits_apart(
     Ok(edits)
 }
 
-/// Reads the words of `check`.
-fn check_of<'w>(alloc: Global, words: Split<'w>) -> Result<Command<'w>, Stop>
-    ensures says { (version : Version) → IfOk result
-        (SaysBy version topics.Check (split_of words.entry)) }
-    ensures stops { (version : Version) → IfErr result (λ stop. IsMistaken
-        (IsNoneBy version topics.Check (split_of words.entry)) (reason_of stop)) }
+fn check_of<'w>(alloc: Global, words: Split<'w>) -> Step<Command<'w>>
+    ensures says { SaidBy topics.Check (split_of words.entry) result }
+    ensures stops { UnsaidBy topics.Check (split_of words.entry) result }
 {
     if words.operands.is_empty() {
         return Err(wrong_words(alloc, Topic::Check));
@@ -402,12 +345,9 @@ fn check_of<'w>(alloc: Global, words: Split<'w>) -> Result<Command<'w>, Stop>
     Ok(Command::Check(words.operands))
 }
 
-/// Reads the words of `fmt`.
-fn fmt_of<'w>(alloc: Global, words: Split<'w>) -> Result<Command<'w>, Stop>
-    ensures says { (version : Version) → IfOk result
-        (SaysBy version topics.Fmt (split_of words.entry)) }
-    ensures stops { (version : Version) → IfErr result (λ stop. IsMistaken
-        (IsNoneBy version topics.Fmt (split_of words.entry)) (reason_of stop)) }
+fn fmt_of<'w>(alloc: Global, words: Split<'w>) -> Step<Command<'w>>
+    ensures says { SaidBy topics.Fmt (split_of words.entry) result }
+    ensures stops { UnsaidBy topics.Fmt (split_of words.entry) result }
 {
     if words.operands.is_empty() {
         return Err(wrong_words(alloc, Topic::Fmt));
@@ -426,11 +366,10 @@ fn fmt_of<'w>(alloc: Global, words: Split<'w>) -> Result<Command<'w>, Stop>
 }
 
 /// Reads the sorts that the options ask for.
-fn sorts_of(alloc: Global, words: &Split<'_>) -> Result<Vec<Edit>, Stop>
-    ensures sorts { IfOk result
-        (λ sorts. AreSorts (split_of words.now).options sorts.items) }
-    ensures stops { IfErr result (λ stop. IsMistaken ((sorts : List Edit)
-        → AreSorts (split_of words.now).options sorts → ⊥) (reason_of stop)) }
+fn sorts_of(alloc: Global, words: &Split<'_>) -> Step<Vec<Edit>>
+    ensures sorts { IfOk result (λ sorts. AreSorts (split_of words.now).options sorts.items) }
+    ensures stops { Mistakes ((sorts : List Edit)
+        → AreSorts (split_of words.now).options sorts → ⊥) result }
 {
     let mut sorts = Vec::new(alloc);
     'options: for option in words.options.as_slice() {

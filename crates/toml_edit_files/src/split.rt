@@ -2,14 +2,14 @@
 ghost use Rattle.std.specs.Prelude.{[], ◌≡◌, ◌∷◌, ◌++◌, IfErr, IfOk, None, OnOk, Some, map, string_bytes};
 ghost use Rattle.std.specs.Option.{option_copied};
 ghost use Rattle.toml_edit_files.specs.Split.{checks_all, following, has, is_flag, is_option, is_plain, is_refused, last_of, no_words, split_of, split_words, step, takes, takes_operand};
-ghost use Rattle.toml_edit_files.specs.Stops.{IsMistaken, reason_of};
+ghost use Rattle.toml_edit_files.specs.Steps.{Mistakes};
+ghost use Rattle.toml_edit_files.specs.Stops.{reason_of};
 
 use crate::help::Topic;
 use crate::messages::{no_option, wrong_words};
 use crate::read::STREAM;
-use crate::stop::Stop;
+use crate::stop::Step;
 use std::alloc::Global;
-use toml_edit::Mem;
 use toml_edit_edits::Verb;
 
 /// The options of a command, each with its operand, and its other words.
@@ -27,11 +27,10 @@ pub struct Split<'w> {
 }
 
 /// Tells options from operands. The word `--` ends the options, and before it no file is named as one.
-pub fn split_words<'w>(alloc: Global, topic: Topic, words: &'w [String]) -> Result<Split<'w>, Stop>
+pub fn split_words<'w>(alloc: Global, topic: Topic, words: &'w [String]) -> Step<Split<'w>>
     ensures split { IfOk result
         (λ s. split_words topic (map string_bytes words.now) ≡ Some (split_of s)) }
-    ensures stops { IfErr result (λ stop. IsMistaken
-        (split_words topic (map string_bytes words.now) ≡ None) (reason_of stop)) }
+    ensures stops { Mistakes (split_words topic (map string_bytes words.now) ≡ None) result }
 {
     let mut split = Split::new(alloc);
     'words: for word in words {
@@ -44,7 +43,6 @@ pub fn split_words<'w>(alloc: Global, topic: Topic, words: &'w [String]) -> Resu
 }
 
 impl<'w> Split<'w> {
-    /// Returns no words.
     fn new(alloc: Global) -> Split<'w>
         ensures { split_of result ≡ no_words }
     {
@@ -57,12 +55,10 @@ impl<'w> Split<'w> {
         }
     }
 
-    /// Takes the next word.
-    fn take(&mut self, alloc: Global, topic: Topic, word: &'w str) -> Result<(), Stop>
+    fn take(&mut self, alloc: Global, topic: Topic, word: &'w str) -> Step<()>
         ensures took { OnOk result
             (step topic (split_of self.old) word.now ≡ Some (split_of self.new)) }
-        ensures stops { IfErr result (λ stop. IsMistaken
-            (step topic (split_of self.old) word.now ≡ None) (reason_of stop)) }
+        ensures stops { Mistakes (step topic (split_of self.old) word.now ≡ None) result }
     {
         match self.pending {
             Some(name) => {
@@ -74,13 +70,11 @@ impl<'w> Split<'w> {
     }
 
     /// Takes the next word, which is no operand of an option.
-    fn take_word(&mut self, alloc: Global, topic: Topic, word: &'w str) -> Result<(), Stop>
-        ensures took { OnOk result
-            (takes topic (split_of self.old) word.now None (is_plain (split_of self.old))
-            ≡ Some (split_of self.new)) }
-        ensures stops { IfErr result (λ stop. IsMistaken
-            (takes topic (split_of self.old) word.now None (is_plain (split_of self.old)) ≡ None)
-            (reason_of stop)) }
+    fn take_word(&mut self, alloc: Global, topic: Topic, word: &'w str) -> Step<()>
+        ensures took { OnOk result (takes topic (split_of self.old) word.now None
+            (is_plain (split_of self.old)) ≡ Some (split_of self.new)) }
+        ensures stops { Mistakes
+            (takes topic (split_of self.old) word.now None (is_plain (split_of self.old)) ≡ None) result }
     {
         if self.is_plain() {
             self.left = self.left.saturating_sub(1);
@@ -118,8 +112,7 @@ impl<'w> Split<'w> {
         is_option(word) && (self.operands.is_empty() || checks_all(topic))
     }
 
-    /// Adds an option with its operand.
-    fn add_option(&mut self, name: &'w str, operand: &'w str) -> Result<(), Stop>
+    fn add_option(&mut self, name: &'w str, operand: &'w str) -> Step<()>
         ensures added { OnOk result (split_of self.new ≡ record (split_of self.old) {
           options = (split_of self.old).options ++ ((name.now, operand.now) ∷ []);
         }) }
@@ -129,8 +122,7 @@ impl<'w> Split<'w> {
         Ok(())
     }
 
-    /// Adds a word that is no option.
-    fn add_operand(&mut self, word: &'w str) -> Result<(), Stop>
+    fn add_operand(&mut self, word: &'w str) -> Step<()>
         ensures added { OnOk result (split_of self.new ≡ record (split_of self.old) {
           operands = (split_of self.old).operands ++ (word.now ∷ []);
         }) }

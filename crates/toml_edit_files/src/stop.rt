@@ -2,9 +2,8 @@
 ghost use Rattle.std.specs.Prelude.{◌≡◌, Some};
 ghost use Rattle.toml_edit_files.specs.Stops.{status_of};
 
-use crate::note::Note;
-use std::alloc::{AllocError, AllocFailed, Global};
-use toml_edit::{NoMemory, PrintFault};
+use crate::told::Note;
+use std::alloc::{AllocError, AllocFailed};
 
 /// Why a run ends before it is done.
 #[derive(Drop)]
@@ -16,6 +15,9 @@ pub enum Stop {
     /// Out of memory.
     Memory,
 }
+
+/// What a step of a run gives, or why the run ends.
+pub type Step<T> = Result<T, Stop>;
 
 /// Why a run ends with a message.
 #[derive(Clone, Copy, Debug, PartialEq, Eq)]
@@ -74,28 +76,6 @@ impl<T: Drop> From<AllocFailed<T>> for Stop {
     ghost from_gives = { λ _ stop. stop ≡ Memory };
 
     fn from(_refused: AllocFailed<T>) -> Stop {
-        Stop::Memory
-    }
-}
-
-impl<T: Drop> From<NoMemory<T>> for Stop {
-    ghost use Rattle.std.specs.Prelude.{◌≡◌};
-    ghost use Rattle.toml_edit_files.specs.declared.stop.Stop.TheVariants.{Memory};
-
-    ghost from_gives = { λ _ stop. stop ≡ Memory };
-
-    fn from(_refused: NoMemory<T>) -> Stop {
-        Stop::Memory
-    }
-}
-
-impl From<PrintFault> for Stop {
-    ghost use Rattle.std.specs.Prelude.{◌≡◌};
-    ghost use Rattle.toml_edit_files.specs.declared.stop.Stop.TheVariants.{Memory};
-
-    ghost from_gives = { λ _ stop. stop ≡ Memory };
-
-    fn from(_refused: PrintFault) -> Stop {
         Stop::Memory
     }
 }

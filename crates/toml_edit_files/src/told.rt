@@ -1,10 +1,40 @@
 //! What commands write, and their status.
-ghost use Rattle.std.specs.Prelude.{◌≡◌, ◌≤◌, ◌++◌, [], MatchBool, OnOk, false, if◌then◌else◌, is_ok, max, string_bytes};
+ghost use Rattle.std.specs.Prelude.{◌≡◌, ◌≤◌, ◌++◌, [], if◌then◌else◌, IfOk, string_bytes, MatchBool, OnOk, false, is_ok, max};
+ghost use Rattle.toml_edit_files.specs.Notes.{IsNote, note_text, unnamed};
 
 use crate::stop::NO_MEMORY;
 use std::alloc::Global;
 use std::mem;
 use toml_edit::Mem;
+
+/// What messages begin with.
+pub const PROGRAM: &str = "tomlfile: ";
+
+/// A message to standard error, which begins with the name of the program and ends with a newline.
+#[derive(Drop)]
+pub struct Note {
+    pub text: String,
+    ghost known: { IsNote (string_bytes text) },
+}
+
+impl Note {
+    /// Returns the message that says this.
+    pub fn new(alloc: Global, said: &str) -> Mem<Note>
+        ensures { IfOk result (λ note. string_bytes note.text ≡ note_text said.now) }
+    {
+        Ok(Note {
+            text: [PROGRAM, said, "\n"].concat(alloc)?,
+        })
+    }
+
+    /// Returns the message without the name of the program.
+    pub fn unnamed(&self) -> &str
+        ensures { result.now ≡ unnamed (string_bytes self.now.text) }
+    {
+        let text = self.text.as_str();
+        text.strip_prefix(PROGRAM).unwrap_or(text)
+    }
+}
 
 /// The status of a command, and what it writes to standard output and to standard error.
 #[derive(Drop)]

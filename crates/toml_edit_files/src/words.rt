@@ -6,6 +6,7 @@ ghost use Rattle.toml_edit_parser.specs.Options.{mode_of, version_of};
 
 use toml_edit::{Key, ParseOptions, Version};
 use toml_edit_edits::Edit;
+use toml_edit_items::{Kind, Shape};
 
 /// What the words ask for.
 #[derive(Drop)]
@@ -73,18 +74,6 @@ impl<'w> Question<'w> {
     }
 }
 
-/// How `get` writes an item.
-#[derive(Clone, Copy)]
-pub enum Shape {
-    /// As it is spelled.
-    Spelled,
-    /// A string as its characters.
-    Raw,
-    /// Each element of an array raw, one a line.
-    Lines,
-}
-
-/// The operands of `get`.
 #[derive(Drop)]
 pub struct Get<'w> {
     pub file: &'w str,
@@ -93,25 +82,11 @@ pub struct Get<'w> {
     pub default: Option<&'w str>,
 }
 
-/// The operands of `has`.
 #[derive(Drop)]
 pub struct Has<'w> {
     pub file: &'w str,
     pub path: Vec<Key>,
     pub kind: Option<Kind>,
-}
-
-/// A kind of item.
-#[derive(Clone, Copy, PartialEq, Eq)]
-pub enum Kind {
-    String,
-    Integer,
-    Float,
-    Boolean,
-    Datetime,
-    Array,
-    Table,
-    Tables,
 }
 
 /// The operands of `edit` beside its edits.
@@ -126,7 +101,6 @@ pub struct EditCommand<'w> {
     pub force: bool,
 }
 
-/// The operands of `keys`.
 #[derive(Drop)]
 pub struct Keys<'w> {
     pub file: &'w str,
@@ -134,14 +108,12 @@ pub struct Keys<'w> {
     pub all: bool,
 }
 
-/// The operands of `json`.
 #[derive(Drop)]
 pub struct Json<'w> {
     pub file: &'w str,
     pub path: Vec<Key>,
 }
 
-/// The operands of `fmt`.
 #[derive(Drop)]
 pub struct Fmt<'w> {
     pub files: Vec<&'w str>,

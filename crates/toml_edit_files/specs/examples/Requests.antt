@@ -1,12 +1,11 @@
 -- Worked calls: which words are options, and how files are read.
 use Rattle.std.specs.Prelude.{◌≡◌, refl, true, false, List, [], ◌∷◌, codes, Some, None}
 use Rattle.toml_edit_model.specs.Text.{Text}
-use Rattle.toml_edit_files.specs.Requests.{help_by, kind_of, reading_in, shape_in}
+use Rattle.toml_edit_files.specs.Requests.{help_by, reading_in, shape_in}
 use Rattle.toml_edit_files.specs.Split.{Words, has, last_of, split_words}
 use Rattle.toml_edit_files.specs.declared.help.Topic.TheVariants as topics
-use Rattle.toml_edit_files.specs.declared.words.Kind.TheVariants as kinds
 use Rattle.toml_edit_files.specs.declared.words.Reading.{Reading}
-use Rattle.toml_edit_files.specs.declared.words.Shape.TheVariants as shapes
+use Rattle.toml_edit_items.specs.declared.shape.Shape.TheVariants as shapes
 
 abbrev these : List (Text × Text) → List Text → Words
 these os ws = record { options = os; operands = ws; pending = None; left = 0; ended = false }
@@ -57,6 +56,3 @@ strict-get = refl
 
 two-topics : help_by (codes "get" ∷ codes "has" ∷ []) ≡ None
 two-topics = refl
-
-array-of-tables : kind_of (codes "tables") ≡ Some kinds.Tables
-array-of-tables = refl

@@ -2,7 +2,7 @@
 use Rattle.std.proofs.Common.{◌≤◌, ◌<◌, ◌∙◌, ap, arith, length, map, sym}
 use Rattle.toml_edit_files.specs.Requests.{shape_in}
 use Rattle.toml_edit_files.specs.Split.{split_of}
-use Rattle.toml_edit_files.specs.declared.words.Shape.TheVariants.{Spelled}
+use Rattle.toml_edit_items.specs.declared.shape.Shape.TheVariants.{Spelled}
 use Rattle.toml_edit_files.proofs.OperandLaws.{lines-turn, raw-turn, shape-passed}
 use Rattle.toml_edit_files.proofs.SplitLaws.{none-of, option_of}
 use Rattle.toml_edit_files.proofs.request.shape_of.Goals as goal

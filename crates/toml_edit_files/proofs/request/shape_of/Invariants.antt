@@ -2,7 +2,7 @@
 use Rattle.std.proofs.Common.{◌≡◌, drop, map}
 use Rattle.toml_edit_files.specs.Requests.{shape_in}
 use Rattle.toml_edit_files.specs.Split.{split_of}
-use Rattle.toml_edit_files.specs.declared.words.Shape.TheVariants.{Spelled}
+use Rattle.toml_edit_items.specs.declared.shape.Shape.TheVariants.{Spelled}
 use Rattle.toml_edit_files.proofs.SplitLaws.{option_of}
 use Rattle.toml_edit_files.proofs.request.shape_of.Given as goal
 

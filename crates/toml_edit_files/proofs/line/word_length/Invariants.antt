@@ -1,7 +1,0 @@
--- The bytes up to here are in the word.
-use Rattle.std.proofs.Common.{◌≡◌, ◌++◌, None, false, drop, take}
-use Rattle.toml_edit_files.specs.Lines.{word_from}
-use Rattle.toml_edit_files.proofs.line.word_length.Given as goal
-
-abbrev pub invariant-loop-at : goal.invariant-loop-at
-invariant-loop-at l = word_from None false l.line ≡ take l.at l.line ++ word_from l.quote l.escaped (drop l.at l.line)

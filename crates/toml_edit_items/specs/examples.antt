@@ -1,0 +1,3 @@
+-- Worked kinds, texts, keys and paths of items.
+pub mod Items
+pub mod Below
