@@ -15,10 +15,10 @@ what is built, which takes some two minutes each, and what was found. It wants t
 - `calls`: up to eight calls on one document, as the steps of a row of `test_rows_tables`. The first byte says how many, and each has a byte
   for the call and one for each argument; behind them is the document. Where it fits after the calls, its print is accepted.
 - `edit`: `tomlfile edit` by a script. The first line of the input has a letter for each word, `s` for `strict`, `n` for `normal` and `l` for
-  `--locked`; the script ends at the first empty line, and the rest is the document. It ends with a status up to 5. What it writes is accepted
+  `--locked`; the script ends at the first empty line, and the rest is the document. It ends with a status up to 6. What it writes is accepted
   by `check` under the same words, and what no edit makes of that stays where no edit is made.
 - `fmt`: `tomlfile fmt`. The first line has such letters, and `k` for `--keys`; the second is the PATH of `--sort`, if it isn't empty; the rest
-  is the document. It ends with a status up to 5. What it writes is accepted, formatted again it is the same, and it stays where no edit is made.
+  is the document. It ends with a status up to 6. What it writes is accepted, formatted again it is the same, and it stays where no edit is made.
 
 No file is opened: a script is in memory, too, and under any other name nothing is found.
 
@@ -182,7 +182,7 @@ static int run_command(const char *letters, const uint8_t *text, size_t length, 
   words[count++] = "-";
   for (size_t at = 0; at < 3; at++) if (command.words[at]) words[count++] = command.words[at];
   int status = run(text, length);
-  if (status < 0 || status > 5) wrong("the status");
+  if (status < 0 || status > 6) wrong("the status");
   return status;
 }
 /* Runs a command on a text, which must be done, and leave the text if it is to stay. */

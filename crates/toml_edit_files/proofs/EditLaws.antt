@@ -20,7 +20,7 @@ use Rattle.toml_edit_edits.specs.declared.fault.EditFault.TheVariants as faults
 use Rattle.toml_edit_files.specs.Edited.{IsAccepted, IsInForm, IsLeft, IsNotEdited, IsNotInForm, IsNotMade, IsNotWritten, IsRead, IsWritten, mark_of, mode_by, unmarked}
 use Rattle.toml_edit_files.specs.Stops.{reason_for}
 use Rattle.toml_edit_files.specs.declared.stop.Reason.{Reason}
-use Rattle.toml_edit_files.specs.declared.stop.Reason.TheVariants.{No, Mistaken, Failed, Refused}
+use Rattle.toml_edit_files.specs.declared.stop.Reason.TheVariants.{No, Mistaken, Failed, Refused, Locked}
 use Rattle.toml_edit_files.specs.declared.words.Reading.{Reading}
 
 -- ---- one is refused
@@ -99,7 +99,8 @@ module _ (reading : Reading) (t : Text) (d : DocumentMut) (read : IsRead reading
   locked is_locked (Some No) edits h = absurd h
   locked is_locked (Some Mistaken) edits h = absurd h
   locked is_locked (Some Failed) edits h = h
-  locked is_locked (Some Refused) edits h =
+  locked is_locked (Some Refused) edits h = h
+  locked is_locked (Some Locked) edits h =
       (h.0, (read.reading.document, read.accepted read.reading.document read.reading.accepted.0), λ form. h.1 (print_in_form form))
 
 -- ---- what edits leave
@@ -110,20 +111,22 @@ module _ (reading : Reading) (edits : List Edit) (x : Tree) (is_open : Bool) (be
   None_left = (s : Text) → IsLeft reading edits x is_open before s → ⊥
 
   pub not_edited : (is_locked : Bool) (why : Option Reason) → IsRead reading before x is_open
-      → ((r : Reason) → why ≡ Some r → (r ≢ Failed) × (r ≢ Refused) × None_left) → IsNotEdited reading is_locked edits before why
+      → ((r : Reason) → why ≡ Some r → (r ≢ Failed) × (r ≢ Refused) × (r ≢ Locked) × None_left) → IsNotEdited reading is_locked edits before why
   not_edited is_locked None read none = tt
-  not_edited is_locked (Some No) read none = (x, is_open, read, (none No refl).2)
-  not_edited is_locked (Some Mistaken) read none = (x, is_open, read, (none Mistaken refl).2)
+  not_edited is_locked (Some No) read none = (x, is_open, read, (none No refl).3)
+  not_edited is_locked (Some Mistaken) read none = (x, is_open, read, (none Mistaken refl).3)
   not_edited is_locked (Some Failed) read none = (none Failed refl).0 refl
-  not_edited is_locked (Some Refused) read none = absurd ((none Refused refl).1 refl)
+  not_edited is_locked (Some Refused) read none = (none Refused refl).1 refl
+  not_edited is_locked (Some Locked) read none = absurd ((none Locked refl).2 refl)
 
   pub none_made : (why : Option Reason) → IsNotMade edits x why
-      → (r : Reason) → why ≡ Some r → (r ≢ Failed) × (r ≢ Refused) × None_left
+      → (r : Reason) → why ≡ Some r → (r ≢ Failed) × (r ≢ Refused) × (r ≢ Locked) × None_left
   none_made None h r is = absurd (let no : None ≡ Some r = is in cc)
-  none_made (Some No) h r is = ((λ e. cc), (λ e. cc), λ s left. h left.left left.applied)
-  none_made (Some Mistaken) h r is = ((λ e. cc), (λ e. cc), λ s left. h left.left left.applied)
+  none_made (Some No) h r is = ((λ e. cc), (λ e. cc), (λ e. cc), λ s left. h left.left left.applied)
+  none_made (Some Mistaken) h r is = ((λ e. cc), (λ e. cc), (λ e. cc), λ s left. h left.left left.applied)
   none_made (Some Failed) h r is = absurd h
   none_made (Some Refused) h r is = absurd h
+  none_made (Some Locked) h r is = absurd h
 
   module _ (d : DocumentMut) (made : applied edits x ≡ Ok (tree_owned d)) (by_mode : mode_owned d ≡ mode_by reading)
       (same_end : open_owned d ≡ is_open) where
@@ -158,13 +161,15 @@ module _ (reading : Reading) (edits : List Edit) (x : Tree) (is_open : Bool) (be
         (subst (λ (y : Tree). IsAccepted v1_0 (print_in (mode_by reading) is_open y)) (same_tree s l) (l.version strict)))
 
     pub none_written : (why : Option Reason) → IsNotWritten reading d why
-        → (r : Reason) → why ≡ Some r → (r ≢ Failed) × (r ≢ Refused) × None_left
+        → (r : Reason) → why ≡ Some r → (r ≢ Failed) × (r ≢ Refused) × (r ≢ Locked) × None_left
     none_written None h r is = absurd (let no : None ≡ Some r = is in cc)
-    none_written (Some Mistaken) (inl h) r is = ((λ e. cc), (λ e. cc), misfit h)
-    none_written (Some Mistaken) (inr h) r is = ((λ e. cc), (λ e. cc), too_new h.0 h.1)
+    none_written (Some Mistaken) (inl h) r is = ((λ e. cc), (λ e. cc), (λ e. cc), misfit h)
+    none_written (Some Mistaken) (inr h) r is = ((λ e. cc), (λ e. cc), (λ e. cc), too_new h.0 h.1)
     none_written (Some No) (inl h) r is = absurd h
     none_written (Some No) (inr h) r is = absurd h.1
     none_written (Some Failed) (inl h) r is = absurd h
     none_written (Some Failed) (inr h) r is = absurd h.1
     none_written (Some Refused) (inl h) r is = absurd h
     none_written (Some Refused) (inr h) r is = absurd h.1
+    none_written (Some Locked) (inl h) r is = absurd h
+    none_written (Some Locked) (inr h) r is = absurd h.1

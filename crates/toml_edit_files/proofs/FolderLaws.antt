@@ -8,7 +8,7 @@ use Rattle.file_replace.specs.Replacing.{ReadsLocked}
 use Rattle.toml_edit_files.specs.Folders.{IsHeld, MayBegin, OnlyLooks, Stops, StopsPutting, leads, looks_at}
 use Rattle.toml_edit_files.specs.Stops.{IsFailed, reason_of}
 use Rattle.toml_edit_files.specs.declared.stop.Reason.{Reason}
-use Rattle.toml_edit_files.specs.declared.stop.Reason.TheVariants.{No, Mistaken, Failed, Refused}
+use Rattle.toml_edit_files.specs.declared.stop.Reason.TheVariants.{No, Mistaken, Failed, Refused, Locked}
 use Rattle.toml_edit_files.specs.declared.stop.Stop.{Stop}
 use Rattle.toml_edit_files.specs.declared.stop.Stop.TheVariants.{Message, Silent, Memory}
 
@@ -55,6 +55,7 @@ module _ (file : Text) (old new : Option (List Event)) where
   stops_later (Some No) h = inl h
   stops_later (Some Mistaken) h = inl h
   stops_later (Some Refused) h = inl h
+  stops_later (Some Locked) h = inl h
 
   -- the file that is named need not be the one that is written
   pub stops_beginning : (named : Text) (stop : Stop) → IsFailed named stop → MayBegin file old new → Stops file old new (reason_of stop)
@@ -64,6 +65,7 @@ module _ (file : Text) (old new : Option (List Event)) where
   stops_beginning named (Message No note) (said, is, same, about) m = absurd (let e : No ≡ Failed = is in cc)
   stops_beginning named (Message Mistaken note) (said, is, same, about) m = absurd (let e : Mistaken ≡ Failed = is in cc)
   stops_beginning named (Message Refused note) (said, is, same, about) m = absurd (let e : Refused ≡ Failed = is in cc)
+  stops_beginning named (Message Locked note) (said, is, same, about) m = absurd (let e : Locked ≡ Failed = is in cc)
 
 -- looks before it change nothing of this
 pub begins_then : (file : Text) (a b c : Option (List Event)) → OnlyLooks a b → MayBegin file b c → MayBegin file a c
@@ -76,6 +78,7 @@ stops_then file a b c (Some Failed) h m = begins_then file a b c h m
 stops_then file a b c (Some No) h k = looks_then a b c h k
 stops_then file a b c (Some Mistaken) h k = looks_then a b c h k
 stops_then file a b c (Some Refused) h k = looks_then a b c h k
+stops_then file a b c (Some Locked) h k = looks_then a b c h k
 
 -- a file that is held is not replaced
 pub held_begins : (file name : Text) (old held new : Option (List Event)) (s : Text) → IsHeld file name old held s → StopsPutting name held new

@@ -27,7 +27,7 @@ use Rattle.toml_edit_files.specs.FormatFiles.{IsFormatted, IsFormattedOnly, IsLa
 use Rattle.toml_edit_files.specs.Folders.{IsReadOf}
 use Rattle.toml_edit_files.specs.Stops.{reason_for, reason_of}
 use Rattle.toml_edit_files.specs.declared.stop.Reason.{Reason}
-use Rattle.toml_edit_files.specs.declared.stop.Reason.TheVariants.{No, Mistaken, Failed, Refused}
+use Rattle.toml_edit_files.specs.declared.stop.Reason.TheVariants.{No, Mistaken, Failed, Refused, Locked}
 use Rattle.toml_edit_files.specs.declared.stop.Stop.{Stop}
 use Rattle.toml_edit_files.specs.declared.words.Reading.{Reading}
 use Rattle.toml_edit_files.specs.declared.words.Style.{Style}
@@ -93,19 +93,21 @@ sort_wrong es i e x all below is so why none =
     by (Some Mistaken) h at = λ y made. then_none (drop (i + 1) es) (passing_over x (effect e x)) h y (at ∙ made)
     by (Some Failed) h at = h
     by (Some Refused) h at = h
+    by (Some Locked) h at = h
 
 same_sorted : (x y : Tree) (r : Result Tree EditFault) → r ≡ Ok x → r ≡ Ok y → x ≡ y
 same_sorted x y r is at = ap (tree_of x) (sym is ∙ at)
 
 -- so no text is formatted
 not_formatted : (reading : Reading) (style : Style) (before : Text) (x : Tree) (is_open : Bool) (why : Option Reason) → IsRead reading before x is_open
-    → ((r : Reason) → why ≡ Some r → (r ≢ Failed) × (r ≢ Refused) × ((s : Text) → IsLaidOut reading style x is_open before s → ⊥))
+    → ((r : Reason) → why ≡ Some r → (r ≢ Failed) × (r ≢ Refused) × (r ≢ Locked) × ((s : Text) → IsLaidOut reading style x is_open before s → ⊥))
     → IsNotFormatted reading style before why
 not_formatted reading style before x is_open None read none = tt
-not_formatted reading style before x is_open (Some No) read none = (x, is_open, read, (none No refl).2)
-not_formatted reading style before x is_open (Some Mistaken) read none = (x, is_open, read, (none Mistaken refl).2)
+not_formatted reading style before x is_open (Some No) read none = (x, is_open, read, (none No refl).3)
+not_formatted reading style before x is_open (Some Mistaken) read none = (x, is_open, read, (none Mistaken refl).3)
 not_formatted reading style before x is_open (Some Failed) read none = (none Failed refl).0 refl
 not_formatted reading style before x is_open (Some Refused) read none = absurd ((none Refused refl).1 refl)
+not_formatted reading style before x is_open (Some Locked) read none = absurd ((none Locked refl).2 refl)
 
 pub unsorted_none : (reading : Reading) (style : Style) (before : Text) (x : Tree) (is_open : Bool) (why : Option Reason) → IsRead reading before x is_open
     → IsNotSorted (sorted_by style.sorts.items x) why → IsNotFormatted reading style before why
@@ -114,6 +116,7 @@ unsorted_none reading style before x is_open (Some No) read none = (x, is_open, 
 unsorted_none reading style before x is_open (Some Mistaken) read none = (x, is_open, read, λ s f. none f.left f.sorted)
 unsorted_none reading style before x is_open (Some Failed) read none = none
 unsorted_none reading style before x is_open (Some Refused) read none = absurd none
+unsorted_none reading style before x is_open (Some Locked) read none = absurd none
 
 -- no sort changes nothing
 unsorted : (sorts : List Edit) (x y : Tree) → sorts ≡ [] → sorted_by sorts x ≡ Ok y → y ≡ x
@@ -179,7 +182,8 @@ module _ (reading : Reading) (style : Style) (before : Text) (x : Tree) (is_open
       (λ r is. let h = none_written reading [] (tree_owned d) is_open before d refl by_mode same_end why none r is in (
         h.0,
         h.1,
-        λ s f. h.2 s (subst (λ (t : Tree). IsLeft reading [] t is_open before s)
+        h.2,
+        λ s f. h.3 s (subst (λ (t : Tree). IsLeft reading [] t is_open before s)
             (ap (formatted_by reading style.keys before) (same_sorted f.left y (sorted_by style.sorts.items x) f.sorted sorted) ∙ sym laid) f.written),
       ))
 

@@ -10,7 +10,7 @@ use Rattle.toml_edit_files.specs.Stops.{IsFor, IsMistaken, reason_of}
 use Rattle.toml_edit_files.specs.declared.help.Topic.{Topic}
 use Rattle.toml_edit_files.specs.declared.split.Split.{Split}
 use Rattle.toml_edit_files.specs.declared.stop.Reason.{Reason}
-use Rattle.toml_edit_files.specs.declared.stop.Reason.TheVariants.{No, Mistaken, Failed, Refused}
+use Rattle.toml_edit_files.specs.declared.stop.Reason.TheVariants.{No, Mistaken, Failed, Refused, Locked}
 use Rattle.toml_edit_files.specs.declared.stop.Stop.{Stop}
 
 pub map-more : {A B : Type 0} (f : A → B) (xs : List A) (x : A) → map f (xs ++ (x ∷ [])) ≡ map f xs ++ (f x ∷ [])
@@ -33,6 +33,8 @@ by-mistake Why (Some Failed) so (inl is) = absurd (let no : Some Failed ≡ None
 by-mistake Why (Some Failed) so (inr is) = absurd (let no : Some Failed ≡ Some Mistaken = is in cc)
 by-mistake Why (Some Refused) so (inl is) = absurd (let no : Some Refused ≡ None = is in cc)
 by-mistake Why (Some Refused) so (inr is) = absurd (let no : Some Refused ≡ Some Mistaken = is in cc)
+by-mistake Why (Some Locked) so (inl is) = absurd (let no : Some Locked ≡ None = is in cc)
+by-mistake Why (Some Locked) so (inr is) = absurd (let no : Some Locked ≡ Some Mistaken = is in cc)
 
 pub mistaken-for : (A B : Type 0) (why : Option Reason) → (A → B) → IsMistaken A why → IsMistaken B why
 mistaken-for A B None f h = tt
@@ -40,6 +42,7 @@ mistaken-for A B (Some Mistaken) f h = f h
 mistaken-for A B (Some No) f h = h
 mistaken-for A B (Some Failed) f h = h
 mistaken-for A B (Some Refused) f h = h
+mistaken-for A B (Some Locked) f h = h
 
 module _ (topic : Topic) (s : Words) (w : Text) where
   -- the operand of an option

@@ -16,7 +16,7 @@ use Rattle.toml_edit_files.specs.Refusals.{SaysRefused, refusal_text}
 use Rattle.toml_edit_files.specs.Stops.{IsFailed, IsFor, IsUnread, Reads, StopsSaying, reason_of, status_of}
 use Rattle.toml_edit_files.specs.declared.outcome.Done.{Done}
 use Rattle.toml_edit_files.specs.declared.stop.Reason.{Reason}
-use Rattle.toml_edit_files.specs.declared.stop.Reason.TheVariants.{No, Mistaken, Failed, Refused}
+use Rattle.toml_edit_files.specs.declared.stop.Reason.TheVariants.{No, Mistaken, Failed, Refused, Locked}
 use Rattle.toml_edit_files.specs.declared.stop.Stop.{Stop}
 use Rattle.toml_edit_files.specs.declared.stop.Stop.TheVariants.{Message, Silent, Memory}
 use Rattle.toml_edit_files.specs.declared.told.Told.{Told}
@@ -80,6 +80,7 @@ stop_told told Silent other tells = tells
 stop_told told (Message No note) other tells = tells
 stop_told told (Message Mistaken note) other tells = tells
 stop_told told (Message Failed note) other tells = tells
+stop_told told (Message Locked note) other tells = tells
 stop_told told (Message Refused note) other tells = absurd (other refl)
 
 -- the output has the message of a refusal, unless memory runs out

@@ -20,7 +20,7 @@ use Rattle.toml_edit_files.specs.Stops.{StopsSaying}
 use Rattle.toml_edit_edits.specs.Lists.{applied}
 use Rattle.toml_edit_edits.specs.declared.edit.Edit.{Edit}
 use Rattle.toml_edit_files.specs.declared.stop.Reason.{Reason}
-use Rattle.toml_edit_files.specs.declared.stop.Reason.TheVariants.{No, Mistaken, Failed, Refused}
+use Rattle.toml_edit_files.specs.declared.stop.Reason.TheVariants.{No, Mistaken, Failed, Refused, Locked}
 use Rattle.toml_edit_files.specs.declared.stop.Stop.{Stop}
 use Rattle.toml_edit_files.specs.declared.words.Reading.{Reading}
 
@@ -130,7 +130,7 @@ IsNotWritten reading d reason =
 -- why a text is locked, by its normal form and itself
 abbrev pub IsNotInForm : Bool → Text → Text → Option Reason → Type 0
 IsNotInForm locked form t None = Unit {0}
-IsNotInForm locked form t (Some Refused) = IsTrue locked × (form ≢ t)
+IsNotInForm locked form t (Some Locked) = IsTrue locked × (form ≢ t)
 IsNotInForm locked form t (Some _) = ⊥
 
 -- Why a text that is read is not edited: it is not in its normal form and is locked; or the edits leave
@@ -138,7 +138,8 @@ IsNotInForm locked form t (Some _) = ⊥
 abbrev pub IsNotEdited : Reading → Bool → List Edit → Text → Option Reason → Type 0
 IsNotEdited reading locked edits t None = Unit {0}
 IsNotEdited reading locked edits t (Some Failed) = ⊥
-IsNotEdited reading locked edits t (Some Refused) =
+IsNotEdited reading locked edits t (Some Refused) = ⊥
+IsNotEdited reading locked edits t (Some Locked) =
     IsTrue locked × IsAccepted (version_by reading) t × ¬ (IsInForm reading t)
 IsNotEdited reading locked edits t (Some _) =
     (x : Tree) × (is_open : Bool) × IsRead reading t x is_open

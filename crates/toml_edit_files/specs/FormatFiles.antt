@@ -22,7 +22,7 @@ use Rattle.toml_edit_files.specs.Outcomes.{TellsAlone, TellsRefused, TellsStop}
 use Rattle.toml_edit_files.specs.Stops.{IsUnread, reason_of}
 use Rattle.toml_edit_files.specs.declared.told.Told.{Told}
 use Rattle.toml_edit_files.specs.declared.stop.Reason.{Reason}
-use Rattle.toml_edit_files.specs.declared.stop.Reason.TheVariants.{No, Mistaken, Failed, Refused}
+use Rattle.toml_edit_files.specs.declared.stop.Reason.TheVariants.{No, Mistaken, Failed, Refused, Locked}
 use Rattle.toml_edit_files.specs.declared.stop.Stop.{Stop}
 use Rattle.toml_edit_files.specs.declared.words.Fmt.{Fmt}
 use Rattle.toml_edit_files.specs.declared.words.Reading.{Reading}
@@ -86,6 +86,7 @@ abbrev pub IsNotFormatted : Reading → Style → Text → Option Reason → Typ
 IsNotFormatted reading style t None = Unit {0}
 IsNotFormatted reading style t (Some Failed) = ⊥
 IsNotFormatted reading style t (Some Refused) = ⊥
+IsNotFormatted reading style t (Some Locked) = ⊥
 IsNotFormatted reading style t (Some _) =
     (x : Tree) × (is_open : Bool) × IsRead reading t x is_open
     × ((s : Text) → ¬ (IsLaidOut reading style x is_open t s))

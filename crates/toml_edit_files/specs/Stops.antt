@@ -5,7 +5,7 @@ use Rattle.toml_edit_files.specs.Notes.{note_text}
 use Rattle.toml_edit_files.specs.declared.stop.Reason.{Reason}
 use Rattle.toml_edit_edits.specs.declared.fault.EditFault.{EditFault}
 use Rattle.toml_edit_edits.specs.declared.fault.EditFault.TheVariants as faults
-use Rattle.toml_edit_files.specs.declared.stop.Reason.TheVariants.{No, Mistaken, Failed, Refused}
+use Rattle.toml_edit_files.specs.declared.stop.Reason.TheVariants.{No, Mistaken, Failed, Refused, Locked}
 use Rattle.toml_edit_files.specs.declared.stop.Stop.{Stop}
 use Rattle.toml_edit_files.specs.declared.stop.Stop.TheVariants.{Message, Silent, Memory}
 
@@ -70,3 +70,4 @@ status_of (Some No) = 1
 status_of (Some Mistaken) = 2
 status_of (Some Failed) = 4
 status_of (Some Refused) = 5
+status_of (Some Locked) = 6

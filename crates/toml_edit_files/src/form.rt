@@ -46,7 +46,7 @@ pub fn check_form(
     let (file, print) = (command.file, print.as_str());
     if command.locked {
         let note = lines_note(alloc, file, text, print, "lines are not in normal form")?;
-        return Err(Stop::Message(Reason::Refused, note));
+        return Err(Stop::Message(Reason::Locked, note));
     }
     let note = lines_note(alloc, file, text, print, "lines are brought to normal form")?;
     Ok(note.text)

@@ -39,7 +39,8 @@ use toml_edit_io::{Input, Output, write_all};
 /// - 2: the words are no command, or what they say of the document cannot be done.
 /// - 3: out of memory.
 /// - 4: a file or a stream has failed, or a file has changed meanwhile, or is read-only.
-/// - 5: a file is not UTF-8 or not TOML, or is refused by `--locked`.
+/// - 5: a file is not UTF-8 or not TOML.
+/// - 6: `--locked` refuses a file.
 ///
 /// A message about each file that is not done goes to `errors`. A command that stops has no output,
 /// and no file has changed; at 3 and 4 one that it writes holds the text before or the new one. But
@@ -53,7 +54,7 @@ pub fn run<F: Folder, I: Input, O: Output, E: Output>(
     output: &mut O,
     errors: &mut E,
 ) -> u8
-    ensures status { result ≤ 5 }
+    ensures status { result ≤ 6 }
     ensures ends { (told : Told) × (line : Text)
         × Ends (F.history folder.old) (F.history folder.new) (I.remaining input.old)
         (map string_bytes words.now) told

@@ -30,6 +30,8 @@ pub enum Reason {
     Failed,
     /// What is read is refused.
     Refused,
+    /// The file would change at other places, and `--locked` refuses that.
+    Locked,
 }
 
 /// The exit status of a command that is done.
@@ -54,6 +56,7 @@ impl Reason {
             Reason::Mistaken => 2,
             Reason::Failed => FAILED,
             Reason::Refused => 5,
+            Reason::Locked => 6,
         }
     }
 }

@@ -42,13 +42,13 @@ pub struct Told {
     pub status: u8,
     pub output: String,
     pub notes: String,
-    ghost known: { status ≤ 5 },
+    ghost known: { status ≤ 6 },
 }
 
 impl Told {
     /// Returns a status, with nothing to write.
     pub fn new(alloc: Global, status: u8) -> Told
-        requires { status ≤ 5 }
+        requires { status ≤ 6 }
         ensures status { result.status ≡ status }
         ensures output { string_bytes result.output ≡ [] }
         ensures notes { string_bytes result.notes ≡ [] }
