@@ -6,6 +6,8 @@ use Rattle.toml_edit_model.specs.Version.{Version, v1_0, v1_1}
 use Rattle.toml_edit_command.specs.Words.{Request}
 use Rattle.toml_edit_parser.specs.Options.{mode_of, version_of}
 use Rattle.toml_edit_parser.specs.declared.options.ParseOptions.{ParseOptions}
+use Rattle.toml_edit_c.specs.declared.calls.Call.{Call}
+use Rattle.toml_edit_c.specs.declared.calls.Call.TheVariants.{Print, Get, Set, Remove}
 
 -- the mode and the version that the flags stand for; other flags are none
 abbrev pub options_by : ℕ → Option (Mode × Version)
@@ -23,8 +25,8 @@ abbrev pub ask : ℕ → List Text → Option Request
 ask flags words = option_map (request_in words) (options_by flags)
 
 -- the same by options
-abbrev pub ask_by : ParseOptions → List Text → Option Request
-ask_by options words = Some (request_in words (mode_of options, version_of options))
+abbrev pub asked_by : ParseOptions → List Text → Request
+asked_by options words = request_in words (mode_of options, version_of options)
 
 -- ---- the words
 
@@ -39,3 +41,10 @@ set_words path value = codes "set" ∷ path ∷ value ∷ []
 
 abbrev pub remove_words : Text → List Text
 remove_words path = codes "remove" ∷ path ∷ []
+
+-- those of a call
+abbrev pub words_of : Call → List Text
+words_of Print = print_words
+words_of (Get path) = get_words path.now
+words_of (Set path value) = set_words path.now value.now
+words_of (Remove path) = remove_words path.now

@@ -14,8 +14,8 @@ use Rattle.toml_edit_command.specs.Written.{Held, IsReadAs}
 use Rattle.toml_edit_c.specs.Asks.{options_by}
 use Rattle.toml_edit_c.specs.Made.{MayStopReading}
 use Rattle.toml_edit_c.specs.Statuses.{status_of}
-use Rattle.toml_edit_c.specs.declared.stop.Stop.{Stop}
-use Rattle.toml_edit_c.specs.declared.stop.Stop.TheVariants.{Flags}
+use Rattle.toml_edit_c.specs.declared.answer.Stop.{Stop}
+use Rattle.toml_edit_c.specs.declared.answer.Stop.TheVariants.{Flags}
 
 -- the usual rules for the text, with its newlines where the mode keeps them
 abbrev pub rules_in : Mode → Text → Rules

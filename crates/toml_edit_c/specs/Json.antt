@@ -11,8 +11,8 @@ use Rattle.toml_edit_json.specs.Values.{json_text}
 use Rattle.toml_edit_c.specs.Asks.{options_by}
 use Rattle.toml_edit_c.specs.Made.{MayStopPath, MayStopReading}
 use Rattle.toml_edit_c.specs.Statuses.{status_of}
-use Rattle.toml_edit_c.specs.declared.stop.Stop.{Stop}
-use Rattle.toml_edit_c.specs.declared.stop.Stop.TheVariants.{Memory, NoSuchPath, Flags}
+use Rattle.toml_edit_c.specs.declared.answer.Stop.{Stop}
+use Rattle.toml_edit_c.specs.declared.answer.Stop.TheVariants.{Memory, NoSuchPath, Flags}
 
 -- the item is at the path, or is the root under the empty path
 abbrev pub IsItemAt : Text → Tree → Node → Type 0

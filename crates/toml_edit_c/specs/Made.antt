@@ -8,13 +8,13 @@ use Rattle.toml_edit_model.specs.Tree.{Tree}
 use Rattle.toml_edit_model.specs.Fits.{FitsIn}
 use Rattle.toml_edit_command.specs.Words.{Action, Request, IsSet, Says, TakesPath}
 use Rattle.toml_edit_words.specs.Spelled.{IsNoPath, IsNoValue, SpellsPath}
-use Rattle.toml_edit_command.specs.Written.{Held, IsHeldOf, IsReadAs, Makes, Writes}
+use Rattle.toml_edit_command.specs.Written.{Held, IsHeldOf, IsReadAs, Writes}
 use Rattle.toml_edit_command.specs.Mistakes.{InTree}
 use Rattle.toml_edit_command.specs.Run.{IsRefused}
 use Rattle.toml_edit_command.specs.declared.error.CommandError.TheVariants as mistakes
 use Rattle.toml_edit_c.specs.Statuses.{status_of}
-use Rattle.toml_edit_c.specs.declared.stop.Stop.{Stop}
-use Rattle.toml_edit_c.specs.declared.stop.Stop.TheVariants.{Refused, NotUtf8, Path, Value, NoSuchPath, WrongKind, Unfit, Memory, Flags, Script, NoSuchElement, Taken, Comment}
+use Rattle.toml_edit_c.specs.declared.answer.Stop.{Stop}
+use Rattle.toml_edit_c.specs.declared.answer.Stop.TheVariants.{Refused, NotUtf8, Path, Value, NoSuchPath, WrongKind, Unfit, Memory, Flags, Script, NoSuchElement, Taken, Comment}
 
 -- ---- what is made
 
@@ -97,10 +97,6 @@ StopsWith asked text status =
     (stop : Stop) × (status ≡ status_of stop) × StopsCall asked text stop
 
 -- ---- on the way
-
--- what the action makes of what is held of the text
-abbrev pub MakesOf : Mode → Version → Action → Text → Text → Type 0
-MakesOf mode version a text x = (h : Held) × IsHeldOf mode version text h × Makes a h x
 
 -- the print of a tree that does not fit, or for which memory ran out
 abbrev pub StopsPrinting : Held → Stop → Type 0

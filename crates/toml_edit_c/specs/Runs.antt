@@ -38,6 +38,10 @@ pub record Rooms : Type 0 where
   pub errors_old : List ℕ
   pub errors_new : List ℕ
 
+abbrev pub rooms : List ℕ → List ℕ → List ℕ → List ℕ → Rooms
+rooms out out' err err' =
+    record { output_old = out; output_new = out'; errors_old = err; errors_new = err' }
+
 -- both texts are in their rooms
 abbrev pub AreGiven : Text → Text → Rooms → Type 0
 AreGiven out err r =

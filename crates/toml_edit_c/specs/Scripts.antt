@@ -19,9 +19,9 @@ use Rattle.toml_edit_c.specs.Asks.{options_by}
 use Rattle.toml_edit_c.specs.Made.{MayStopReading}
 use Rattle.toml_edit_c.specs.Split.{words_in}
 use Rattle.toml_edit_c.specs.Statuses.{of_edit, of_none, status_of}
-use Rattle.toml_edit_c.specs.declared.stop.EditStop.{EditStop}
-use Rattle.toml_edit_c.specs.declared.stop.Stop.{Stop}
-use Rattle.toml_edit_c.specs.declared.stop.Stop.TheVariants as stops
+use Rattle.toml_edit_c.specs.declared.answer.EditStop.{EditStop}
+use Rattle.toml_edit_c.specs.declared.answer.Stop.{Stop}
+use Rattle.toml_edit_c.specs.declared.answer.Stop.TheVariants as stops
 
 -- ---- why a script has no edits
 

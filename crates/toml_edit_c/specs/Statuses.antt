@@ -1,10 +1,11 @@
 -- The numbers of the reasons why there is no text.
 use Rattle.std.specs.Prelude.{ℕ}
-use Rattle.toml_edit_paths.specs.declared.fault.ChangeFault.{ChangeFault}
-use Rattle.toml_edit_paths.specs.declared.fault.ChangeFault.TheVariants as faults
-use Rattle.toml_edit_c.specs.declared.stop.EditStop.{EditStop}
-use Rattle.toml_edit_c.specs.declared.stop.Stop.{Stop}
-use Rattle.toml_edit_c.specs.declared.stop.Stop.TheVariants.{Refused, NotUtf8, Path, Value, NoSuchPath, WrongKind, Unfit, Memory, Flags, Script, NoSuchElement, Taken, Comment}
+use Rattle.toml_edit_command.specs.declared.error.CommandError.TheVariants as mistakes
+use Rattle.toml_edit_command.specs.declared.error.RunError.{RunError}
+use Rattle.toml_edit_command.specs.declared.error.RunError.TheVariants as errors
+use Rattle.toml_edit_c.specs.declared.answer.EditStop.{EditStop}
+use Rattle.toml_edit_c.specs.declared.answer.Stop.{Stop}
+use Rattle.toml_edit_c.specs.declared.answer.Stop.TheVariants.{Refused, NotUtf8, Path, Value, NoSuchPath, WrongKind, Unfit, Memory, Flags, Script, NoSuchElement, Taken, Comment}
 
 abbrev pub status_of : Stop → ℕ
 status_of Refused = 2
@@ -21,11 +22,19 @@ status_of NoSuchElement = 12
 status_of Taken = 13
 status_of Comment = 14
 
--- a fault of a change stops a call so
-abbrev pub stop_for : ChangeFault → Stop
-stop_for faults.NoSuchPath = NoSuchPath
-stop_for faults.WrongKind = WrongKind
-stop_for faults.Memory = Memory
+-- what ends a command stops a call so
+abbrev pub stop_for : RunError → Stop
+stop_for errors.NotUtf8 = NotUtf8
+stop_for (errors.Refused e) = Refused
+stop_for (errors.Mistaken mistakes.Words) = Script
+stop_for (errors.Mistaken mistakes.Path) = Path
+stop_for (errors.Mistaken mistakes.Value) = Value
+stop_for (errors.Mistaken mistakes.NoSuchPath) = NoSuchPath
+stop_for (errors.Mistaken mistakes.WrongKind) = WrongKind
+stop_for (errors.Mistaken mistakes.Unfit) = Unfit
+stop_for errors.Memory = Memory
+stop_for errors.ReadFailed = Memory
+stop_for errors.WriteFailed = Memory
 
 -- the reason is about no edit
 abbrev pub of_none : Stop → EditStop

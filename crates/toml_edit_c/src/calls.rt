@@ -1,208 +1,201 @@
-//! What the exports do before they give a text to the caller.
-ghost use Rattle.std.specs.Prelude.{IfErr, IfOk, string_bytes};
-ghost use Rattle.toml_edit_c.specs.Asks.{ask, ask_by, get_words, print_words, remove_words, set_words};
-ghost use Rattle.toml_edit_c.specs.Made.{IsMadeBy, MakesOf, StopsAction, StopsCall};
-ghost use Rattle.toml_edit_command.specs.Words.{getting, removing, setting};
-ghost use Rattle.toml_edit_model.specs.Keys.{names};
-ghost use Rattle.toml_edit_parser.specs.Options.{mode_of, version_of};
-ghost use Rattle.toml_edit_tree.specs.View.{value_view};
+//! The texts that calls give, each of a text and its words.
+ghost use Rattle.std.specs.Prelude.{◌≡◌, IfErr, IfOk, string_bytes};
+ghost use Rattle.toml_edit.specs.DocumentView.{tree_owned};
+ghost use Rattle.toml_edit_c.specs.Asks.{ask, asked_by, words_of};
+ghost use Rattle.toml_edit_c.specs.Formats.{IsFormattedBy, StopsFormatBy, print_formatted};
+ghost use Rattle.toml_edit_c.specs.Json.{IsItemAt, IsJsonBy, StopsItem, StopsJsonBy};
+ghost use Rattle.toml_edit_c.specs.Made.{IsMadeBy, StopsCall, StopsInWords, StopsPrinting};
+ghost use Rattle.toml_edit_c.specs.Scripts.{IsEdited, IsEditedBy, StopsEditBy, StopsEditing, StopsScript, stop_of_edit, stop_of_word};
+ghost use Rattle.toml_edit_c.specs.Split.{words_in};
+ghost use Rattle.toml_edit_c.specs.declared.answer.Stop.TheVariants.{Memory};
+ghost use Rattle.toml_edit_command.specs.Steps.{action_of};
+ghost use Rattle.toml_edit_command.specs.Words.{Says};
+ghost use Rattle.toml_edit_command.specs.Written.{held, IsPrintFor};
+ghost use Rattle.toml_edit_edits.specs.Said.{SaysEdits};
+ghost use Rattle.toml_edit_json.specs.Values.{json_text};
+ghost use Rattle.toml_edit_model.specs.Tree.{Node};
+ghost use Rattle.toml_edit_parser.specs.Options.{version_of};
+ghost use Rattle.toml_edit_tree.specs.View.{item_view};
 
-use crate::flags::options_of;
-use crate::read::read;
-use crate::stop::Stop;
-use crate::words::{path_of, value_of};
-use crate::{edit, get as item};
+use crate::answer::{EditStop, Stop};
+use crate::given::{options_of, path_of, read, split, value_of};
+use crate::run::Held;
 use std::alloc::Global;
-use toml_edit::{Key, ParseOptions, Value};
+use std::str;
+use toml_edit::{DocumentMut, Item, Mem, ParseOptions};
+use toml_edit_command::{Command, Ending, perform};
+use toml_edit_edits::{Edit, EditFault, WordFault, apply, edits_of};
+use toml_edit_fmt::Rules;
+use toml_edit_fmt_laws::formatted_reads;
+use toml_edit_io::{Watched, print};
+use toml_edit_json::Json;
 
-/// Returns the print of the text.
-pub fn print(alloc: Global, flags: u32, text: &[u8]) -> Result<String, Stop>
-    ensures made { IfOk result
-        (λ s. IsMadeBy (ask flags print_words) text.now (string_bytes s)) }
-    ensures stops { IfErr result (StopsCall (ask flags print_words) text.now) }
-{
-    match options_of(flags) {
-        Some(options) => print_by(alloc, options, text),
-        None => Err(Stop::Flags),
-    }
+/// What a call does with its text.
+#[derive(Clone, Copy)]
+pub enum Call<'a> {
+    Print,
+    /// Gets the item at a path.
+    Get(&'a [u8]),
+    /// Puts a value at a path.
+    Set(&'a [u8], &'a [u8]),
+    /// Removes the item at a path.
+    Remove(&'a [u8]),
 }
 
-/// Returns the text of the item at the path.
-pub fn get(alloc: Global, flags: u32, text: &[u8], path: &[u8]) -> Result<String, Stop>
-    ensures made { IfOk result
-        (λ s. IsMadeBy (ask flags (get_words path.now)) text.now (string_bytes s)) }
-    ensures stops { IfErr result (StopsCall (ask flags (get_words path.now)) text.now) }
+/// Returns the text that the call makes.
+pub fn make(alloc: Global, flags: u32, call: Call<'_>, text: &[u8]) -> Result<Vec<u8>, Stop>
+    ensures made { IfOk result (λ s. IsMadeBy (ask flags (words_of call.entry)) text.now s.items) }
+    ensures stops { IfErr result (StopsCall (ask flags (words_of call.entry)) text.now) }
 {
-    match options_of(flags) {
-        Some(options) => get_by(alloc, options, text, path),
-        None => Err(Stop::Flags),
-    }
+    let options = options_of(flags)?;
+    let command = command_of(alloc, options, call)?;
+    let (mut input, mut out) = (Watched::new(text), Held::new(alloc));
+    perform(alloc, Ending::Call, command, options, &mut input, &mut out)?;
+    Ok(out.bytes)
 }
 
-/// Returns the text with the value at the path.
-pub fn set(
-    alloc: Global,
-    flags: u32,
-    text: &[u8],
-    path: &[u8],
-    value: &[u8],
-) -> Result<String, Stop>
-    ensures made { IfOk result
-        (λ s. IsMadeBy (ask flags (set_words path.now value.now)) text.now (string_bytes s)) }
-    ensures stops { IfErr result (StopsCall (ask flags (set_words path.now value.now)) text.now) }
+/// Returns the command that the call stands for.
+fn command_of(alloc: Global, options: ParseOptions, call: Call<'_>) -> Result<Command, Stop>
+    ensures said { IfOk result
+        (λ command. Says (asked_by options (words_of call.entry)) (action_of command)) }
+    ensures stops { IfErr result (StopsInWords (asked_by options (words_of call.entry))) }
 {
-    match options_of(flags) {
-        Some(options) => set_by(alloc, options, text, path, value),
-        None => Err(Stop::Flags),
-    }
-}
-
-/// Returns the text without the item at the path.
-pub fn remove(alloc: Global, flags: u32, text: &[u8], path: &[u8]) -> Result<String, Stop>
-    ensures made { IfOk result
-        (λ s. IsMadeBy (ask flags (remove_words path.now)) text.now (string_bytes s)) }
-    ensures stops { IfErr result (StopsCall (ask flags (remove_words path.now)) text.now) }
-{
-    match options_of(flags) {
-        Some(options) => remove_by(alloc, options, text, path),
-        None => Err(Stop::Flags),
-    }
-}
-
-/// Returns the print of the text, by options.
-pub fn print_by(alloc: Global, options: ParseOptions, text: &[u8]) -> Result<String, Stop>
-    ensures made { IfOk result
-        (λ s. IsMadeBy (ask_by options print_words) text.now (string_bytes s)) }
-    ensures stops { IfErr result (StopsCall (ask_by options print_words) text.now) }
-{
-    match read(alloc, text, options) {
-        Ok(document) => {
-            let made = edit::print(alloc, &document);
-            drop(document);
-            made
+    match call {
+        Call::Print => Ok(Command::Print),
+        Call::Get(path) => Ok(Command::Get(path_of(alloc, path)?)),
+        Call::Set(path, value) => {
+            let path = path_of(alloc, path)?;
+            Ok(Command::Set(path, value_of(alloc, value, options)?))
         }
-        Err(stop) => Err(stop),
+        Call::Remove(path) => Ok(Command::Remove(path_of(alloc, path)?)),
     }
 }
 
-/// Returns the text of the item at the path, by options.
-pub fn get_by(
-    alloc: Global,
-    options: ParseOptions,
-    text: &[u8],
-    path: &[u8],
-) -> Result<String, Stop>
-    ensures made { IfOk result
-        (λ s. IsMadeBy (ask_by options (get_words path.now)) text.now (string_bytes s)) }
-    ensures stops { IfErr result (StopsCall (ask_by options (get_words path.now)) text.now) }
+/// Returns the JSON text of the item at the path; the empty path leads to the root.
+pub fn json(alloc: Global, flags: u32, text: &[u8], path: &[u8]) -> Result<Vec<u8>, Stop>
+    ensures made { IfOk result (λ s. IsJsonBy flags text.now path.now s.items) }
+    ensures stops { IfErr result (StopsJsonBy flags text.now path.now) }
 {
-    match path_of(alloc, path) {
-        Ok(keys) => get_read(alloc, options, text, keys.as_slice()),
-        Err(stop) => Err(stop),
+    let document = read(alloc, text, options_of(flags)?)?;
+    json_at(alloc, &document, path)
+}
+
+/// Returns the JSON text of the item at the path in the document.
+fn json_at(alloc: Global, document: &DocumentMut, path: &[u8]) -> Result<Vec<u8>, Stop>
+    ensures made { IfOk result (λ s. (n : Node) × IsItemAt path.now (held document.now).tree n
+        × (s.items ≡ json_text n)) }
+    ensures stops { IfErr result (StopsItem path.now (held document.now).tree) }
+{
+    if path.is_empty() {
+        return json_of(alloc, document.as_item());
+    }
+    let keys = path_of(alloc, path)?;
+    match document.get_at(keys.as_slice()) {
+        Some(item) => json_of(alloc, item),
+        None => Err(Stop::NoSuchPath),
     }
 }
 
-/// Returns the text of the item under the keys.
-fn get_read(alloc: Global, options: ParseOptions, text: &[u8], path: &[Key]) -> Result<String, Stop>
-    ensures made { IfOk result (λ s. MakesOf (mode_of options) (version_of options)
-        (getting (names path.now)) text.now (string_bytes s)) }
-    ensures stops { IfErr result (StopsAction (mode_of options) (version_of options)
-        (getting (names path.now)) text.now) }
+fn json_of(alloc: Global, item: &Item) -> Result<Vec<u8>, Stop>
+    ensures text { IfOk result (λ s. s.items ≡ json_text (item_view item.now)) }
+    ensures stops { IfErr result (λ stop. stop ≡ Memory) }
 {
-    match read(alloc, text, options) {
-        Ok(document) => {
-            let made = item::get(alloc, &document, path);
-            drop(document);
-            made
-        }
-        Err(stop) => Err(stop),
+    let text = print(alloc, &Json(item)).map_err(|_| Stop::Memory)?;
+    Ok(text.into_bytes())
+}
+
+/// Returns the text, formatted by the default rules.
+pub fn format(alloc: Global, flags: u32, text: &[u8]) -> Result<Vec<u8>, Stop>
+    ensures made { IfOk result (λ s. IsFormattedBy flags text.now s.items) }
+    ensures stops { IfErr result (StopsFormatBy flags text.now) }
+{
+    formatted_reads();
+    let document = read(alloc, text, options_of(flags)?)?;
+    let formatted = format_document(alloc, text, document).map_err(|_| Stop::Memory)?;
+    Ok(formatted.into_bytes())
+}
+
+/// Returns the text of the document that was read of this text, formatted.
+fn format_document(alloc: Global, text: &[u8], document: DocumentMut) -> Mem<String>
+    ensures { IfOk result (λ s. string_bytes s ≡ print_formatted text.now (held document)) }
+{
+    let rules = Rules::for_text(text, document.is_exact());
+    let formatted = toml_edit_fmt::format(alloc, document, &rules)?;
+    formatted.print(alloc)
+}
+
+/// Returns the text with the edits of the script.
+pub fn edit(alloc: Global, flags: u32, text: &[u8], script: &[u8]) -> Result<Vec<u8>, EditStop>
+    ensures made { IfOk result (λ s. IsEditedBy flags text.now script.now s.items) }
+    ensures stops { IfErr result (StopsEditBy flags text.now script.now) }
+{
+    let options = options_of(flags)?;
+    let edits = edits_in(alloc, options, script)?;
+    let mut document = read(alloc, text, options)?;
+    edited(alloc, &mut document, edits.as_slice())
+}
+
+/// Reads the edits of the script.
+fn edits_in(alloc: Global, options: ParseOptions, script: &[u8]) -> Result<Vec<Edit>, EditStop>
+    ensures said { IfOk result
+        (λ edits. SaysEdits (version_of options) (words_in script.now) edits.items) }
+    ensures stops { IfErr result (StopsScript (version_of options) script.now) }
+{
+    let Ok(script) = str::from_utf8(script) else {
+        return Err(EditStop::from(Stop::Script));
+    };
+    let words = split(alloc, script).map_err(|_| Stop::Memory)?;
+    match edits_of(alloc, options, words.as_slice()) {
+        Ok(edits) => Ok(edits),
+        Err(refused) => { Err(EditStop::of_edit(stop_of_word(&refused.fault), refused.number)) }
     }
 }
 
-/// Returns the text with the value at the path, by options.
-pub fn set_by(
-    alloc: Global,
-    options: ParseOptions,
-    text: &[u8],
-    path: &[u8],
-    value: &[u8],
-) -> Result<String, Stop>
-    ensures made { IfOk result
-        (λ s. IsMadeBy (ask_by options (set_words path.now value.now)) text.now
-        (string_bytes s)) }
-    ensures stops { IfErr result
-        (StopsCall (ask_by options (set_words path.now value.now)) text.now) }
+/// Returns why a call stops of which words are no edit.
+fn stop_of_word(fault: &WordFault) -> Stop
+    ensures { result ≡ stop_of_word fault.now }
 {
-    match path_of(alloc, path) {
-        Ok(mut keys) => match value_of(alloc, value, options) {
-            Ok(value) => set_read(alloc, options, text, keys.as_mut_slice(), value),
-            Err(stop) => Err(stop),
-        },
-        Err(stop) => Err(stop),
+    match fault {
+        WordFault::Name | WordFault::Operands(_) => Stop::Script,
+        WordFault::Path(_) | WordFault::To(_) | WordFault::Key(_) => Stop::Path,
+        WordFault::Value(_) => Stop::Value,
+        WordFault::Memory => Stop::Memory,
     }
 }
 
-/// Returns the text with the value under the keys.
-fn set_read(
-    alloc: Global,
-    options: ParseOptions,
-    text: &[u8],
-    path: &mut [Key],
-    value: Value,
-) -> Result<String, Stop>
-    ensures made { IfOk result (λ s. MakesOf (mode_of options) (version_of options)
-        (setting (names path.old) (value_view value)) text.now (string_bytes s)) }
-    ensures stops { IfErr result (StopsAction (mode_of options) (version_of options)
-        (setting (names path.old) (value_view value)) text.now) }
+/// Makes the edits, and returns the text of the document.
+fn edited(alloc: Global, document: &mut DocumentMut, edits: &[Edit]) -> Result<Vec<u8>, EditStop>
+    ensures made { IfOk result (λ s. IsEdited edits.now (held document.old) s.items) }
+    ensures stops { IfErr result (StopsEditing edits.now (held document.old)) }
 {
-    match read(alloc, text, options) {
-        Ok(mut document) => {
-            let made = edit::set(alloc, &mut document, path, value);
-            drop(document);
-            made
-        }
-        Err(stop) => {
-            drop(value);
-            Err(stop)
-        }
+    match apply(alloc, document, edits) {
+        Ok(()) => Ok(print_fitting(alloc, document)?.into_bytes()),
+        Err(refused) => Err(EditStop::of_edit(stop_of_edit(refused.fault), refused.at + 1)),
     }
 }
 
-/// Returns the text without the item at the path, by options.
-pub fn remove_by(
-    alloc: Global,
-    options: ParseOptions,
-    text: &[u8],
-    path: &[u8],
-) -> Result<String, Stop>
-    ensures made { IfOk result
-        (λ s. IsMadeBy (ask_by options (remove_words path.now)) text.now (string_bytes s)) }
-    ensures stops { IfErr result (StopsCall (ask_by options (remove_words path.now)) text.now) }
+/// Prints the document, if it fits.
+fn print_fitting(alloc: Global, document: &DocumentMut) -> Result<String, Stop>
+    ensures text { IfOk result
+        (λ s. IsPrintFor (held document.now) (tree_owned document.now) (string_bytes s)) }
+    ensures stops { IfErr result (StopsPrinting (held document.now)) }
 {
-    match path_of(alloc, path) {
-        Ok(keys) => remove_read(alloc, options, text, keys.as_slice()),
-        Err(stop) => Err(stop),
+    if !document.fits(alloc).map_err(|_| Stop::Memory)? {
+        return Err(Stop::Unfit);
     }
+    document.print(alloc).map_err(|_| Stop::Memory)
 }
 
-/// Returns the text without the item under the keys.
-fn remove_read(
-    alloc: Global,
-    options: ParseOptions,
-    text: &[u8],
-    path: &[Key],
-) -> Result<String, Stop>
-    ensures made { IfOk result (λ s. MakesOf (mode_of options) (version_of options)
-        (removing (names path.now)) text.now (string_bytes s)) }
-    ensures stops { IfErr result (StopsAction (mode_of options) (version_of options)
-        (removing (names path.now)) text.now) }
+/// Returns why a call stops that cannot make an edit.
+fn stop_of_edit(fault: EditFault) -> Stop
+    ensures { result ≡ stop_of_edit fault }
 {
-    match read(alloc, text, options) {
-        Ok(mut document) => {
-            let made = edit::remove(alloc, &mut document, path);
-            drop(document);
-            made
-        }
-        Err(stop) => Err(stop),
+    match fault {
+        EditFault::NoSuchPath => Stop::NoSuchPath,
+        EditFault::WrongKind => Stop::WrongKind,
+        EditFault::NoSuchElement => Stop::NoSuchElement,
+        EditFault::Taken => Stop::Taken,
+        EditFault::BadComment => Stop::Comment,
+        EditFault::Memory => Stop::Memory,
     }
 }

@@ -8,9 +8,8 @@ ghost use Rattle.toml_edit_model.specs.Accepted.{AcceptedIn};
 ghost use Rattle.toml_edit_model.specs.Syntax.{Document as Cut};
 ghost use Rattle.toml_edit_parser.specs.Options.{version_of};
 
-use crate::answer::{Answer, put};
-use crate::flags::options_of;
-use crate::stop::Stop;
+use crate::answer::{Answer, DONE, Stop, put, silent};
+use crate::given::options_of;
 use std::alloc::Global;
 use std::str;
 use toml_edit::{Document, ParseFault, ParseOptions, TomlError};
@@ -51,8 +50,8 @@ pub extern "C" fn toml_edit_check(
     ensures untold { ¬ (result.status ≡ 2)
         → IsUnanswered result room.old room.new × (place.new ≡ nowhere) }
 {
-    *place = NOWHERE;
-    let Some(options) = options_of(flags) else {
+    *place = Place::default();
+    let Ok(options) = options_of(flags) else {
         return silent(Stop::Flags.status());
     };
     match str::from_utf8(text) {
@@ -60,13 +59,6 @@ pub extern "C" fn toml_edit_check(
         Err(_) => silent(Stop::NotUtf8.status()),
     }
 }
-
-const NOWHERE: Place = Place {
-    start: 0,
-    end: 0,
-    line: 0,
-    column: 0,
-};
 
 /// Checks a text of characters by these options.
 fn check_text(
@@ -76,8 +68,7 @@ fn check_text(
     place: &mut Place,
     room: &mut [u8],
 ) -> Answer
-    ensures accepted { result.status ≡ 0
-        → (d : Cut) × AcceptedIn (version_of options) text.now d }
+    ensures accepted { result.status ≡ 0 → (d : Cut) × AcceptedIn (version_of options) text.now d }
     ensures refused { result.status ≡ 2
         → TellsRefusalIn (version_of options) text.now place.new result room.old room.new }
     ensures status { (result.status ≡ 0) ⊎ (result.status ≡ 2) ⊎ (result.status ≡ 9) }
@@ -87,15 +78,13 @@ fn check_text(
     match Document::parse_with(alloc, text, options) {
         Ok(document) => {
             drop(document);
-            silent(0)
+            silent(DONE)
         }
         Err(ParseFault::Toml(error)) => {
             *place = place_in(&error);
-            let message = put(error.message().as_bytes(), room);
-            Answer {
-                status: Stop::Refused.status(),
-                needed: message.needed,
-            }
+            let needed = put(error.message().as_bytes(), room).needed;
+            let status = Stop::Refused.status();
+            Answer { status, needed }
         }
         Err(ParseFault::Memory) => silent(Stop::Memory.status()),
     }
@@ -112,14 +101,6 @@ fn place_in(error: &TomlError) -> Place
             line: error.line().unwrap_or(0),
             column: error.column().unwrap_or(0),
         },
-        None => NOWHERE,
+        None => Place::default(),
     }
-}
-
-/// Returns an answer without a text.
-fn silent(status: u32) -> Answer
-    ensures status { result.status ≡ status }
-    ensures none { result.needed ≡ 0 }
-{
-    Answer { status, needed: 0 }
 }

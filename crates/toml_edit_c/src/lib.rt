@@ -25,21 +25,12 @@ ghost use Rattle.toml_edit_c.specs.Scripts.{IsEditedBy, StopsEditWith};
 mod answer;
 mod calls;
 pub mod check;
-mod command;
-mod edit;
-mod flags;
-mod format;
-mod get;
-mod json;
-mod read;
+mod given;
 pub mod run;
-mod script;
-mod split;
-mod stop;
-mod words;
 
 pub use answer::Answer;
 use answer::{give, give_edited};
+use calls::{Call, make};
 use std::alloc::Global;
 
 /// Gives the print of the text.
@@ -50,7 +41,7 @@ pub extern "C" fn toml_edit_print(alloc: Global, flags: u32, text: &[u8], room: 
     ensures { Answers (IsMadeBy (ask flags print_words) text.now)
         (StopsWith (ask flags print_words) text.now) result room.old room.new }
 {
-    give(calls::print(alloc, flags, text), room)
+    give(make(alloc, flags, Call::Print, text), room)
 }
 
 /// Gives the text of the item at the path.
@@ -68,7 +59,7 @@ pub extern "C" fn toml_edit_get(
     ensures { Answers (IsMadeBy (ask flags (get_words path.now)) text.now)
         (StopsWith (ask flags (get_words path.now)) text.now) result room.old room.new }
 {
-    give(calls::get(alloc, flags, text, path), room)
+    give(make(alloc, flags, Call::Get(path), text), room)
 }
 
 /// Gives the text with the value at the path.
@@ -86,7 +77,7 @@ pub extern "C" fn toml_edit_set(
     ensures { Answers (IsMadeBy (ask flags (set_words path.now value.now)) text.now)
         (StopsWith (ask flags (set_words path.now value.now)) text.now) result room.old room.new }
 {
-    give(calls::set(alloc, flags, text, path, value), room)
+    give(make(alloc, flags, Call::Set(path, value), text), room)
 }
 
 /// Gives the text without the item at the path.
@@ -103,7 +94,7 @@ pub extern "C" fn toml_edit_remove(
     ensures { Answers (IsMadeBy (ask flags (remove_words path.now)) text.now)
         (StopsWith (ask flags (remove_words path.now)) text.now) result room.old room.new }
 {
-    give(calls::remove(alloc, flags, text, path), room)
+    give(make(alloc, flags, Call::Remove(path), text), room)
 }
 
 /// Gives the JSON text of the item at the path. The empty path leads to the root.
@@ -118,7 +109,7 @@ pub extern "C" fn toml_edit_json(
     ensures { Answers (IsJsonBy flags text.now path.now)
         (StopsJsonWith flags text.now path.now) result room.old room.new }
 {
-    give(json::json(alloc, flags, text, path), room)
+    give(calls::json(alloc, flags, text, path), room)
 }
 
 /// Gives the text formatted by the default rules.
@@ -135,7 +126,7 @@ pub extern "C" fn toml_edit_format(
     ensures { Answers (IsFormattedBy flags text.now)
         (StopsFormatWith flags text.now) result room.old room.new }
 {
-    give(format::format(alloc, flags, text), room)
+    give(calls::format(alloc, flags, text), room)
 }
 
 /// Gives the text with the edits of the script, which are made one after another or not at all.
@@ -155,5 +146,5 @@ pub extern "C" fn toml_edit_edit(
         → StopsEditWith flags text.now script.now result.status result.needed }
     ensures unanswered { 1 < result.status → room.new ≡ room.old }
 {
-    give_edited(script::edit(alloc, flags, text, script), room)
+    give_edited(calls::edit(alloc, flags, text, script), room)
 }

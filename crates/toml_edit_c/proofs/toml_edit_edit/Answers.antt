@@ -1,12 +1,14 @@
 -- What is made is given to the caller, or the number of the edit that is refused.
+use Rattle.std.proofs.Common.{◌≡◌}
 use Rattle.toml_edit_c.specs.Scripts.{IsEditedBy, StopsEditBy}
-use Rattle.toml_edit_c.proofs.Outcomes.{edited, numbered, untouched}
+use Rattle.toml_edit_c.specs.declared.answer.EditStop.{EditStop}
+use Rattle.toml_edit_c.proofs.Outcomes.{given, numbered, unanswered}
 use Rattle.toml_edit_c.proofs.toml_edit_edit.Goals as goal
 
 pub returns-clause-given : goal.returns-clause-given
 returns-clause-given c =
-    edited c.give_edited.result c.args.room.now c.give_edited.new.room c.edit.result (IsEditedBy c.args.flags c.args.text.now c.args.script.now)
-    c.edit.ensures.made c.give_edited.ensures.text c.give_edited.ensures.status
+    given c.give_edited.result c.args.room.now c.give_edited.new.room (λ (e : EditStop). e.stop) c.edit.result
+    (IsEditedBy c.args.flags c.args.text.now c.args.script.now) c.edit.ensures.made c.give_edited.ensures.text c.give_edited.ensures.status
 
 pub returns-clause-stopped : goal.returns-clause-stopped
 returns-clause-stopped c =
@@ -15,4 +17,5 @@ returns-clause-stopped c =
 
 pub returns-clause-unanswered : goal.returns-clause-unanswered
 returns-clause-unanswered c =
-    untouched c.give_edited.result c.args.room.now c.give_edited.new.room c.edit.result c.give_edited.ensures.text c.give_edited.ensures.none
+    unanswered c.give_edited.result c.args.room.now c.give_edited.new.room c.edit.result (c.give_edited.new.room ≡ c.args.room.now)
+    c.give_edited.ensures.text c.give_edited.ensures.none

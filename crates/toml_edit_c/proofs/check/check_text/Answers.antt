@@ -10,12 +10,12 @@ pub returns-in-Err-Toml-clause-refused : goal.returns-in-Err-Toml-clause-refused
 returns-in-Err-Toml-clause-refused c =
     let refused : IsRefused (version_of c.args.options) c.args.text.now = search rules in
     let same : c.as_bytes.result.now ≡ c.in-Err-Toml.error.message = c.as_bytes.ensures.value ∙ c.message.ensures in
-    let holds = subst (λ x. Holds x c.put-message.result c.args.room.now c.put-message.new.room) same c.put-message.ensures in
+    let holds = subst (λ x. Holds x c.put-needed.result c.args.room.now c.put-needed.new.room) same c.put-needed.ensures in
     λ status. record {
       report = c.in-Err-Toml.error;
       refused = refused;
       reason = search rules;
       at = c.place_in.ensures;
       needed = holds.0;
-      message = held-or-long c.in-Err-Toml.error.message c.put-message.result c.args.room.now c.put-message.new.room holds;
+      message = held-or-long c.in-Err-Toml.error.message c.put-needed.result c.args.room.now c.put-needed.new.room holds;
     }

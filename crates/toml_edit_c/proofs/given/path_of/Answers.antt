@@ -1,0 +1,10 @@
+-- A text that is not a path is not one of characters.
+use Rattle.std.proofs.Common.{inr, refl, subst}
+use Rattle.toml_edit_error.specs.Fault.{IfToml}
+use Rattle.toml_edit_words.specs.Spelled.{IsNoPath}
+use Rattle.toml_edit_c.proofs.given.path_of.Goals as goal
+
+pub returns-in-Err-Toml-clause-stops : goal.returns-in-Err-Toml-clause-stops
+returns-in-Err-Toml-clause-stops c =
+    let none = subst (λ e. IfToml e (λ _. IsNoPath c.in-Ok.text.now)) c.in-Err-Toml.field-0-is c.in-Err-Toml.ensures.refused in
+    inr (refl, (λ utf8. subst IsNoPath c.in-Ok.ensures.cases.0 none))
