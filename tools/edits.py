@@ -135,8 +135,8 @@ def edits_of(crate):
 
 
 def calls_itself(item):
-    """Whether a function that no impl has is a cycle of its own."""
-    return re.search(r"(?<![\w.:])%s\(" % item.name, "\n".join(item.lines[1:]))
+    """Whether a function, or a method by `self`, is a cycle of its own."""
+    return re.search(r"(?:(?<![\w.:])|\bself\.)%s\(" % item.name, "\n".join(item.lines[1:]))
 
 
 def stubbed(crate, edits, folder):
