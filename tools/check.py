@@ -342,11 +342,11 @@ class Check:
 
     def usages(self):
         """The usage and the options of each command are the same in the help, on the page, in the manual page and for the shells."""
-        help_text = re.sub(r"\s+", " ", read(TOP + "/crates/toml_edit_files/src/help.rt"))
+        help_text = read(TOP + "/crates/toml_edit_files/src/help.rt")
         manual = re.sub(r"\\f[BIRP]|\\&|\s+|\.(?=B |br)", " ", read(TOP + "/tools/share/tomlfile.1").replace("\\-", "-"))
         page = self.texts.get("docs/TOMLFILE.md", "")
         shells = [read(TOP + "/tools/share/" + name) for name in ("tomlfile.bash", "_tomlfile", "tomlfile.fish")]
-        for command, usage in re.findall(r'_USAGE: &str = "tomlfile ([a-z]+) ([^"]+)"', help_text):
+        for command, usage in re.findall(r"^usage: tomlfile ([a-z]+) (.+)$", help_text, re.M):
             options = re.findall(r"--[a-z-]+", usage)
             row = "".join(line for line in page.split("\n") if line.startswith("| `%s FILE" % command))
             if command != "edit" and "`%s %s`" % (command, usage.replace("|", "\\|")) not in row:

@@ -28,10 +28,7 @@ pub fn give(made: Result<Vec<u8>, Stop>, room: &mut [u8]) -> Answer
     ensures status { IfErr made (λ stop. result.status ≡ status_of stop) }
     ensures none { IfErr made (λ stop. IsUnanswered result room.old room.new) }
 {
-    match made {
-        Ok(text) => put(text.as_slice(), room),
-        Err(stop) => silent(stop.status()),
-    }
+    give_edited(made.map_err(EditStop::from), room)
 }
 
 /// Does so with what a script made, and gives the number of the edit that is refused.

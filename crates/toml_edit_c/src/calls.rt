@@ -96,6 +96,7 @@ fn json_at(alloc: Global, document: &DocumentMut, path: &[u8]) -> Result<Vec<u8>
     }
 }
 
+/// Returns the JSON text of the item.
 fn json_of(alloc: Global, item: &Item) -> Result<Vec<u8>, Stop>
     ensures text { IfOk result (λ s. s.items ≡ json_text (item_view item.now)) }
     ensures stops { IfErr result (λ stop. stop ≡ Memory) }
@@ -111,17 +112,10 @@ pub fn format(alloc: Global, flags: u32, text: &[u8]) -> Result<Vec<u8>, Stop>
 {
     formatted_reads();
     let document = read(alloc, text, options_of(flags)?)?;
-    let formatted = format_document(alloc, text, document).map_err(|_| Stop::Memory)?;
-    Ok(formatted.into_bytes())
-}
-
-/// Returns the text of the document that was read of this text, formatted.
-fn format_document(alloc: Global, text: &[u8], document: DocumentMut) -> Mem<String>
-    ensures { IfOk result (λ s. string_bytes s ≡ print_formatted text.now (held document)) }
-{
     let rules = Rules::for_text(text, document.is_exact());
-    let formatted = toml_edit_fmt::format(alloc, document, &rules)?;
-    formatted.print(alloc)
+    let formatted = toml_edit_fmt::format(alloc, document, &rules).map_err(|_| Stop::Memory)?;
+    let text = formatted.print(alloc).map_err(|_| Stop::Memory)?;
+    Ok(text.into_bytes())
 }
 
 /// Returns the text with the edits of the script.

@@ -1,18 +1,14 @@
 //! Checking a text.
-ghost use Rattle.std.specs.Prelude.{◌≡◌, ◌⊎◌, IfSome, None, Some, IsUtf8};
+ghost use Rattle.std.specs.Prelude.{◌≡◌, ◌⊎◌, None, IsUtf8};
 ghost use Rattle.toml_edit_c.specs.Answers.{IsUnanswered};
 ghost use Rattle.toml_edit_c.specs.Asks.{options_by};
-ghost use Rattle.toml_edit_c.specs.Checks.{IsAccepted, TellsRefusal, TellsRefusalIn, nowhere, place_of};
-ghost use Rattle.toml_edit_c.specs.Statuses.{status_of};
-ghost use Rattle.toml_edit_model.specs.Accepted.{AcceptedIn};
-ghost use Rattle.toml_edit_model.specs.Syntax.{Document as Cut};
-ghost use Rattle.toml_edit_parser.specs.Options.{version_of};
+ghost use Rattle.toml_edit_c.specs.Checks.{IsAccepted, TellsRefusal, nowhere, place_of};
 
 use crate::answer::{Answer, DONE, Stop, put, silent};
 use crate::given::options_of;
 use std::alloc::Global;
 use std::str;
-use toml_edit::{Document, ParseFault, ParseOptions, TomlError};
+use toml_edit::{Document, ParseFault, TomlError};
 
 /// A place in a text. All numbers are 0 if there is none.
 #[repr(C)]
@@ -54,27 +50,9 @@ pub extern "C" fn toml_edit_check(
     let Ok(options) = options_of(flags) else {
         return silent(Stop::Flags.status());
     };
-    match str::from_utf8(text) {
-        Ok(text) => check_text(alloc, text, options, place, room),
-        Err(_) => silent(Stop::NotUtf8.status()),
-    }
-}
-
-/// Checks a text of characters by these options.
-fn check_text(
-    alloc: Global,
-    text: &str,
-    options: ParseOptions,
-    place: &mut Place,
-    room: &mut [u8],
-) -> Answer
-    ensures accepted { result.status ≡ 0 → (d : Cut) × AcceptedIn (version_of options) text.now d }
-    ensures refused { result.status ≡ 2
-        → TellsRefusalIn (version_of options) text.now place.new result room.old room.new }
-    ensures status { (result.status ≡ 0) ⊎ (result.status ≡ 2) ⊎ (result.status ≡ 9) }
-    ensures untold { ¬ (result.status ≡ 2)
-        → IsUnanswered result room.old room.new × (place.new ≡ place.old) }
-{
+    let Ok(text) = str::from_utf8(text) else {
+        return silent(Stop::NotUtf8.status());
+    };
     match Document::parse_with(alloc, text, options) {
         Ok(document) => {
             drop(document);

@@ -7,11 +7,7 @@
 //! The header `bindings/c/toml_edit.h` says how C declares these functions. A slice is a pointer
 //! and a length there, and an allocator is nothing.
 //!
-//! There is no handle of a parsed document. An export takes no pointer to a type that holds a
-//! `Vec`, as `*mut Tree` of `struct Tree { items: Vec<u64> }`: `cell-in-c`. It takes `&mut Handle`
-//! of a `#[repr(C)]` struct with `at: *mut u8`, `alloc: Global` and a ghost `Tree`, whose
-//! `also_owns` says that a box lies there. What makes such a struct of a `Box<Tree>`, and a box of
-//! it, would be proved by hand.
+//! There is no handle of a document: an export takes no pointer to what holds a `Vec` (`cell-in-c`).
 #![tactic(auto)]
 
 ghost use Rattle.std.specs.Prelude.{◌≡◌, ◌≤◌, ◌<◌};

@@ -79,6 +79,7 @@ fn end(document: DocumentMut, ending: Ending) {
     }
 }
 
+/// Runs the command on the document.
 fn act<O: Output>(
     alloc: Global,
     command: Command,
@@ -101,7 +102,7 @@ fn act<O: Output>(
 }
 
 /// Prints the document.
-pub fn print<O: Output>(alloc: Global, document: &DocumentMut, output: &mut O) -> Step<()>
+fn print<O: Output>(alloc: Global, document: &DocumentMut, output: &mut O) -> Step<()>
     requires { O.has_failed output.old ≡ false }
     ensures wrote { OnOk result (Wrote printing (held document.now)
         (written O.contents O.has_failed output.old output.new)) }
@@ -118,7 +119,7 @@ pub fn print<O: Output>(alloc: Global, document: &DocumentMut, output: &mut O) -
 
 /// Puts the value at the path, and writes the document. A missing key gets its default spelling, as
 /// PATH may be spelled as TOML 1.0 does not allow.
-pub fn set<O: Output>(
+fn set<O: Output>(
     alloc: Global,
     document: &mut DocumentMut,
     path: &mut [Key],
@@ -149,7 +150,7 @@ fn put(document: &mut DocumentMut, path: &mut [Key], value: Value) -> Result<(),
 }
 
 /// Removes the item at the path, and writes the document.
-pub fn remove<O: Output>(
+fn remove<O: Output>(
     alloc: Global,
     document: &mut DocumentMut,
     path: &[Key],
@@ -168,6 +169,7 @@ pub fn remove<O: Output>(
     }
 }
 
+/// Returns the error after a change that is not made.
 fn error_of(fault: ChangeFault) -> RunError
     ensures { result ≡ error_for fault }
 {
@@ -178,6 +180,7 @@ fn error_of(fault: ChangeFault) -> RunError
     }
 }
 
+/// Prints the document, if it fits.
 fn write_fitting<O: Output>(alloc: Global, document: &DocumentMut, output: &mut O) -> Step<()>
     requires { O.has_failed output.old ≡ false }
     ensures wrote { OnOk result (HasPrinted (held document.now)
@@ -194,12 +197,7 @@ fn write_fitting<O: Output>(alloc: Global, document: &DocumentMut, output: &mut 
 }
 
 /// Writes the text of the item at the path.
-pub fn get<O: Output>(
-    alloc: Global,
-    document: &DocumentMut,
-    path: &[Key],
-    output: &mut O,
-) -> Step<()>
+fn get<O: Output>(alloc: Global, document: &DocumentMut, path: &[Key], output: &mut O) -> Step<()>
     requires { O.has_failed output.old ≡ false }
     ensures wrote { OnOk result (Wrote (getting (names path.now)) (held document.now)
         (written O.contents O.has_failed output.old output.new)) }

@@ -17,37 +17,12 @@ const DONE: u8 = 0;
 /// Runs the command that the words say, which are the arguments after the program's name, and
 /// returns the exit status.
 ///
-/// Each command reads the input to its end:
+/// Each command reads the input to its end. `docs/TOMLED.md` says what a PATH is, what each command
+/// writes, and what the words `exact` and `strict` before it do.
 ///
-/// - `print` writes the print of the document;
-/// - `get PATH` writes the item at the path: a value as it is spelled, without the decor around it,
-///   the lines of a table, or an array of tables as an array;
-/// - `set PATH VALUE` writes the print with the value at the path. A missing key is made, below
-///   other missing keys in an inline table. A value that is there is replaced, and its decor stays;
-/// - `remove PATH` writes the print without the item at the path.
-///
-/// In an array, or an array of tables, a segment of PATH is the decimal number of an element.
-///
-/// The word `strict` before the command reads the input and VALUE as TOML 1.0 instead of 1.1. That
-/// `set` and `remove` then write TOML 1.0 is not proved.
-///
-/// The word `exact` before both keeps the line endings of the input: `print`, `set` and `remove`
-/// write its carriage returns (CR), and no newline after the last statement if the input has none.
-/// A new statement ends in a line feed (LF) even then. Without the word, CRs outside strings are
-/// dropped, and each statement ends in an LF. `get` writes the same text with it.
-///
-/// # Exit status
-///
-/// - 0: done. Nothing is written to `errors`.
-/// - 1: the input is not TOML, or not UTF-8. `errors` gets the error's text.
-/// - 2: the words are not a command; PATH or VALUE is not valid; nothing is at the path; what
-///   is there cannot be set; or the document would not fit. `errors` gets the usage, or which of
-///   these it is.
-/// - 3: out of memory. `errors` gets that message.
-/// - 4: the input or the output has failed. `errors` gets which one.
-///
-/// Of several faults, the first in this order counts: words, PATH, VALUE, reading, the text, the
-/// path in it, whether it fits, writing. A fault in writing to `errors` is ignored.
+/// `docs/ERRORS.md` has the exit statuses, and the message that `errors` gets; at 0 it gets none. Of
+/// several faults, the first in this order counts: words, PATH, VALUE, reading, the text, the path in
+/// it, whether it fits, writing. A fault in writing to `errors` is ignored.
 pub fn run<I: Input, O: Output, E: Output>(
     alloc: Global,
     ending: Ending,

@@ -43,33 +43,16 @@ pub fn report_error<E: Output>(error: &RunError, errors: &mut E) -> u8
     ensures told { TellsError error.now (written E.contents E.has_failed errors.old errors.new) }
 {
     match error {
-        RunError::Mistaken(mistake) => {
-            tell(errors, mistake_text(*mistake));
-            2
-        }
-        RunError::NotUtf8 => {
-            tell(errors, "tomled: input is not UTF-8\n");
-            1
-        }
-        RunError::Refused(excerpt) => {
-            tell(errors, excerpt.as_str());
-            1
-        }
-        RunError::Memory => {
-            tell(errors, "tomled: out of memory\n");
-            3
-        }
-        RunError::ReadFailed => {
-            tell(errors, "tomled: read failed\n");
-            4
-        }
-        RunError::WriteFailed => {
-            tell(errors, "tomled: write failed\n");
-            4
-        }
+        RunError::Mistaken(mistake) => tell(errors, mistake_text(*mistake), 2),
+        RunError::NotUtf8 => tell(errors, "tomled: input is not UTF-8\n", 1),
+        RunError::Refused(excerpt) => tell(errors, excerpt.as_str(), 1),
+        RunError::Memory => tell(errors, "tomled: out of memory\n", 3),
+        RunError::ReadFailed => tell(errors, "tomled: read failed\n", 4),
+        RunError::WriteFailed => tell(errors, "tomled: write failed\n", 4),
     }
 }
 
+/// Returns the message about a mistake.
 fn mistake_text(mistake: CommandError) -> &'static str
     ensures { result.now ≡ mistake_line mistake }
 {
@@ -85,9 +68,11 @@ fn mistake_text(mistake: CommandError) -> &'static str
     }
 }
 
-/// Writes a message to `errors`. A fault in that is ignored.
-fn tell<E: Output>(errors: &mut E, text: &str)
-    ensures { Tells text.now (written E.contents E.has_failed errors.old errors.new) }
+/// Writes a message to `errors`, and returns the exit status. A fault in writing is ignored.
+fn tell<E: Output>(errors: &mut E, text: &str, status: u8) -> u8
+    ensures status { result ≡ status }
+    ensures told { Tells text.now (written E.contents E.has_failed errors.old errors.new) }
 {
     let _ = write_all(errors, text.as_bytes());
+    status
 }

@@ -32,7 +32,7 @@ pub fn read_document<I: Input>(
     ensures err_end { IfErr result (HasReadAll (I.remaining input.new)) }
 {
     let text = text_of(alloc, input)?;
-    match document_of(alloc, text, options) {
+    match parse(alloc, text, options) {
         Ok(document) => Ok(document),
         Err(ParseFault::Toml(error)) => match error.to_string(alloc) {
             Ok(excerpt) => Err(RunError::Refused(excerpt)),
@@ -42,6 +42,7 @@ pub fn read_document<I: Input>(
     }
 }
 
+/// Reads the text of the input.
 fn text_of<I: Input>(alloc: Global, input: &mut I) -> Step<String>
     requires { I.has_failed input.old ≡ false }
     ensures text { IfOk result
@@ -67,11 +68,8 @@ fn text_of<I: Input>(alloc: Global, input: &mut I) -> Step<String>
     }
 }
 
-fn document_of(
-    alloc: Global,
-    text: String,
-    options: ParseOptions,
-) -> Result<DocumentMut, ParseFault>
+/// Parses the text, and owns the document.
+fn parse(alloc: Global, text: String, options: ParseOptions) -> Result<DocumentMut, ParseFault>
     ensures ok { IfOk result
         (λ m. IsHeldOf (mode_of options) (version_of options) (string_bytes text) (held m)) }
     ensures mode { IfOk result (λ m. mode_owned m ≡ mode_of options) }

@@ -1,5 +1,5 @@
 //! Reading the words of a command.
-ghost use Rattle.std.specs.Prelude.{◌≡◌, [], ◌∷◌, IfErr, IfOk, map, if◌then◌else◌, string_bytes};
+ghost use Rattle.std.specs.Prelude.{◌≡◌, IfErr, IfOk, map, if◌then◌else◌, string_bytes};
 ghost use Rattle.toml_edit_model.specs.Mode as model;
 ghost use Rattle.toml_edit_model.specs.Keys.{names};
 ghost use Rattle.toml_edit_command.specs.Steps.{StopsInWords, action_of};
@@ -95,37 +95,12 @@ fn form_of(words: &[String]) -> Option<CommandForm<'_>>
     ensures { IsForm (map string_bytes words.now) result }
 {
     match words {
-        [name] => form_alone(name.as_str()),
-        [name, path] => form_with_path(name.as_str(), path.as_str()),
-        [name, path, value] => form_with_value(name.as_str(), path.as_str(), value.as_str()),
-        _ => None,
-    }
-}
-
-fn form_alone(name: &str) -> Option<CommandForm<'_>>
-    ensures { IsForm (name.now ∷ []) result }
-{
-    match name {
-        "print" => Some(CommandForm::Print),
-        _ => None,
-    }
-}
-
-fn form_with_path<'a>(name: &str, path: &'a str) -> Option<CommandForm<'a>>
-    ensures { IsForm (name.now ∷ path.now ∷ []) result }
-{
-    match name {
-        "get" => Some(CommandForm::Get(path)),
-        "remove" => Some(CommandForm::Remove(path)),
-        _ => None,
-    }
-}
-
-fn form_with_value<'a>(name: &str, path: &'a str, value: &'a str) -> Option<CommandForm<'a>>
-    ensures { IsForm (name.now ∷ path.now ∷ value.now ∷ []) result }
-{
-    match name {
-        "set" => Some(CommandForm::Set(path, value)),
+        [name] if name.as_str() == "print" => Some(CommandForm::Print),
+        [name, path] if name.as_str() == "get" => Some(CommandForm::Get(path.as_str())),
+        [name, path] if name.as_str() == "remove" => Some(CommandForm::Remove(path.as_str())),
+        [name, path, value] if name.as_str() == "set" => {
+            Some(CommandForm::Set(path.as_str(), value.as_str()))
+        }
         _ => None,
     }
 }

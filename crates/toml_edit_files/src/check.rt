@@ -9,7 +9,7 @@ ghost use Rattle.toml_edit_files.specs.Stops.{IsUnread, Reads};
 use crate::messages::refused;
 use crate::outcome::told_of_file;
 use crate::read::text_of;
-use crate::stop::{DONE, Stop};
+use crate::stop::{DONE, Step, Stop};
 use crate::told::Told;
 use crate::words::Reading;
 use file_replace::Folder;
@@ -64,7 +64,7 @@ fn read_accepted<F: Folder, I: Input>(
     input: &mut I,
     file: &str,
     reading: Reading,
-) -> Result<(), Stop>
+) -> Step<()>
     ensures accepted { OnOk result (IsReadAsAccepted (version_by reading) file.now
         (F.history folder.old) (F.history folder.new) (I.remaining input.old)) }
     ensures refused { IfErr result (IsUnread file.now (IsReadAsRefused (version_by reading)
@@ -78,7 +78,7 @@ fn read_accepted<F: Folder, I: Input>(
 }
 
 /// Fails if a text is refused.
-fn accept(alloc: Global, file: &str, text: &str, reading: Reading) -> Result<(), Stop>
+fn accept(alloc: Global, file: &str, text: &str, reading: Reading) -> Step<()>
     ensures accepted { OnOk result (IsAccepted (version_by reading) text.now) }
     ensures stops { IfErr result (IsNotRead (version_by reading) file.now text.now) }
 {

@@ -1,9 +1,9 @@
 //! The command `edit`: the text of a file after its edits, and where it goes.
-ghost use Rattle.std.specs.Prelude.{◌≡◌, ◌⊎◌, ◌++◌, IfErr, IfOk, IsTrue, None, Ok, OnOk, Option, Some, string_bytes, true};
+ghost use Rattle.std.specs.Prelude.{◌≡◌, ◌⊎◌, ◌++◌, [], IfErr, IfOk, IsTrue, None, Ok, OnOk, Option, Some, string_bytes, true};
 ghost use Rattle.std.specs.Option.{option_copied};
-ghost use Rattle.toml_edit.specs.DocumentView.{IsPrintedAs, tree_owned};
+ghost use Rattle.toml_edit.specs.DocumentView.{IsPrintedAs, print_of, tree_owned};
 ghost use Rattle.toml_edit_files.specs.EditFiles.{EditsElsewhere, EditsFile, EditsInPlace, HasNoEdits, HasNoScript, IsUnmade, ScriptedFirst, is_in_place, is_shown, target_of};
-ghost use Rattle.toml_edit_files.specs.Edited.{IsAccepted, IsEdited, IsFittingPrint, IsInForm, IsMisfit, IsNotEdited, IsNotMade, IsNotRead, IsNotWritten, IsTooNew, IsWritten, mark_of, version_by};
+ghost use Rattle.toml_edit_files.specs.Edited.{IsAccepted, IsEdited, IsFittingPrint, IsInForm, IsMisfit, IsNotEdited, IsNotInForm, IsNotMade, IsNotRead, IsNotWritten, IsTooNew, IsWritten, mark_of, unmarked, version_by};
 ghost use Rattle.toml_edit_files.specs.Folders.{OnlyLooks, Stops};
 ghost use Rattle.toml_edit_files.specs.Stops.{reason_of};
 ghost use Rattle.toml_edit_files.specs.declared.stop.Reason.TheVariants.{Mistaken};
@@ -11,21 +11,23 @@ ghost use Rattle.toml_edit_model.specs.Text.{Text};
 ghost use Rattle.toml_edit_model.specs.Version.{v1_0};
 ghost use Rattle.toml_edit_edits.specs.Lists.{applied};
 
-use crate::form::{MARK, check_form};
 use crate::messages::refused_edit;
 use crate::outcome::Done;
 use crate::paths::path_text;
 use crate::put::{held_of, put, put_at};
 use crate::read::{STREAM, document_of, text_of};
 use crate::script::edits_of_script;
-use crate::stop::{Reason, Stop};
-use crate::told::Note;
+use crate::stop::{Reason, Step, Stop};
+use crate::told::{Note, PROGRAM};
 use crate::words::{EditCommand, Reading};
 use file_replace::Folder;
 use std::alloc::Global;
 use toml_edit::{Document, DocumentMut, Mem, ParseFault, ParseOptions, Version};
 use toml_edit_edits::{Edit, apply};
 use toml_edit_io::Input;
+
+/// A byte order mark.
+const MARK: &str = "\u{feff}";
 
 /// Makes the edits in a file, or in standard input for `-`.
 pub fn edit<F: Folder, I: Input>(
@@ -35,7 +37,7 @@ pub fn edit<F: Folder, I: Input>(
     command: &EditCommand<'_>,
     edits: Vec<Edit>,
     reading: Reading,
-) -> Result<Done, Stop>
+) -> Step<Done>
     ensures edits { IfOk result (λ done. EditsFile reading command.now edits.items
         (F.history folder.old) (F.history folder.new) (I.remaining input.old)
         (string_bytes done.output)) }
@@ -61,7 +63,7 @@ fn edit_in_place<F: Folder>(
     command: &EditCommand<'_>,
     edits: &[Edit],
     reading: Reading,
-) -> Result<Done, Stop>
+) -> Step<Done>
     ensures edits { IfOk result (λ done. EditsInPlace reading command.now edits.now
         (F.history folder.old) (F.history folder.new) (string_bytes done.output)) }
     ensures yes { IfOk result (λ done. done.yes ≡ true) }
@@ -95,7 +97,7 @@ fn edit_elsewhere<F: Folder, I: Input>(
     command: &EditCommand<'_>,
     edits: &[Edit],
     reading: Reading,
-) -> Result<Done, Stop>
+) -> Step<Done>
     ensures edits { IfOk result (λ done. EditsElsewhere reading command.now edits.now
         (F.history folder.old) (F.history folder.new) (I.remaining input.old)
         (string_bytes done.output)) }
@@ -127,7 +129,7 @@ fn all_edits<F: Folder, I: Input>(
     script: Option<&str>,
     mut edits: Vec<Edit>,
     reading: Reading,
-) -> Result<Vec<Edit>, Stop>
+) -> Step<Vec<Edit>>
     ensures edits { IfOk result (λ all. ScriptedFirst reading (option_copied script.entry)
         (F.history folder.old) (F.history folder.new) (I.remaining input.old)
         (I.remaining input.new) edits.items all.items) }
@@ -152,7 +154,7 @@ fn edited_text(
     text: &str,
     edits: &[Edit],
     reading: Reading,
-) -> Result<Done, Stop>
+) -> Step<Done>
     ensures text { IfOk result
         (λ done. IsEdited reading edits.now text.now (string_bytes done.output)) }
     ensures yes { IfOk result (λ done. done.yes ≡ true) }
@@ -172,7 +174,7 @@ fn edited_text(
 }
 
 /// Makes the edits in the document.
-fn make(alloc: Global, file: &str, document: &mut DocumentMut, edits: &[Edit]) -> Result<(), Stop>
+fn make(alloc: Global, file: &str, document: &mut DocumentMut, edits: &[Edit]) -> Step<()>
     ensures makes { OnOk result
         (applied edits.now (tree_owned document.old) ≡ Ok (tree_owned document.new)) }
     ensures printed { IsPrintedAs document.new document.old }
@@ -197,7 +199,7 @@ pub fn text_after(
     before: &str,
     document: &DocumentMut,
     reading: Reading,
-) -> Result<String, Stop>
+) -> Step<String>
     ensures text { IfOk result (λ s. IsWritten reading before.now document.now (string_bytes s)) }
     ensures stops { IfErr result
         (λ stop. IsNotWritten reading document.now (reason_of stop)) }
@@ -210,7 +212,7 @@ pub fn text_after(
 }
 
 /// Returns the text of a document, if it fits.
-fn fitting_text(alloc: Global, file: &str, document: &DocumentMut) -> Result<String, Stop>
+fn fitting_text(alloc: Global, file: &str, document: &DocumentMut) -> Step<String>
     ensures text { IfOk result (λ s. IsFittingPrint document.now (string_bytes s)) }
     ensures stops { IfErr result (λ stop. IsMisfit document.now (reason_of stop)) }
 {
@@ -233,7 +235,7 @@ fn with_mark(alloc: Global, before: &str, text: String, normal: bool) -> Mem<Str
 }
 
 /// Refuses a text that is not TOML 1.0.
-fn needs_old(alloc: Global, file: &str, text: &str) -> Result<(), Stop>
+fn needs_old(alloc: Global, file: &str, text: &str) -> Step<()>
     ensures accepted { OnOk result (IsAccepted v1_0 text.now) }
     ensures stops { IfErr result (λ stop. IsTooNew text.now (reason_of stop)) }
 {
@@ -253,7 +255,7 @@ fn needs_old(alloc: Global, file: &str, text: &str) -> Result<(), Stop>
 }
 
 /// Returns that the document does not fit, and where.
-fn misfit(alloc: Global, file: &str, document: &DocumentMut) -> Result<Stop, Stop>
+fn misfit(alloc: Global, file: &str, document: &DocumentMut) -> Step<Stop>
     ensures stop { IfOk result (λ stop. reason_of stop ≡ Some Mistaken) }
     ensures memory { IfErr result (λ stop. reason_of stop ≡ None) }
 {
@@ -287,4 +289,101 @@ fn is_in_place(command: &EditCommand<'_>) -> bool
     ensures { result ≡ is_in_place command.now }
 {
     !is_shown(command) && command.output.is_none()
+}
+
+fn without_mark(text: &str) -> &str
+    ensures { result.now ≡ unmarked text.now }
+{
+    text.strip_prefix(MARK).unwrap_or(text)
+}
+
+/// Returns a note on the lines that change though no edit names them, or refuses them under
+/// `--locked`.
+fn check_form(
+    alloc: Global,
+    command: &EditCommand<'_>,
+    text: &str,
+    document: &DocumentMut,
+    reading: Reading,
+) -> Step<String>
+    ensures locked { OnOk result
+        (IsTrue command.now.locked → print_of document.now ≡ unmarked text.now) }
+    ensures quiet { IfOk result
+        (λ note. print_of document.now ≡ unmarked text.now → string_bytes note ≡ []) }
+    ensures stops { IfErr result (λ stop. IsNotInForm command.now.locked (print_of document.now)
+        (unmarked text.now) (reason_of stop)) }
+{
+    if reading.normal && !command.locked {
+        return Ok(String::new(alloc));
+    }
+    let text = without_mark(text);
+    let print = document.print(alloc)?;
+    if print.as_str() == text {
+        return Ok(String::new(alloc));
+    }
+    let (file, print) = (command.file, print.as_str());
+    if command.locked {
+        let note = lines_note(alloc, file, text, print, "lines are not in normal form")?;
+        return Err(Stop::Message(Reason::Locked, note));
+    }
+    let note = lines_note(alloc, file, text, print, "lines are brought to normal form")?;
+    Ok(note.text)
+}
+
+/// Returns a line for each run of lines of a text that differ from those of another one.
+fn lines_note(alloc: Global, file: &str, text: &str, other: &str, note: &str) -> Mem<Note> {
+    let mut said = String::new(alloc);
+    for (first, last) in runs_between(alloc, text, other)? {
+        if !said.is_empty() {
+            said.push('\n')?;
+            said.push_str(PROGRAM)?;
+        }
+        let line = format!(in alloc; "{file}:{first}-{last}: {note}")?;
+        said.push_str(line.as_str())?;
+    }
+    Note::new(alloc, said.as_str())
+}
+
+/// Returns the first and the last line of each run of lines of a text that differ from those of
+/// another one.
+fn runs_between(alloc: Global, text: &str, other: &str) -> Mem<Vec<(usize, usize)>> {
+    let (mut lines, mut others) = (lines_of(alloc, text)?, lines_of(alloc, other)?);
+    if lines.len() == others.len() {
+        return runs_apart(alloc, lines.as_slice(), others.as_slice());
+    }
+    let first = equal_front(lines.as_slice(), others.as_slice()).saturating_add(1);
+    lines.reverse();
+    others.reverse();
+    let equal = equal_front(lines.as_slice(), others.as_slice());
+    let mut runs = Vec::new(alloc);
+    runs.push((first, lines.len().saturating_sub(equal).max(first)))?;
+    Ok(runs)
+}
+
+/// Returns the runs of lines that differ, of as many lines.
+fn runs_apart(alloc: Global, lines: &[&str], others: &[&str]) -> Mem<Vec<(usize, usize)>> {
+    let mut runs: Vec<(usize, usize)> = Vec::new(alloc);
+    for at in 0..lines.len().min(others.len()) {
+        if lines[at] != others[at] {
+            match runs.last_mut() {
+                Some(run) if run.1 == at => run.1 = at + 1,
+                _ => runs.push((at + 1, at + 1))?,
+            }
+        }
+    }
+    Ok(runs)
+}
+
+fn lines_of<'t>(alloc: Global, text: &'t str) -> Mem<Vec<&'t str>> {
+    let mut lines = Vec::new(alloc);
+    for line in text.split_inclusive('\n') {
+        lines.push(line)?;
+    }
+    Ok(lines)
+}
+
+/// Returns the number of lines at the front that are equal.
+fn equal_front(lines: &[&str], others: &[&str]) -> usize {
+    let pairs = lines.iter().zip(others);
+    pairs.take_while(|(line, other)| line == other).count()
 }

@@ -15,7 +15,7 @@ use crate::messages::refused_edit;
 use crate::outcome::{Done, told_of, told_of_file};
 use crate::put::{held_of, put};
 use crate::read::{STREAM, document_of, text_of};
-use crate::stop::{DONE, Stop};
+use crate::stop::{DONE, Step, Stop};
 use crate::told::Told;
 use crate::words::{Fmt, Reading, Style};
 use file_replace::Folder;
@@ -79,7 +79,7 @@ fn done_of<F: Folder, I: Input>(
     command: &Fmt<'_>,
     file: &str,
     reading: Reading,
-) -> Result<Done, Stop>
+) -> Step<Done>
     ensures done { IfOk result (λ done. FormatsDone reading command.now file.now done.yes
         (string_bytes done.output) (F.history folder.old) (F.history folder.new)
         (I.remaining input.old)) }
@@ -103,16 +103,9 @@ fn done_of<F: Folder, I: Input>(
     let line = if text.as_str() == before {
         String::new(alloc)
     } else {
-        unformatted(alloc, file)?
+        [file, ": not formatted\n"].concat(alloc)?
     };
     Ok(Done::new(alloc, text.as_str() == before, line))
-}
-
-/// Returns the line that names a file which is not formatted.
-fn unformatted(alloc: Global, file: &str) -> Mem<String>
-    ensures { IfOk result (λ s. string_bytes s ≡ file.now ++ codes ": not formatted\n") }
-{
-    [file, ": not formatted\n"].concat(alloc)
 }
 
 /// Formats a file in place.
@@ -122,7 +115,7 @@ fn in_place<F: Folder>(
     command: &Fmt<'_>,
     file: &str,
     reading: Reading,
-) -> Result<Done, Stop>
+) -> Step<Done>
     ensures done { IfOk result (λ done. FormatsInPlace reading command.now file.now done.yes
         (string_bytes done.output) (F.history folder.old) (F.history folder.new)) }
     ensures unmade { IfErr result (λ stop. (left : Option Text) → IsUnformatted reading
@@ -138,20 +131,14 @@ fn in_place<F: Folder>(
 }
 
 /// Returns the text of a file, formatted.
-fn formatted(
-    alloc: Global,
-    file: &str,
-    before: &str,
-    style: &Style,
-    reading: Reading,
-) -> Result<String, Stop>
+fn formatted(alloc: Global, file: &str, text: &str, style: &Style, reading: Reading) -> Step<String>
     ensures formatted { IfOk result
-        (λ s. IsFormatted reading style.now before.now (string_bytes s)) }
-    ensures stops { IfErr result (λ stop. IsNotRead (version_by reading) file.now before.now stop
-        ⊎ IsNotFormatted reading style.now before.now (reason_of stop)) }
+        (λ s. IsFormatted reading style.now text.now (string_bytes s)) }
+    ensures stops { IfErr result (λ stop. IsNotRead (version_by reading) file.now text.now stop
+        ⊎ IsNotFormatted reading style.now text.now (reason_of stop)) }
 {
-    let document = document_of(alloc, file, before, reading)?;
-    formatted_text(alloc, file, before, document, style, reading)
+    let document = document_of(alloc, file, text, reading)?;
+    formatted_text(alloc, file, text, document, style, reading)
 }
 
 /// Returns the text of a document after the sorts, formatted.
@@ -162,7 +149,7 @@ fn formatted_text(
     document: DocumentMut,
     style: &Style,
     reading: Reading,
-) -> Result<String, Stop>
+) -> Step<String>
     ensures formatted { mode_owned document ≡ mode_by reading
         → IsRead reading before.now (tree_owned document) (open_owned document)
         → IfOk result (λ s. IsFormatted reading style.now before.now (string_bytes s)) }
@@ -191,12 +178,7 @@ fn rules_by(text: &str, reading: Reading, keys: bool) -> Rules
 }
 
 /// Makes the sorts in the document.
-fn sort_all(
-    alloc: Global,
-    file: &str,
-    document: &mut DocumentMut,
-    sorts: &[Edit],
-) -> Result<(), Stop>
+fn sort_all(alloc: Global, file: &str, document: &mut DocumentMut, sorts: &[Edit]) -> Step<()>
     ensures sorted { OnOk result
         (sorted_by sorts.now (tree_owned document.old) ≡ Ok (tree_owned document.new)) }
     ensures printed { IsPrintedAs document.new document.old }
@@ -210,13 +192,7 @@ fn sort_all(
 }
 
 /// Makes a sort in the document. A path where nothing is is passed over.
-fn sort(
-    alloc: Global,
-    file: &str,
-    document: &mut DocumentMut,
-    at: usize,
-    edit: &Edit,
-) -> Result<(), Stop>
+fn sort(alloc: Global, file: &str, document: &mut DocumentMut, at: usize, edit: &Edit) -> Step<()>
     ensures sorted { OnOk result (passing_over (tree_owned document.old)
         (effect edit.now (tree_owned document.old)) ≡ Ok (tree_owned document.new)) }
     ensures printed { IsPrintedAs document.new document.old }

@@ -1,6 +1,6 @@
 //! The commands `get`, `has`, `keys` and `json`.
 ghost use Rattle.std.specs.Option.{option_copied};
-ghost use Rattle.std.specs.Prelude.{◌≡◌, ◌↔◌, ◌++◌, Any, IfErr, IsTrue, None, OnOk, option_map, string_bytes};
+ghost use Rattle.std.specs.Prelude.{◌≡◌, ◌↔◌, Any, IfErr, IsTrue, option_map};
 ghost use Rattle.toml_edit.specs.DocumentView.{tree_owned};
 ghost use Rattle.toml_edit_edit_laws.specs.Commands.{item_at};
 ghost use Rattle.toml_edit_files.specs.Answers.{IsJsonAt, IsNoJson};
@@ -30,18 +30,9 @@ pub fn get(alloc: Global, document: &DocumentMut, command: &Get<'_>) -> Step<Str
         let path = path.as_slice();
         let found = document.get_at(path);
         let got = got_text(alloc, command, path, found)?;
-        add(&mut text, got)?;
+        text.push_str(got.as_str())?;
     }
     Ok(text)
-}
-
-fn add(text: &mut String, more: String) -> Step<()>
-    ensures text { OnOk result
-        (string_bytes text.new ≡ string_bytes text.old ++ string_bytes more) }
-    ensures memory { IfErr result (λ stop. reason_of stop ≡ None) }
-{
-    text.push_str(more.as_str())?;
-    Ok(())
 }
 
 /// Returns the text of what is found at a path, or the default if nothing is.
@@ -71,13 +62,8 @@ fn why_not(shape: Shape, item: &Item) -> &'static str {
     match shape {
         Shape::Spelled => "does not fit",
         Shape::Raw => "no scalar",
-        Shape::Lines => {
-            if item.is_array() {
-                "an element has no line of its own"
-            } else {
-                "no array"
-            }
-        }
+        Shape::Lines if item.is_array() => "an element has no line of its own",
+        Shape::Lines => "no array",
     }
 }
 

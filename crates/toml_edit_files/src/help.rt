@@ -1,9 +1,6 @@
 //! The texts of `--help` and `--version`.
-ghost use Rattle.std.specs.Prelude.{◌≡◌, IfOk, string_bytes};
-ghost use Rattle.toml_edit_files.specs.Help.{about_of, help_on, topic_of, usage_of};
-
-use std::alloc::Global;
-use toml_edit::Mem;
+ghost use Rattle.std.specs.Prelude.{◌≡◌};
+ghost use Rattle.toml_edit_files.specs.Help.{help_on, topic_of};
 
 /// What `--version` writes.
 pub const VERSION: &str = "tomlfile 0.1.0 (TOML 1.1 and 1.0)\n";
@@ -42,50 +39,25 @@ pub fn topic_of(name: &str) -> Option<Topic>
     }
 }
 
-/// Returns the usage of a command, as one line, and what it does, with its options and examples.
-pub fn page(topic: Topic) -> (&'static str, &'static str)
-    ensures usage { result.0.now ≡ usage_of topic }
-    ensures about { result.1.now ≡ about_of topic }
+/// Returns the help on a command: its usage, as one line, and what it does.
+pub fn page(topic: Topic) -> &'static str
+    ensures { result.now ≡ help_on topic }
 {
     match topic {
-        Topic::Program => (PROGRAM_USAGE, PROGRAM_HELP),
-        Topic::Get => (GET_USAGE, GET_HELP),
-        Topic::Has => (HAS_USAGE, HAS_HELP),
-        Topic::Edit => (EDIT_USAGE, EDIT_HELP),
-        Topic::Keys => (KEYS_USAGE, KEYS_HELP),
-        Topic::Json => (JSON_USAGE, JSON_HELP),
-        Topic::Check => (CHECK_USAGE, CHECK_HELP),
-        Topic::Fmt => (FMT_USAGE, FMT_HELP),
+        Topic::Program => PROGRAM_HELP,
+        Topic::Get => GET_HELP,
+        Topic::Has => HAS_HELP,
+        Topic::Edit => EDIT_HELP,
+        Topic::Keys => KEYS_HELP,
+        Topic::Json => JSON_HELP,
+        Topic::Check => CHECK_HELP,
+        Topic::Fmt => FMT_HELP,
     }
 }
 
-/// Returns the help on a command.
-pub fn help(alloc: Global, topic: Topic) -> Mem<String>
-    ensures { IfOk result (λ s. string_bytes s ≡ help_on topic) }
-{
-    let (usage, about) = page(topic);
-    ["usage: ", usage, "\n\n", about].concat(alloc)
-}
-
-pub const PROGRAM_USAGE: &str =
-    "tomlfile [strict] [normal] get | has | edit | keys | json | check | fmt ..";
-
-pub const GET_USAGE: &str = "tomlfile get FILE PATH.. [--raw | --lines] [--default TEXT]";
-
-pub const HAS_USAGE: &str = "tomlfile has FILE PATH [KIND]";
-
-pub const EDIT_USAGE: &str =
-    "tomlfile edit FILE EDIT [, EDIT].. [--script FILE] [--dry-run] [--output FILE] [--locked] [--force]";
-
-pub const KEYS_USAGE: &str = "tomlfile keys FILE [PATH] [--all]";
-
-pub const JSON_USAGE: &str = "tomlfile json FILE [PATH]";
-
-pub const CHECK_USAGE: &str = "tomlfile check FILE..";
-
-pub const FMT_USAGE: &str = "tomlfile fmt FILE.. [--check] [--keys] [--sort PATH].. [--force]";
-
 pub const PROGRAM_HELP: &str = "\
+usage: tomlfile [strict] [normal] get | has | edit | keys | json | check | fmt ..
+
 Reads and edits TOML files, and keeps comments, spacing and spelling.
 
   get    writes the items at paths
@@ -106,6 +78,8 @@ stream failed, 5 a file is not TOML. tomlfile COMMAND --help has examples.
 ";
 
 pub const GET_HELP: &str = "\
+usage: tomlfile get FILE PATH.. [--raw | --lines] [--default TEXT]
+
 Writes the item at each PATH: a value as it is spelled; a table as a document of
 its own, with the tables below it.
 
@@ -119,6 +93,8 @@ its own, with the tables below it.
 ";
 
 pub const HAS_HELP: &str = "\
+usage: tomlfile has FILE PATH [KIND]
+
 Ends with status 0 if something is at PATH, and is of the KIND if one is given:
 string, integer, float, boolean, datetime, array, table or tables. Else the
 status is 1.
@@ -127,6 +103,8 @@ status is 1.
 ";
 
 pub const EDIT_HELP: &str = "\
+usage: tomlfile edit FILE EDIT [, EDIT].. [--script FILE] [--dry-run] [--output FILE] [--locked] [--force]
+
 Makes the edits one after another, all or none, and writes the file in place.
 The status is 1 if nothing is at a path.
 
@@ -156,6 +134,8 @@ The status is 1 if nothing is at a path.
 ";
 
 pub const KEYS_HELP: &str = "\
+usage: tomlfile keys FILE [PATH] [--all]
+
 Writes the keys of the table at PATH, or of the file, one a line and as they are
 spelled.
 
@@ -165,6 +145,8 @@ spelled.
 ";
 
 pub const JSON_HELP: &str = "\
+usage: tomlfile json FILE [PATH]
+
 Writes the item at PATH, or the file, as JSON on one line. Keys keep their
 order, and floats their digits; dates, times, inf and nan are strings.
 
@@ -172,6 +154,8 @@ order, and floats their digits; dates, times, inf and nan are strings.
 ";
 
 pub const CHECK_HELP: &str = "\
+usage: tomlfile check FILE..
+
 Writes FILE:LINE:COLUMN: MESSAGE for each file that is not TOML. The status is 1
 if there is one, and 4 if a file can't be read.
 
@@ -179,6 +163,8 @@ if there is one, and 4 if a file can't be read.
 ";
 
 pub const FMT_HELP: &str = "\
+usage: tomlfile fmt FILE.. [--check] [--keys] [--sort PATH].. [--force]
+
 Formats each file in place: spaces, empty lines, indentation, and arrays with a
 line for each value where they have a newline or a comment, or are wide. Keys,
 values and comments stay as they are. A file that is not TOML is reported as by

@@ -5,7 +5,6 @@
 mod check;
 mod edit;
 mod fmt;
-mod form;
 mod get;
 mod help;
 mod messages;

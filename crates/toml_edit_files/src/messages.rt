@@ -49,8 +49,12 @@ pub fn mistaken(alloc: Global, said: Mem<String>) -> Stop
 pub fn wrong_words(alloc: Global, topic: Topic) -> Stop
     ensures { IsFor Mistaken (reason_of result) }
 {
-    let (usage, _) = page(topic);
-    mistaken(alloc, format!(in alloc; "usage: {usage}"))
+    mistaken(alloc, String::from_str(alloc, usage(topic)))
+}
+
+/// Returns the usage of a command, as one line.
+fn usage(topic: Topic) -> &'static str {
+    page(topic).lines().next().unwrap_or("")
 }
 
 /// Returns that there is no command of this name.
@@ -62,10 +66,10 @@ pub fn no_command(alloc: Global, name: &str) -> Stop
     }
     match near(alloc, name, COMMANDS) {
         Ok(near) => {
-            let (near, (usage, _)) = (near.as_str(), page(Topic::Program));
+            let (near, usage) = (near.as_str(), usage(Topic::Program));
             mistaken(
                 alloc,
-                format!(in alloc; "unknown command {name}{near}\ntomlfile: usage: {usage}"),
+                format!(in alloc; "unknown command {name}{near}\ntomlfile: {usage}"),
             )
         }
         Err(_) => Stop::Memory,
@@ -76,10 +80,10 @@ pub fn no_command(alloc: Global, name: &str) -> Stop
 pub fn no_option(alloc: Global, topic: Topic, name: &str) -> Stop
     ensures { IsFor Mistaken (reason_of result) }
 {
-    let (usage, _) = page(topic);
+    let usage = usage(topic);
     mistaken(
         alloc,
-        format!(in alloc; "no option {name}\ntomlfile: usage: {usage}"),
+        format!(in alloc; "no option {name}\ntomlfile: {usage}"),
     )
 }
 

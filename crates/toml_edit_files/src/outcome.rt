@@ -1,10 +1,10 @@
 //! What commands come to: their status, and what they write.
-ghost use Rattle.std.specs.Prelude.{◌≡◌, ◌⊎◌, [], Ok, string_bytes};
+ghost use Rattle.std.specs.Prelude.{◌≡◌, ◌⊎◌, [], string_bytes};
 ghost use Rattle.toml_edit_files.specs.Notes.{unnamed};
 ghost use Rattle.toml_edit_files.specs.Outcomes.{TellsAlone, TellsOf, TellsOfFile, TellsStop};
-ghost use Rattle.toml_edit_files.specs.declared.stop.Stop.TheVariants.{Memory, Message};
+ghost use Rattle.toml_edit_files.specs.declared.stop.Stop.TheVariants.{Memory};
 
-use crate::stop::{DONE, NO, NO_MEMORY, Reason, Stop};
+use crate::stop::{DONE, NO, NO_MEMORY, Reason, Step, Stop};
 use crate::told::{Note, Told};
 use std::alloc::Global;
 
@@ -35,51 +35,32 @@ impl Done {
 }
 
 /// Returns the outcome of a command that is done or stops.
-pub fn told_of(alloc: Global, outcome: Result<Done, Stop>) -> Told
+pub fn told_of(alloc: Global, outcome: Step<Done>) -> Told
     ensures { TellsOf outcome result }
 {
     match outcome {
-        Ok(done) => told_of_done(done),
-        Err(Stop::Message(reason, note)) => told_of_note(alloc, reason, note),
+        Ok(done) => Told {
+            status: if done.yes { DONE } else { NO },
+            output: done.output,
+            notes: done.notes,
+        },
+        Err(Stop::Message(reason, note)) => Told {
+            status: reason.status(),
+            output: String::new(alloc),
+            notes: note.text,
+        },
         Err(Stop::Silent) => Told::new(alloc, NO),
         Err(Stop::Memory) => Told::new(alloc, NO_MEMORY),
     }
 }
 
-/// Returns the outcome of a command that is done.
-fn told_of_done(done: Done) -> Told
-    ensures { TellsOf (Ok done) result }
-{
-    Told {
-        status: if done.yes { DONE } else { NO },
-        output: done.output,
-        notes: done.notes,
-    }
-}
-
-/// Returns the outcome of a command that stops with a message.
-fn told_of_note(alloc: Global, reason: Reason, note: Note) -> Told
-    ensures { TellsStop (Message reason note) result }
-{
-    Told {
-        status: reason.status(),
-        output: String::new(alloc),
-        notes: note.text,
-    }
-}
-
 /// Returns the outcome of a file that is done, or refused, or at which a command stops.
-pub fn told_of_file(alloc: Global, outcome: Result<Done, Stop>) -> Told
+pub fn told_of_file(alloc: Global, outcome: Step<Done>) -> Told
     ensures { TellsOfFile outcome result }
 {
     match outcome {
-        Err(Stop::Message(reason, note)) => match reason {
-            Reason::Refused => told_of_refused(alloc, note),
-            reason => told_of(alloc, Err(Stop::Message(reason, note))),
-        },
-        Err(Stop::Silent) => told_of(alloc, Err(Stop::Silent)),
-        Err(Stop::Memory) => told_of(alloc, Err(Stop::Memory)),
-        Ok(done) => told_of(alloc, Ok(done)),
+        Err(Stop::Message(Reason::Refused, note)) => told_of_refused(alloc, note),
+        outcome => told_of(alloc, outcome),
     }
 }
 

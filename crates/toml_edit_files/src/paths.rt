@@ -1,8 +1,6 @@
 //! Paths in words and in messages.
 ghost use Rattle.std.specs.Prelude.{IfOk};
 ghost use Rattle.toml_edit_files.specs.Steps.{Mistakes};
-ghost use Rattle.toml_edit_files.specs.Stops.{IsFor, reason_of};
-ghost use Rattle.toml_edit_files.specs.declared.stop.Reason.TheVariants.{Mistaken};
 ghost use Rattle.toml_edit_model.specs.Keys.{names};
 ghost use Rattle.toml_edit_edits.specs.Said.{IsNoKeys, SpellsKeys};
 ghost use Rattle.toml_edit_words.specs.Spelled.{IsNoPath, SpellsPath};
@@ -21,7 +19,9 @@ pub fn path_of(alloc: Global, place: &str, text: &str) -> Step<Vec<Key>>
 {
     match path_in(alloc, text) {
         Ok(path) => Ok(path),
-        Err(ParseFault::Toml(error)) => Err(bad_path(alloc, place, text, &error)),
+        Err(ParseFault::Toml(error)) => {
+            Err(mistaken(alloc, bad_path(alloc, place, text, &error)))
+        }
         Err(ParseFault::Memory) => Err(Stop::Memory),
     }
 }
@@ -33,19 +33,15 @@ pub fn sort_path_of(alloc: Global, place: &str, text: &str) -> Step<Vec<Key>>
 {
     match keys_of(alloc, text) {
         Ok(path) => Ok(path),
-        Err(ParseFault::Toml(error)) => Err(bad_path(alloc, place, text, &error)),
+        Err(ParseFault::Toml(error)) => {
+            Err(mistaken(alloc, bad_path(alloc, place, text, &error)))
+        }
         Err(ParseFault::Memory) => Err(Stop::Memory),
     }
 }
 
-/// Returns that a path is none, and why.
-fn bad_path(alloc: Global, place: &str, text: &str, error: &TomlError) -> Stop
-    ensures { IsFor Mistaken (reason_of result) }
-{
-    mistaken(alloc, bad_path_text(alloc, place, text, error))
-}
-
-fn bad_path_text(alloc: Global, place: &str, text: &str, error: &TomlError) -> Mem<String> {
+/// Returns the message that a path is none, and why.
+fn bad_path(alloc: Global, place: &str, text: &str, error: &TomlError) -> Mem<String> {
     let why = why_of(alloc, error)?;
     let why = why.as_str();
     format!(in alloc; "{place}: bad path {text}{why}")

@@ -4,7 +4,7 @@ ghost use Rattle.std.specs.Io.KnownBytes.{Appends};
 ghost use Rattle.toml_edit.specs.DocumentView.{tree_owned};
 ghost use Rattle.toml_edit_files.specs.Answers.{HasNoAnswer, IsAnswer};
 ghost use Rattle.toml_edit_files.specs.Folders.{OnlyLooks};
-ghost use Rattle.toml_edit_files.specs.Runs.{Adds, AnswersQuestion, Ends, EndsCommand, HasNone, Writes, memory_line, write_line};
+ghost use Rattle.toml_edit_files.specs.Runs.{Adds, AnswersQuestion, Ends, HasNone, Writes, memory_line, write_line};
 ghost use Rattle.toml_edit_files.specs.Stops.{reason_of};
 ghost use Rattle.toml_edit_files.specs.declared.told.Told.{Told};
 ghost use Rattle.toml_edit_io.specs.Streams.{AppendsBeginning};
@@ -17,9 +17,9 @@ use crate::get::{get, has, json, keys};
 use crate::outcome::{Done, told_of};
 use crate::read::read_document;
 use crate::request::request_of;
-use crate::stop::{FAILED, NO_MEMORY, Stop};
+use crate::stop::{FAILED, NO_MEMORY, Step, Stop};
 use crate::told::Told;
-use crate::words::{Command, Question, Reading};
+use crate::words::{Command, Question, Reading, Request};
 use file_replace::Folder;
 use std::alloc::Global;
 use toml_edit::DocumentMut;
@@ -29,18 +29,7 @@ use toml_edit_io::{Input, Output, write_all};
 /// returns the exit status.
 ///
 /// The command is read whole before any file is, and its answer is made whole before any of it is
-/// written. The name `-` of a file is standard input, and for what is written standard output.
-///
-/// # Exit status
-///
-/// - 0: done, or the answer is yes.
-/// - 1: the answer is no: nothing is at the path, no element is equal, or a file is refused by `check`
-///   or `fmt`, or is not formatted.
-/// - 2: the words are no command, or what they say of the document cannot be done.
-/// - 3: out of memory.
-/// - 4: a file or a stream has failed, or a file has changed meanwhile, or is read-only.
-/// - 5: a file is not UTF-8 or not TOML.
-/// - 6: `--locked` refuses a file.
+/// written. `docs/TOMLFILE.md` has what each command does, and what each exit status says.
 ///
 /// A message about each file that is not done goes to `errors`. A command that stops has no output,
 /// and no file has changed; at 3 and 4 one that it writes holds the text before or the new one. But
@@ -128,23 +117,10 @@ fn answer<F: Folder, I: Input>(
     ensures { Ends (F.history folder.old) (F.history folder.new) (I.remaining input.old)
         (map string_bytes words.now) result }
 {
-    match request_of(alloc, words) {
-        Ok(request) => answer_command(alloc, request.command, folder, input, request.reading),
-        Err(stop) => told_of(alloc, Err(stop)),
-    }
-}
-
-/// Runs the command up to what it writes.
-fn answer_command<F: Folder, I: Input>(
-    alloc: Global,
-    command: Command<'_>,
-    folder: &mut F,
-    input: &mut I,
-    reading: Reading,
-) -> Told
-    ensures { EndsCommand (F.history folder.old) (F.history folder.new) (I.remaining input.old)
-        reading command.entry result }
-{
+    let Request { command, reading } = match request_of(alloc, words) {
+        Ok(request) => request,
+        Err(stop) => return told_of(alloc, Err(stop)),
+    };
     match command {
         Command::Check(files) => check(alloc, folder, input, files.as_slice(), reading),
         Command::Fmt(command) => fmt(alloc, folder, input, &command, reading),
@@ -163,7 +139,7 @@ fn ask<F: Folder, I: Input>(
     folder: &mut F,
     input: &mut I,
     reading: Reading,
-) -> Result<Done, Stop>
+) -> Step<Done>
     ensures answer { IfOk result (λ done. AnswersQuestion (F.history folder.old)
         (F.history folder.new) (I.remaining input.old) reading question.now done.yes
         (string_bytes done.output)) }
@@ -177,7 +153,7 @@ fn ask<F: Folder, I: Input>(
 }
 
 /// Answers a question about a document.
-fn answer_of(alloc: Global, document: &DocumentMut, question: &Question<'_>) -> Result<Done, Stop>
+fn answer_of(alloc: Global, document: &DocumentMut, question: &Question<'_>) -> Step<Done>
     ensures answer { IfOk result (λ done. IsAnswer question.now (tree_owned document.now) done.yes
         (string_bytes done.output)) }
     ensures quiet { IfOk result (λ done. string_bytes done.notes ≡ []) }

@@ -6,7 +6,7 @@ ghost use Rattle.file_replace.specs.Replacing.{asked_by};
 
 use crate::messages::{failed, stop_at};
 use crate::read::text_from;
-use crate::stop::{Reason, Stop};
+use crate::stop::{Reason, Step, Stop};
 use file_replace::{Folder, ReplaceFault, Replacement, read_locked, replace};
 use std::alloc::Global;
 
@@ -18,7 +18,7 @@ pub struct Held {
 }
 
 /// Reads the file that a name leads to, under its lock.
-pub fn held_of<F: Folder>(alloc: Global, folder: &mut F, file: &str) -> Result<Held, Stop>
+pub fn held_of<F: Folder>(alloc: Global, folder: &mut F, file: &str) -> Step<Held>
     ensures held { IfOk result (λ held. IsHeld file.now (string_bytes held.name)
         (F.history folder.old) (F.history folder.new) (string_bytes held.text)) }
     ensures stops { IfErr result (IsUnread file.now (IsNoHeldText file.now (F.history folder.old)
@@ -36,7 +36,7 @@ pub fn held_of<F: Folder>(alloc: Global, folder: &mut F, file: &str) -> Result<H
 }
 
 /// Returns the name that a name leads to.
-fn name_of<F: Folder>(alloc: Global, folder: &mut F, file: &str) -> Result<String, Stop>
+fn name_of<F: Folder>(alloc: Global, folder: &mut F, file: &str) -> Step<String>
     ensures leads { IfOk result (λ name. F.history folder.new
         ≡ leads file.now (string_bytes name) (F.history folder.old)) }
     ensures failed { IfErr result (IsFailed file.now) }
@@ -56,7 +56,7 @@ pub fn put<'t, F: Folder>(
     held: &'t Held,
     text: &'t str,
     force: bool,
-) -> Result<(), Stop>
+) -> Step<()>
     ensures puts { OnOk result (IsPut force (string_bytes held.now.name)
         (string_bytes held.now.text) text.now (F.history folder.old) (F.history folder.new)) }
     ensures stops { OnErr result (StopsPutting (string_bytes held.now.name) (F.history folder.old)
@@ -82,7 +82,7 @@ pub fn put_at<F: Folder>(
     file: &str,
     text: String,
     force: bool,
-) -> Result<(), Stop>
+) -> Step<()>
     ensures puts { OnOk result (IsPutAt force file.now (string_bytes text) (F.history folder.old)
         (F.history folder.new)) }
     ensures stops { OnErr result
@@ -101,7 +101,7 @@ fn put_named<'t, F: Folder>(
     name: &'t str,
     text: &'t str,
     force: bool,
-) -> Result<(), Stop>
+) -> Step<()>
     ensures puts { OnOk result (Replaced (asked_for force name.now text.now)
         (F.history folder.old) (F.history folder.new)) }
     ensures stops { OnErr result
@@ -123,7 +123,7 @@ fn put_asked<F: Folder>(
     folder: &mut F,
     file: &str,
     asked: &Replacement<'_>,
-) -> Result<(), Stop>
+) -> Step<()>
     ensures puts { OnOk result
         (Replaced (asked_by asked.now) (F.history folder.old) (F.history folder.new)) }
     ensures stops { OnErr result

@@ -11,7 +11,7 @@ ghost use Rattle.toml_edit_files.specs.declared.stop.Reason.TheVariants.{Refused
 ghost use Rattle.file_replace.specs.Events.{NotesFound, found};
 
 use crate::messages::{failed, refused, stop_at};
-use crate::stop::{Reason, Stop};
+use crate::stop::{Reason, Step, Stop};
 use crate::words::Reading;
 use file_replace::Folder;
 use std::alloc::Global;
@@ -27,7 +27,7 @@ pub fn text_of<F: Folder, I: Input>(
     folder: &mut F,
     input: &mut I,
     file: &str,
-) -> Result<String, Stop>
+) -> Step<String>
     ensures text { IfOk result (λ s. IsTextOf file.now (F.history folder.old)
         (F.history folder.new) (I.remaining input.old) (string_bytes s)) }
     ensures stops { IfErr result (IsUnread file.now (IsNoTextOf file.now (F.history folder.old)
@@ -41,7 +41,7 @@ pub fn text_of<F: Folder, I: Input>(
 }
 
 /// Returns the bytes of a file as a text.
-pub fn text_from(alloc: Global, file: &str, bytes: Vec<u8>) -> Result<String, Stop>
+pub fn text_from(alloc: Global, file: &str, bytes: Vec<u8>) -> Step<String>
     ensures text { IfOk result (λ s. string_bytes s ≡ bytes.items) }
     ensures stops { IfErr result (StopsSaying Refused (IsNotUtf8 file.now bytes.items)) }
 {
@@ -57,7 +57,7 @@ fn bytes_of<F: Folder, I: Input>(
     folder: &mut F,
     input: &mut I,
     file: &str,
-) -> Result<Vec<u8>, Stop>
+) -> Step<Vec<u8>>
     ensures text { IfOk result (λ bytes. IsTextOf file.now (F.history folder.old)
         (F.history folder.new) (I.remaining input.old) bytes.items) }
     ensures failed { IfErr result (IsFailed file.now) }
@@ -73,7 +73,7 @@ fn bytes_of<F: Folder, I: Input>(
 }
 
 /// Returns the bytes of standard input, which messages call `file`.
-fn input_bytes<I: Input>(alloc: Global, input: &mut I, file: &str) -> Result<Vec<u8>, Stop>
+fn input_bytes<I: Input>(alloc: Global, input: &mut I, file: &str) -> Step<Vec<u8>>
     ensures failed { IfErr result (IsFailed file.now) }
     ensures bytes { IfOk result (λ bytes. IfSome (I.remaining input.old) (λ left. bytes.items ≡ left)) }
     ensures end { OnOk result (IsAtEnd (I.remaining input.new)) }
@@ -86,7 +86,7 @@ fn input_bytes<I: Input>(alloc: Global, input: &mut I, file: &str) -> Result<Vec
 }
 
 /// Returns the bytes of a file.
-fn file_bytes<F: Folder>(alloc: Global, folder: &mut F, file: &str) -> Result<Vec<u8>, Stop>
+fn file_bytes<F: Folder>(alloc: Global, folder: &mut F, file: &str) -> Step<Vec<u8>>
     ensures failed { IfErr result (IsFailed file.now) }
     ensures notes { NotesFound (F.history folder.old) (F.history folder.new)
         (λ bytes. found file.now bytes.items) result }
@@ -98,12 +98,7 @@ fn file_bytes<F: Folder>(alloc: Global, folder: &mut F, file: &str) -> Result<Ve
 }
 
 /// Parses the text of a file.
-pub fn document_of(
-    alloc: Global,
-    file: &str,
-    text: &str,
-    reading: Reading,
-) -> Result<DocumentMut, Stop>
+pub fn document_of(alloc: Global, file: &str, text: &str, reading: Reading) -> Step<DocumentMut>
     ensures read { IfOk result (λ d. IsRead reading text.now (tree_owned d) (open_owned d)) }
     ensures mode { IfOk result (λ d. mode_owned d ≡ mode_by reading) }
     ensures stops { IfErr result (IsNotRead (version_by reading) file.now text.now) }
@@ -122,7 +117,7 @@ pub fn read_document<F: Folder, I: Input>(
     input: &mut I,
     file: &str,
     reading: Reading,
-) -> Result<DocumentMut, Stop>
+) -> Step<DocumentMut>
     ensures read { IfOk result
         (λ d. IsReadFrom reading file.now (F.history folder.old) (F.history folder.new)
         (I.remaining input.old) (tree_owned d)) }

@@ -14,7 +14,7 @@ ghost use Rattle.toml_edit_files.specs.Stops.{reason_of};
 ghost use Rattle.toml_edit_items.specs.declared.shape.Shape.TheVariants.{Spelled};
 ghost use Rattle.toml_edit_files.specs.declared.help.Topic.TheVariants as topics;
 
-use crate::help::{Topic, VERSION, help, topic_of};
+use crate::help::{Topic, VERSION, page, topic_of};
 use crate::messages::{no_command, wrong_words};
 use crate::paths::{path_of, sort_path_of};
 use crate::script::edit_at;
@@ -137,7 +137,7 @@ fn help_about<'w>(alloc: Global, topic: Topic) -> Step<Command<'w>>
     ensures shows { IfOk result (Shows (Some (help_on topic))) }
     ensures memory { IfErr result (λ stop. reason_of stop ≡ None) }
 {
-    Ok(Command::Show(help(alloc, topic)?))
+    Ok(Command::Show(String::from_str(alloc, page(topic))?))
 }
 
 /// Reads the words after the name of a command.

@@ -29,14 +29,13 @@ pub fn edit_at<'w, 't>(
     ensures stops { Mistakes (BeginsNoEdit (version_by reading)
         (map (λ w. w.now) words.now)) result }
 {
-    let count = match next_edit(alloc, reading.options(), words) {
-        Ok((edit, count)) => match edits.push(edit) {
-            Ok(()) => count,
-            Err(_) => return Err(Stop::Memory),
-        },
-        Err(fault) => return Err(no_edit(alloc, file, edits.len() + 1, words, fault)),
-    };
-    Ok(&words[count..])
+    match next_edit(alloc, reading.options(), words) {
+        Ok((edit, count)) => {
+            edits.push(edit)?;
+            Ok(&words[count..])
+        }
+        Err(fault) => Err(no_edit(alloc, file, edits.len() + 1, words, fault)),
+    }
 }
 
 /// Reads the edits of a script: one a line, as `set PATH VALUE`. Empty lines, and lines that begin
@@ -78,10 +77,7 @@ fn add_line(
 fn is_passed(line: &str) -> bool
     ensures { result ≡ is_passed line.now }
 {
-    match line.as_bytes() {
-        [] => true,
-        [first, ..] => *first == b'#',
-    }
+    line.is_empty() || line.as_bytes()[0] == b'#'
 }
 
 /// Returns that words are no edit of this number, and why.

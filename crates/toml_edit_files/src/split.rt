@@ -1,7 +1,7 @@
 //! The options of a command and its other words.
 ghost use Rattle.std.specs.Prelude.{[], ◌≡◌, ◌∷◌, ◌++◌, IfErr, IfOk, None, OnOk, Some, map, string_bytes};
 ghost use Rattle.std.specs.Option.{option_copied};
-ghost use Rattle.toml_edit_files.specs.Split.{checks_all, following, has, is_flag, is_option, is_plain, is_refused, last_of, no_words, split_of, split_words, step, takes, takes_operand};
+ghost use Rattle.toml_edit_files.specs.Split.{checks_all, following, has, is_flag, is_option, is_plain, is_refused, last_of, split_of, split_words, step, takes, takes_operand};
 ghost use Rattle.toml_edit_files.specs.Steps.{Mistakes};
 ghost use Rattle.toml_edit_files.specs.Stops.{reason_of};
 
@@ -32,7 +32,13 @@ pub fn split_words<'w>(alloc: Global, topic: Topic, words: &'w [String]) -> Step
         (λ s. split_words topic (map string_bytes words.now) ≡ Some (split_of s)) }
     ensures stops { Mistakes (split_words topic (map string_bytes words.now) ≡ None) result }
 {
-    let mut split = Split::new(alloc);
+    let mut split = Split {
+        options: Vec::new(alloc),
+        operands: Vec::new(alloc),
+        pending: None,
+        left: 0,
+        ended: false,
+    };
     'words: for word in words {
         split.take(alloc, topic, word.as_str())?;
     }
@@ -43,18 +49,7 @@ pub fn split_words<'w>(alloc: Global, topic: Topic, words: &'w [String]) -> Step
 }
 
 impl<'w> Split<'w> {
-    fn new(alloc: Global) -> Split<'w>
-        ensures { split_of result ≡ no_words }
-    {
-        Split {
-            options: Vec::new(alloc),
-            operands: Vec::new(alloc),
-            pending: None,
-            left: 0,
-            ended: false,
-        }
-    }
-
+    /// Takes the next word.
     fn take(&mut self, alloc: Global, topic: Topic, word: &'w str) -> Step<()>
         ensures took { OnOk result
             (step topic (split_of self.old) word.now ≡ Some (split_of self.new)) }
@@ -190,10 +185,7 @@ pub fn is_option(word: &str) -> bool
 fn checks_all(topic: Topic) -> bool
     ensures { result ≡ checks_all topic }
 {
-    match topic {
-        Topic::Check | Topic::Fmt | Topic::Edit => true,
-        _ => false,
-    }
+    matches!(topic, Topic::Check | Topic::Fmt | Topic::Edit)
 }
 
 /// Returns how many words after this one are of the same edit.

@@ -1,7 +1,6 @@
 //! `tomlfile [strict] [normal] get | has | edit | keys | json | check | fmt ..`
 //!
-//! Reads and edits TOML files. `tomlfile --help` has the commands, the crate `toml_edit_files` the
-//! exit statuses, and `test_runs` runs of each.
+//! Reads and edits TOML files. `tomlfile --help` has the commands, and `test_runs` runs of each.
 #![tactic(auto)]
 
 use file_replace::Host;

@@ -1,5 +1,5 @@
 -- The text is formatted, or refused.
-use Rattle.std.proofs.Common.{◌≡◌, ◌∙◌, ◌++◌, true, false, [], ap, arith, inl, inr, rules, string_bytes, subst, sym}
+use Rattle.std.proofs.Common.{◌≡◌, ◌∙◌, ◌++◌, true, false, [], ap, append-nil, arith, inl, inr, rules, string_bytes, subst, sym}
 use Rattle.std.proofs.lemmas.Result.{IfErr-weaker}
 use Rattle.std.specs.Prelude.{Option, bytes_eq, codes, if◌then◌else◌}
 use Rattle.file_replace.specs.Events.{Text}
@@ -78,8 +78,10 @@ returns-clause-done g c =
           let is = w.line-is in let made = w.new-line.ensures in
           inl (w.if-eq.true, search rules)
       | else-eq+in_ok-line w ↦
-          let is = w.line-is in let made = w.in_ok-line.ensures in
-          inr (w.if-eq.false, search rules)
+          inr (
+            w.if-eq.false,
+            ap string_bytes w.line-is ∙ w.in_ok-line.ensures.ok ∙ ap (λ (t : Text). file ++ t) (append-nil (codes ": not formatted\n")),
+          )
     ])
     in
     formats_not c.args.reading command file before text (g.F.Folder.history c.args.folder.now) (g.F.Folder.history c.text_of.new.folder)

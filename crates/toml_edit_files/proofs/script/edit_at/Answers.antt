@@ -10,14 +10,14 @@ use Rattle.toml_edit_files.proofs.OperandLaws.{split-at}
 use Rattle.std.proofs.Common.{refl}
 use Rattle.toml_edit_files.proofs.script.edit_at.Goals as goal
 
-pub returns-clause-adds : goal.returns-clause-adds
-returns-clause-adds c =
+pub returns-in_ok-push-in-Ok-clause-adds : goal.returns-in_ok-push-in-Ok-clause-adds
+returns-in_ok-push-in-Ok-clause-adds c =
     let words = map (λ w. w.now) c.args.words.now in let n = c.in-Ok.count in (
       take n words,
       c.in-Ok.edit,
       split-at (λ w. w.now) c.args.words.now n,
       subst (λ (v : Version). SaysEdit v (take n words) c.in-Ok.edit) c.options.ensures.version c.in-Ok.ensures.said,
-      c.in-Ok-push.ensures.items,
+      c.in_ok-push-in-Ok.ensures.items,
     )
 
 pub returns-in-Err-clause-stops : goal.returns-in-Err-clause-stops

@@ -4,7 +4,7 @@ use Rattle.toml_edit.specs.DocumentView.{mode_read, open_read, source, tree_read
 use Rattle.toml_edit_parser.specs.Options.{mode_of, version_of}
 use Rattle.toml_edit_command.specs.Written.{held}
 use Rattle.toml_edit_command.proofs.Reading.{read-as}
-use Rattle.toml_edit_command.proofs.read.document_of.Goals as goal
+use Rattle.toml_edit_command.proofs.read.parse.Goals as goal
 
 pub returns-clause-ok : goal.returns-clause-ok
 returns-clause-ok c =
