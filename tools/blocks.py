@@ -113,12 +113,14 @@ def entries():
 def rules_shown():
     """Entries for the lines of GUIDE's table of the formatter's rules that show a text before and after."""
     found, heading = [], ""
+    kinds = {"comments": "Comments::", "indentation": "Indentation::", "arrays": "Arrays::"}
     for number, line in enumerate(read(TOP + "/docs/GUIDE.md").split("\n"), 1):
         heading = line if line.startswith("## ") else heading
-        row = heading == "## Format" and re.match(r"\| `(\w+)[^`]*` \| `([^`]+)` \| `([^`]+)`", line)
+        row = heading == "## Format" and re.match(r"\| `(\w+): ([^`]+)` \| `([^`]+)` \| `([^`]+)`", line)
         if row:
-            name, before, after = ("x = " + text if row[1] in ("arrays", "inline_tables") and at else text for at, text in enumerate(row.groups()))
-            code = ["let mut rules = Rules::default();", "rules.keys = true;", "let document = format(alloc, document, &rules)?;"]
+            name, value = row[1], kinds.get(row[1], "") + row[2]
+            before, after = ("x = " + text if text[0] in "[{" and name != "dots" else text for text in row.groups()[2:])
+            code = ["let mut rules = Rules::default();", "rules.%s = %s;" % (name, value), "let document = format(alloc, document, &rules)?;"]
             found.append({"line": number, "shown": ["GUIDE's rule " + name], "code": code, "before": [before], "after": [after], "file": "docs/GUIDE.md"})
     return found
 
@@ -196,7 +198,7 @@ class Program:
     def calls(self):
         """A function for each entry of tools/calls."""
         text = "use anyhow::{Result, bail};\nuse std::alloc::Global;\nuse std::fmt::Write;\nuse toml_edit::{%s};\n" % ", ".join(USED.split())
-        text += "use toml_edit_edits::{Edit, apply};\nuse toml_edit_fmt::{Rules, format};\nuse toml_edit_json::Json;\n"
+        text += "use toml_edit_edits::{Edit, apply};\nuse toml_edit_fmt::{Arrays, Comments, Indentation, Rules, format};\nuse toml_edit_json::Json;\n"
         shown = entries()
         for name in sorted({name for entry in shown for name in re.findall(r"\b([a-z_]+)::[a-z]", " ".join(entry["code"])) if name in self.files}):
             text += "use crate::%s;\n" % name
@@ -341,7 +343,7 @@ def library():
     def make(to):
         ran = subprocess.run([TOP + "/bindings/build", "--unproved", to], capture_output=True, text=True)
         if ran.returncode:
-            raise OSError(ran.stdout + ran.stderr)
+            raise OSError("bindings/build ended with status %d\n%s%s" % (ran.returncode, ran.stdout, ran.stderr))
 
     return kept("bindings", key_of([read(TOP + "/bindings/build"), read(TOP + "/bindings/c/toml_edit.h"), *texts_below(["toml_edit_c"])]), make)
 
@@ -498,8 +500,8 @@ def faults():
             print("no cc: the blocks of bindings are not tried")
         try:
             paths = {name: ready.result() for name, ready in made.items()}
-        except (OSError, SystemExit) as refused:
-            return list(shown_of(str(refused), program)) or [str(refused)]
+        except (OSError, SystemExit, subprocess.CalledProcessError) as refused:
+            return list(shown_of(str(refused), program)) or [str(refused) or repr(refused)]
     # The README's program, which GUIDE copies as `app`.
     paths["app"] = paths["calls"]
     with tempfile.TemporaryDirectory() as folder:

@@ -583,7 +583,9 @@ def main():
         print(fault)
     numbers, count = check.numbers(), len(check.faults)
     print(", ".join("%s %s" % (format(numbers[word], ","), word) for word in SAID))
-    print("no faults" if not count else "1 fault" if count == 1 else "%d faults" % count)
+    print("no faults" if not count else "1 fault" if count == 1 else "%d faults" % count, flush=True)
+    # Who sees standard error alone learns why the status is 1.
+    print("".join("tools/check.py: %s\n" % fault for fault in check.faults), end="", file=sys.stderr)
     return 1 if count else 0
 
 

@@ -8,8 +8,8 @@ FILE is a text. Left out, these are the files of this machine whose names end in
 
 Of each text that is accepted, the second run changes nothing, and the comments of the formatted text are those of the text, in order, as a
 scanner of strings and comments finds them. Where Python's `tomllib` reads the text, which knows TOML 1.0 alone, it reads the same data from
-the formatted one. So with the default rules, with line endings kept, with lines indented by depth, in narrow lines, with bare keys, and
-with each rule off.
+the formatted one. So with the default rules, with line endings kept, and with each rule off or at its other values; and by `text` of a text
+as it stands, not of the document that is read from it.
 
 Ends with the number of texts, and with 1 if one is otherwise.
 """
@@ -21,7 +21,9 @@ PROGRAM = "test_tools"
 # Words of the program that are tried with each text.
 WORDS = [[], ["exact"], ["exact", "returns"], ["by-depth", "four"], ["narrow"], ["no-equals"], ["no-dots"], ["no-comments"], ["no-empty-lines"],
          ["no-indentation"], ["no-arrays"], ["no-inline-tables"], ["no-empty-lines", "no-indentation", "exact"], ["no-width"],
-         ["bare-keys"], ["bare-keys", "no-dots", "exact"]]
+         ["bare-keys"], ["bare-keys", "no-dots", "exact"], ["text"], ["text", "aligned"], ["text", "aligned", "by-depth", "narrow"],
+         ["text", "two-empty-lines", "no-commas"], ["text", "none-empty", "brackets", "no-braces"], ["text", "collapsed", "commas-stay"],
+         ["text", "no-rows", "four"], ["text", "collapsed", "narrow", "no-commas", "aligned", "bare-keys", "all"]]
 OFF = ["no-equals", "no-dots", "no-comments", "no-empty-lines", "no-indentation", "no-arrays", "no-width", "no-inline-tables"]
 # What each rule is about: the words, a text, and the formatted text.
 CASES = [
@@ -32,13 +34,13 @@ CASES = [
     ([], "a = 1   # one\n[t]# two\n", "a = 1 # one\n\n[t] # two\n"),
     (["two-before-comments"], "a = 1 # one\n", "a = 1  # one\n"),
     (["no-comments"], "a = 1   # one\nb = 2  \n", "a = 1   # one\nb = 2  \n"),
-    ([], "\n\n# top\n\n\n\na = 1\n# of t\n[t]\n\n\nb = 2\n\n\n", "# top\n\na = 1\n\n# of t\n[t]\n\nb = 2\n"),
+    ([], "\n\n# top\n\n\n\na = 1\n# of t\n[t]\n\n\nb = 2\n\n\n", "# top\n\na = 1\n# of t\n[t]\n\nb = 2\n"),
     ([], "\n\n[t]\n[u]\n# end\n\n\n", "[t]\n\n[u]\n# end\n"),
     ([], "a = 1\n# remark\n\n[t]\n", "a = 1\n# remark\n\n[t]\n"),
     ([], "\n\n# only\n\n", "# only\n"),
     (["no-empty-lines"], "\n\na = 1\n\n\n[t]\n\n\n", "\n\na = 1\n\n\n[t]\n\n\n"),
     ([], "  a = 1\n [t]\n   # c\n\tb = 2\n", "a = 1\n\n[t]\n# c\nb = 2\n"),
-    (["by-depth"], "a = 1\n[t]\nb = 1\n# c\n[t.u]\nd = 1\n", "a = 1\n\n[t]\n  b = 1\n\n  # c\n  [t.u]\n    d = 1\n"),
+    (["by-depth"], "a = 1\n[t]\nb = 1\n# c\n[t.u]\nd = 1\n", "a = 1\n\n[t]\n  b = 1\n  # c\n  [t.u]\n    d = 1\n"),
     (["no-indentation"], "  a = 1\n [t]\n   # c\n\tb = 2\n", "  a = 1\n\n [t]\n   # c\n\tb = 2\n"),
     ([], "a = [ 1,2 , 3, ]\nb = [ ]\nc = [\n]\n", "a = [1, 2, 3]\nb = []\nc = []\n"),
     ([], "a = [ 1, # one\n\n\n2\n# two\n, 3 # three\n]\n", "a = [\n  1, # one\n\n  2\n  # two\n  ,\n  3, # three\n]\n"),
@@ -68,6 +70,37 @@ CASES = [
     (["bare-keys", *OFF], "\n[ 'a' . b ]#c\n\"c\"=1\n", "\n[ a . b ]#c\nc=1\n"),
     (["narrow", "bare-keys"], '"name" = [1, 2, 3, 4]\n', "name = [1, 2, 3, 4]\n"),
     (OFF, "\n a=1 \n\n\n[ t ]#c\n b = [ 1,\n2]\n c={ d=1 }\n\n", "\n a=1 \n\n\n[ t ]#c\n b = [ 1,\n2]\n c={ d=1 }\n\n"),
+    ([], "a = 1\n# of a or t\n[t]\n", "a = 1\n# of a or t\n[t]\n"),
+    (["aligned"], "a = 1 # one\nbcd = 2   # two\n\ne = 3 # three\n[t]# four\nf = 1 # five\n",
+     "a = 1    # one\nbcd = 2  # two\n\ne = 3  # three\n\n[t]  # four\nf = 1  # five\n"),
+    (["aligned"], 'x = [ # head\n"a", # one\n"bcd", # two\n# own\n"e" # three\n] # end\n',
+     'x = [  # head\n  "a",    # one\n  "bcd",  # two\n  # own\n  "e",  # three\n]  # end\n'),
+    (["aligned"], "a = 1 # one\nb = \"äöü\" # two\n", "a = 1      # one\nb = \"äöü\"  # two\n"),
+    (["two-empty-lines"], "a = 1\n\n\n\n\nb = 2\n[t]\n", "a = 1\n\n\nb = 2\n\n[t]\n"),
+    (["none-empty"], "\na = 1\n\n\nb = 2\n\n[t]\n\n", "a = 1\nb = 2\n[t]\n"),
+    ([], "a = [\n 1, 2, # one\n 3, 4\n]\n", "a = [\n  1, 2, # one\n  3, 4,\n]\n"),
+    ([], "a = [1, 2,\n 3]\n", "a = [\n  1, 2,\n  3,\n]\n"),
+    (["no-rows"], "a = [\n 1, 2,\n 3, 4\n]\n", "a = [\n  1,\n  2,\n  3,\n  4,\n]\n"),
+    (["narrow"], "a = [\n 1, 222222, 3333333,\n 3\n]\n", "a = [\n  1,\n  222222,\n  3333333,\n  3,\n]\n"),
+    (["narrow"], "a = [\n 1, 22222, 333333,\n 3\n]\n", "a = [\n  1, 22222, 333333,\n  3,\n]\n"),
+    ([], "a = [\n [1], [2],\n [3]\n]\n", "a = [\n  [1],\n  [2],\n  [3],\n]\n"),
+    (["collapsed"], "a = [\n  1,\n  2,\n]\nb = [\n  1, # one\n]\n", "a = [1, 2]\nb = [\n  1, # one\n]\n"),
+    (["no-commas"], "a = [\n  1,\n  2,\n]\nb = [\n 1\n # one\n ,\n]\n", "a = [\n  1,\n  2\n]\nb = [\n  1\n  # one\n  ,\n]\n"),
+    (["no-commas"], "a = [\n  1, # one\n  2, # two\n]\n", "a = [\n  1, # one\n  2 # two\n]\n"),
+    (["commas-stay"], "a = [\n  1,\n  2\n]\nb = [\n  1,\n]\n", "a = [\n  1,\n  2\n]\nb = [\n  1,\n]\n"),
+    (["brackets"], "a = [1,2]\nb = [ ]\nc = {a=1}\n", "a = [ 1, 2 ]\nb = []\nc = { a = 1 }\n"),
+    (["no-braces"], "c = { a = 1,b=2 }\nd = { }\n", "c = {a = 1, b = 2}\nd = {}\n"),
+    (["narrow", "brackets"], "a = [1111, 22222222]\nb = [1111, 222222]\n", "a = [\n  1111,\n  22222222,\n]\nb = [ 1111, 222222 ]\n"),
+    (["narrow"], 'a = ["äöüäöüä", "ö"]\n', 'a = ["äöüäöüä", "ö"]\n'),
+    ([], "a=1\n# fmt: off\nb=2\n[ t ]\n\n\n\nc=3\n\n\n#fmt: on \nd=4\n",
+     "a = 1\n# fmt: off\nb=2\n[ t ]\n\n\n\nc=3\n\n#fmt: on \nd = 4\n"),
+    (["by-depth"], "# fmt: off\n[ t ]\n# fmt: on\nd=4\n", "# fmt: off\n[ t ]\n  # fmt: on\n  d = 4\n"),
+    (["narrow", "bare-keys"], 'a = [{ "b" = 123456 }]\n', "a = [{ b = 123456 }]\n"),
+    (["text"], "# This is @generated.\n\n\na=1\n\n", "# This is @generated.\n\n\na=1\n\n"),
+    (["text", "all"], "# This is @generated.\n\n\na=1\n\n", "# This is @generated.\n\na = 1\n"),
+    ([], "a.b=1\nc=2\na.d=3\n", "a.b = 1\na.d = 3\nc = 2\n"),
+    (["text"], "a.b=1\nc=2\na.d=3\n", "a.b = 1\nc = 2\na.d = 3\n"),
+    (["text"], "\ufeffa=1\r\nb=2", "\ufeffa = 1\r\nb = 2"),
 ]
 
 

@@ -18,7 +18,9 @@ what is built, which takes some two minutes each, and what was found. It wants t
   `--locked`; the script ends at the first empty line, and the rest is the document. It ends with a status up to 6. What it writes is accepted
   by `check` under the same words, and what no edit makes of that stays where no edit is made.
 - `fmt`: `tomlfile fmt`. The first line has such letters, and `k` for `--keys`; the second is the PATH of `--sort`, if it isn't empty; the rest
-  is the document. It ends with a status up to 6. What it writes is accepted, formatted again it is the same, and it stays where no edit is made.
+  is the document. It ends with a status up to 6. What it writes is accepted, and formatted again it is the same. By `normal` or `--sort` it
+  also stays where no edit is made. There neither is wanted of a document with `fmt: off`, where keys may stay that others of their table
+  do not.
 
 No file is opened: a script is in memory, too, and under any other name nothing is found.
 
@@ -216,15 +218,21 @@ static int edit(const uint8_t *text, size_t length) {
   free(letters);
   return 0;
 }
+static int has(const uint8_t *text, size_t length, const char *part) {
+  size_t taken = strlen(part);
+  for (size_t at = 0; at + taken <= length; at++) if (!memcmp(text + at, part, taken)) return 1;
+  return 0;
+}
 static int format(const uint8_t *text, size_t length) {
   char *letters = line(&text, &length), *path = line(&text, &length);
+  int is_parsed = *path || strchr(letters, 'n'), is_partly = is_parsed && has(text, length, "fmt: off");
   Command fmt = {"fmt", {strchr(letters, 'k') ? "--keys" : 0, *path ? "--sort" : 0, *path ? path : 0}};
   if (!run_command(letters, text, length, fmt)) {
     size_t formatted = size;
     uint8_t *copy = copied();
-    run_again(letters, copy, formatted, 1, fmt);
+    run_again(letters, copy, formatted, !is_partly, fmt);
     free(copy);
-    is_written(letters, 1);
+    is_written(letters, is_parsed && !is_partly);
   }
   free(letters); free(path);
   return 0;

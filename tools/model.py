@@ -778,8 +778,8 @@ TOKEN = re.compile(
 
 
 def tokens(text):
-    """The comments and spellings of a text, without commas and white space."""
-    return [token.rstrip("\r") for token in TOKEN.findall(text)]
+    """The comments and spellings of a text, without commas, white space and its mark."""
+    return [token.rstrip("\r") for token in TOKEN.findall(text.removeprefix("\ufeff"))]
 
 
 def data_of(text):
@@ -800,17 +800,19 @@ def format_case(seed, number):
 
 def format_fault(program, case, wrong=""):
     """What is wrong with a formatted text, or None. A text that is given is put behind it."""
-    def formatted(text, *words):
-        ran = subprocess.run([program, "normal", "fmt", "-", *words], input=text.encode(), capture_output=True)
+    def formatted(text, words="fmt -"):
+        ran = subprocess.run([program, *words.split()], input=text.encode(), capture_output=True)
         return ran.stdout.decode() if ran.returncode == 0 else "status %d: %s" % (ran.returncode, ran.stderr.decode())
-    once, bare = formatted(case.text()) + wrong, formatted(case.text(), "--keys")
-    document, data = case.tree(), data_of(case.text())
+    text = case.text()
+    once, normal, bare = formatted(text) + wrong, formatted(text, "normal fmt -"), formatted(text, "fmt - --keys")
+    document, data = case.tree(), data_of(text)
     document.exact = False
     faults = {
-        "comments or spellings": tokens(once) != tokens(trees.printed(document)), "its format": formatted(once) != once,
-        "data": data and not data == data_of(once) == data_of(bare), "bare keys": formatted(bare, "--keys") != bare}
+        "comments or spellings": tokens(once) != tokens(text) or tokens(normal) != tokens(trees.printed(document)),
+        "its format": formatted(once) != once or formatted(normal, "normal fmt -") != normal,
+        "data": data and not data == data_of(once) == data_of(normal) == data_of(bare), "bare keys": formatted(bare, "fmt - --keys") != bare}
     why = next((name for name, is_wrong in faults.items() if is_wrong), None)
-    return why and "tomlfile fmt - < %r: %s of %r or %r" % (case.text(), why, once, bare)
+    return why and "tomlfile fmt - < %r: %s of %r, %r or %r" % (text, why, once, normal, bare)
 
 
 # ---- runs

@@ -2,6 +2,7 @@
 pub mod Dependencies
 pub mod Edits
 pub mod Faults
+pub mod Formatted
 pub mod Misspelled
 pub mod Packages
 pub mod Projects

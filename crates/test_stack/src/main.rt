@@ -121,7 +121,7 @@ fn take(alloc: Global, word: &str, mut document: DocumentMut) -> Mem<bool> {
     match word {
         "into_inline_table" => gave(Ok(document.into_table().into_inline_table())),
         "into_item" => gave(Ok(document.into_item())),
-        "format" => gave(format(alloc, document, &all_rules())),
+        "format" => Ok(format(alloc, document, &all_rules()).is_ok()),
         _ => change(alloc, word, &mut document),
     }
 }

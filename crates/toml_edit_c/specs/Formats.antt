@@ -1,16 +1,16 @@
 -- The formatted text.
 use Rattle.std.specs.Prelude.{◌≡◌, ◌⊎◌, ℕ, None, Some}
+use Rattle.toml_edit.specs.Documents.{opens}
 use Rattle.toml_edit_fmt.specs.Newlines.{rules_for}
-use Rattle.toml_edit_fmt_laws.specs.FormattedTree.{formatted}
+use Rattle.toml_edit_fmt.specs.TextView.{IsFormatted}
 use Rattle.toml_edit_fmt_laws.specs.Rules.{Rules}
-use Rattle.toml_edit_fmt_laws.specs.TreeLaws.{PrintsFormattedText, formatted_text}
 use Rattle.toml_edit_model.specs.Mode.{Mode, is_exact}
 use Rattle.toml_edit_model.specs.Print.{print_in}
 use Rattle.toml_edit_model.specs.Syntax.{Document}
 use Rattle.toml_edit_model.specs.Text.{Text}
 use Rattle.toml_edit_model.specs.Tree.{Tree}
 use Rattle.toml_edit_model.specs.Version.{Version}
-use Rattle.toml_edit_command.specs.Written.{Held, IsReadAs}
+use Rattle.toml_edit_command.specs.Written.{IsReadAs}
 use Rattle.toml_edit_c.specs.Asks.{options_by}
 use Rattle.toml_edit_c.specs.Made.{MayStopReading}
 use Rattle.toml_edit_c.specs.Statuses.{status_of}
@@ -21,18 +21,13 @@ use Rattle.toml_edit_c.specs.declared.answer.Stop.TheVariants.{Flags}
 abbrev pub rules_in : Mode → Text → Rules
 rules_in mode text = rules_for (is_exact mode) text
 
--- what is held of the text, formatted and printed
-abbrev pub print_formatted : Text → Held → Text
-print_formatted text h = print_in h.mode h.is_open (formatted (rules_in h.mode text) h.tree)
-
--- The text is read, and its tree is printed formatted. That is accepted and means the same, has the
--- same comments, each with what it belongs to, and formatted again it stays, byte for byte.
+-- The text is read, and the print of its tree is formatted: that means the same, has the same
+-- comments, each with what it belongs to, and formatted again it stays.
 pub record IsFormattedOf (how : Mode × Version) (text x : Text) : Type 0 where
   pub document : Document
   pub tree : Tree
   pub read : IsReadAs how.0 how.1 text document tree
-  pub made : x ≡ formatted_text how.0 (rules_in how.0 text) document tree
-  pub prints : PrintsFormattedText how.0 (rules_in how.0 text) document tree
+  pub made : IsFormatted (rules_in how.0 text) (print_in how.0 (opens how.0 document) tree) x
 
 -- ---- by the flags
 

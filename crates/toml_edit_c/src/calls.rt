@@ -2,7 +2,7 @@
 ghost use Rattle.std.specs.Prelude.{◌≡◌, IfErr, IfOk, string_bytes};
 ghost use Rattle.toml_edit.specs.DocumentView.{tree_owned};
 ghost use Rattle.toml_edit_c.specs.Asks.{ask, asked_by, words_of};
-ghost use Rattle.toml_edit_c.specs.Formats.{IsFormattedBy, StopsFormatBy, print_formatted};
+ghost use Rattle.toml_edit_c.specs.Formats.{IsFormattedBy, StopsFormatBy};
 ghost use Rattle.toml_edit_c.specs.Json.{IsItemAt, IsJsonBy, StopsItem, StopsJsonBy};
 ghost use Rattle.toml_edit_c.specs.Made.{IsMadeBy, StopsCall, StopsInWords, StopsPrinting};
 ghost use Rattle.toml_edit_c.specs.Scripts.{IsEdited, IsEditedBy, StopsEditBy, StopsEditing, StopsScript, stop_of_edit, stop_of_word};
@@ -22,11 +22,10 @@ use crate::given::{options_of, path_of, read, split, value_of};
 use crate::run::Held;
 use std::alloc::Global;
 use std::str;
-use toml_edit::{DocumentMut, Item, Mem, ParseOptions};
+use toml_edit::{DocumentMut, Item, ParseOptions};
 use toml_edit_command::{Command, Ending, perform};
 use toml_edit_edits::{Edit, EditFault, WordFault, apply, edits_of};
-use toml_edit_fmt::Rules;
-use toml_edit_fmt_laws::formatted_reads;
+use toml_edit_fmt::{Rules, format_text};
 use toml_edit_io::{Watched, print};
 use toml_edit_json::Json;
 
@@ -110,12 +109,12 @@ pub fn format(alloc: Global, flags: u32, text: &[u8]) -> Result<Vec<u8>, Stop>
     ensures made { IfOk result (λ s. IsFormattedBy flags text.now s.items) }
     ensures stops { IfErr result (StopsFormatBy flags text.now) }
 {
-    formatted_reads();
     let document = read(alloc, text, options_of(flags)?)?;
     let rules = Rules::for_text(text, document.is_exact());
-    let formatted = toml_edit_fmt::format(alloc, document, &rules).map_err(|_| Stop::Memory)?;
-    let text = formatted.print(alloc).map_err(|_| Stop::Memory)?;
-    Ok(text.into_bytes())
+    let text = document.print(alloc).map_err(|_| Stop::Memory)?;
+    // It is in the grammar.
+    let formatted = format_text(alloc, text.as_str(), &rules).map_err(|_| Stop::Memory)?;
+    Ok(formatted.into_bytes())
 }
 
 /// Returns the text with the edits of the script.

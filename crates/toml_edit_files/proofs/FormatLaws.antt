@@ -1,19 +1,13 @@
 -- Files that are formatted.
 use Rattle.std.proofs.Common.{◌≡◌, ◌≢◌, ℕ, ◌+◌, ◌<◌, Bool, true, false, List, [], ◌∷◌, ◌++◌, length, drop, get_or, refl, sym, ap, ◌∙◌, subst, inl, inr}
-use Rattle.std.specs.Prelude.{◌⊎◌, ◌&&◌, not, if◌then◌else◌, Option, Some, None, Result, Ok, Err}
+use Rattle.std.specs.Prelude.{◌⊎◌, IfOk, IsTrue, MatchBool, Option, Some, None, Result, Ok, Err}
 use Rattle.std.proofs.lemmas.List.{drop_more}
-use Rattle.toml_edit.specs.DocumentView.{mode_owned, open_owned, print_of, tree_owned}
-use Rattle.toml_edit.specs.Documents.{opens}
+use Rattle.toml_edit.specs.DocumentView.{mode_owned, open_owned, tree_owned}
 use Rattle.toml_edit.specs.declared.document.DocumentMut.{DocumentMut}
-use Rattle.toml_edit_fmt_laws.specs.FormattedTree.{formatted}
-use Rattle.toml_edit_fmt_laws.specs.Promises.{ShowsNewlines}
-use Rattle.toml_edit_fmt_laws.specs.TreeLaws.{FormattedTextPrints}
-use Rattle.toml_edit_model.specs.Mode.{Mode, plain, exact}
-use Rattle.toml_edit_model.specs.Normal.{has_open_end}
+use Rattle.toml_edit_fmt.specs.TextView as fmt
 use Rattle.toml_edit_model.specs.Print.{print_in}
-use Rattle.toml_edit_model.specs.Shown.{shown_meaning}
-use Rattle.toml_edit_model.specs.Syntax.{Document}
 use Rattle.toml_edit_model.specs.Tree.{Tree}
+use Rattle.toml_edit_model.specs.Version.{v1_0}
 use Rattle.file_replace.specs.Events.{Text, Event}
 use Rattle.toml_edit_edits.specs.Lists.{effect}
 use Rattle.toml_edit_edits.specs.Outcomes.{and_then}
@@ -22,8 +16,8 @@ use Rattle.toml_edit_edits.specs.declared.fault.EditFault.{EditFault}
 use Rattle.toml_edit_edits.specs.declared.fault.EditFault.TheVariants.{Memory, NoSuchPath, WrongKind, NoSuchElement, Taken, BadComment}
 use Rattle.toml_edit_files.proofs.EditLaws.{left, none_written}
 use Rattle.toml_edit_files.proofs.StopLaws.{unread_here}
-use Rattle.toml_edit_files.specs.Edited.{IsLeft, IsNotRead, IsNotWritten, IsRead, IsWritten, mark_of, mode_by, version_by}
-use Rattle.toml_edit_files.specs.FormatFiles.{IsFormatted, IsFormattedOnly, IsLaidOut, IsNotFormatted, IsNotSorted, IsUnformatted, passing_over, formatted_by, rules_by, sorted_by}
+use Rattle.toml_edit_files.specs.Edited.{IsAccepted, IsLeft, IsNotRead, IsNotWritten, IsRead, IsWritten, mark_of, mode_by, version_by}
+use Rattle.toml_edit_files.specs.FormatFiles.{IsFormatted, IsLaidOut, IsNotFormatted, IsNotLaid, IsNotSorted, IsUnformatted, is_laid_as_it_is, passing_over, rules_by, sorted_by}
 use Rattle.toml_edit_files.specs.Folders.{IsReadOf}
 use Rattle.toml_edit_files.specs.Stops.{reason_for, reason_of}
 use Rattle.toml_edit_files.specs.declared.stop.Reason.{Reason}
@@ -31,7 +25,10 @@ use Rattle.toml_edit_files.specs.declared.stop.Reason.TheVariants.{No, Mistaken,
 use Rattle.toml_edit_files.specs.declared.stop.Stop.{Stop}
 use Rattle.toml_edit_files.specs.declared.words.Reading.{Reading}
 use Rattle.toml_edit_files.specs.declared.words.Style.{Style}
-use Rattle.toml_edit_fmt.specs.Newlines.{returns_after}
+
+pub both_ok : {X E : Type 0} (r : Result X E) (P Q R : X → Type 0) → ((x : X) → P x → Q x → R x) → IfOk r P → IfOk r Q → IfOk r R
+both_ok (Ok x) P Q R f p q = f x p q
+both_ok (Err e) P Q R f p q = tt
 
 -- ---- sorts
 
@@ -98,6 +95,13 @@ sort_wrong es i e x all below is so why none =
 same_sorted : (x y : Tree) (r : Result Tree EditFault) → r ≡ Ok x → r ≡ Ok y → x ≡ y
 same_sorted x y r is at = ap (tree_of x) (sym is ∙ at)
 
+-- no edits leave one text
+same_left : (reading : Reading) (x : Tree) (is_open : Bool) (before s t : Text) → IsLeft reading [] x is_open before s
+    → IsLeft reading [] x is_open before t → s ≡ t
+same_left reading x is_open before s t l m =
+    let same = same_sorted l.left m.left (Ok x) l.applied m.applied in
+    l.text ∙ ap (λ (y : Tree). mark_of reading.normal before ++ print_in (mode_by reading) is_open y) same ∙ sym m.text
+
 -- so no text is formatted
 not_formatted : (reading : Reading) (style : Style) (before : Text) (x : Tree) (is_open : Bool) (why : Option Reason) → IsRead reading before x is_open
     → ((r : Reason) → why ≡ Some r → (r ≢ Failed) × (r ≢ Refused) × (r ≢ Locked) × ((s : Text) → IsLaidOut reading style x is_open before s → ⊥))
@@ -109,83 +113,93 @@ not_formatted reading style before x is_open (Some Failed) read none = (none Fai
 not_formatted reading style before x is_open (Some Refused) read none = absurd ((none Refused refl).1 refl)
 not_formatted reading style before x is_open (Some Locked) read none = absurd ((none Locked refl).2 refl)
 
-pub unsorted_none : (reading : Reading) (style : Style) (before : Text) (x : Tree) (is_open : Bool) (why : Option Reason) → IsRead reading before x is_open
-    → IsNotSorted (sorted_by style.sorts.items x) why → IsNotFormatted reading style before why
-unsorted_none reading style before x is_open None read none = tt
-unsorted_none reading style before x is_open (Some No) read none = (x, is_open, read, λ s f. none f.left f.sorted)
-unsorted_none reading style before x is_open (Some Mistaken) read none = (x, is_open, read, λ s f. none f.left f.sorted)
-unsorted_none reading style before x is_open (Some Failed) read none = none
-unsorted_none reading style before x is_open (Some Refused) read none = absurd none
-unsorted_none reading style before x is_open (Some Locked) read none = absurd none
+none_sorted : (reading : Reading) (style : Style) (before : Text) (x : Tree) (is_open : Bool) → is_laid_as_it_is reading style ≡ false
+    → (s : Text) → IsLaidOut reading style x is_open before s → ((y : Tree) → sorted_by style.sorts.items x ≢ Ok y) → ⊥
+none_sorted reading style before x is_open way s f none =
+    let made = subst (λ (b : Bool). MatchBool b (f.text ≡ before)
+    ((y : Tree) × (sorted_by style.sorts.items x ≡ Ok y) × IsLeft reading [] y is_open before f.text)) way f.sorted in
+    none made.0 made.1
 
--- no sort changes nothing
-unsorted : (sorts : List Edit) (x y : Tree) → sorts ≡ [] → sorted_by sorts x ≡ Ok y → y ≡ x
-unsorted sorts x y none sorted = ap (tree_of x) (sym sorted ∙ ap (λ (es : List Edit). sorted_by es x) none)
+pub unsorted_none : (reading : Reading) (style : Style) (before : Text) (x : Tree) (is_open : Bool) (why : Option Reason) → IsRead reading before x is_open
+    → is_laid_as_it_is reading style ≡ false → IsNotSorted (sorted_by style.sorts.items x) why → IsNotFormatted reading style before why
+unsorted_none reading style before x is_open None read way none = tt
+unsorted_none reading style before x is_open (Some No) read way none = (x, is_open, read, λ s f. none_sorted reading style before x is_open way s f none)
+unsorted_none reading style before x is_open (Some Mistaken) read way none =
+    (x, is_open, read, λ s f. none_sorted reading style before x is_open way s f none)
+unsorted_none reading style before x is_open (Some Failed) read way none = none
+unsorted_none reading style before x is_open (Some Refused) read way none = absurd none
+unsorted_none reading style before x is_open (Some Locked) read way none = absurd none
 
 -- ---- the text
 
-same_open : (mode : Mode) (d : Document) (t : Tree) → print_in mode (opens mode d) t ≡ print_in mode (has_open_end d.statements) t
-same_open plain d t = refl
-same_open exact d t = refl
+module _ (reading : Reading) (style : Style) (before : Text) (x : Tree) (is_open : Bool) (read : IsRead reading before x is_open) where
+  abbrev IsSorted : Text → Type 0
+  IsSorted t = (y : Tree) × (sorted_by style.sorts.items x ≡ Ok y) × IsLeft reading [] y is_open before t
 
-no_returns : (normal returns : Bool) → (if normal then plain else exact) ≡ plain → (not normal && returns) ≡ false
-no_returns true returns is = refl
-no_returns false returns is = absurd (let never : exact ≡ plain = is in cc)
+  abbrev Stands : Text → Bool → Type 0
+  Stands t way = MatchBool way (t ≡ before) (IsSorted t)
 
-shows_newlines : (reading : Reading) (t : Text) → ShowsNewlines (mode_by reading) (rules_by reading t)
-shows_newlines reading t = no_returns reading.normal (returns_after false t)
-
-module _ (reading : Reading) (style : Style) (before : Text) (x : Tree) (is_open : Bool) (y : Tree) (d : DocumentMut)
-    (read : IsRead reading before x is_open) (sorted : sorted_by style.sorts.items x ≡ Ok y)
-    (laid : tree_owned d ≡ formatted_by reading style.keys before y)
-    (by_mode : mode_owned d ≡ mode_by reading) (same_end : open_owned d ≡ is_open)
-    (means : shown_meaning (tree_owned d) ≡ shown_meaning y) (prints : FormattedTextPrints) where
-  printed : print_of d ≡ print_in (mode_by reading) is_open (formatted_by reading style.keys before y)
-  printed =
-      ap (λ (m : Mode). print_in m (open_owned d) (tree_owned d)) by_mode
-      ∙ ap (λ (b : Bool). print_in (mode_by reading) b (tree_owned d)) same_end
-      ∙ ap (λ (t : Tree). print_in (mode_by reading) is_open t) laid
-
-  only : (s : Text) → IsWritten reading before d s → style.sorts.items ≡ [] → style.keys ≡ false → IsFormattedOnly reading before x s
-  only s w none as_they_are =
-      let e = read.reading.document in (
-        e,
-        read.reading.accepted,
-        prints (mode_by reading) (rules_by reading before) (shows_newlines reading before) before e read.reading.accepted x read.reading.tree.tree,
-        w.text
-            ∙ ap (λ (t : Text). mark_of reading.normal before ++ t)
-            (printed ∙ ap (λ (b : Bool). print_in (mode_by reading) is_open (formatted_by reading b before y)) as_they_are
-            ∙ ap (λ (z : Tree). print_in (mode_by reading) is_open (formatted (rules_by reading before) z)) (unsorted style.sorts.items x y none sorted)
-            ∙ ap (λ (b : Bool). print_in (mode_by reading) b (formatted (rules_by reading before) x)) read.open_end
-            ∙ same_open (mode_by reading) e (formatted (rules_by reading before) x)),
-      )
-
-  pub formats : (s : Text) → IsWritten reading before d s → IsFormatted reading style before s
-  formats s w = (
+  -- no text is, where the one that is to be laid out is not
+  unlaid : (t : Text) → ((s : Text) (f : IsLaidOut reading style x is_open before s) → f.text ≡ t) → (why : Option Reason)
+      → IsNotLaid reading (rules_by reading style before) t why → IsNotFormatted reading style before why
+  unlaid t only None h = tt
+  unlaid t only (Some Mistaken) h = (
     x,
     is_open,
     read,
-    record {
-      left = y;
-      sorted = sorted;
-      shows = ap shown_meaning (sym laid) ∙ means;
-      written = subst (λ (t : Tree). IsLeft reading [] t is_open before s) laid
-          (left reading [] (tree_owned d) is_open before d refl by_mode same_end s w);
-      unsorted = only s w;
-    },
+    λ s f. h.1 s (subst (λ (u : Text). fmt.IsFormatted (rules_by reading style before) u s) (only s f) f.laid) (f.version h.0),
   )
+  unlaid t only (Some No) h = absurd h
+  unlaid t only (Some Failed) h = h
+  unlaid t only (Some Refused) h = h
+  unlaid t only (Some Locked) h = h
 
-  -- where nothing is written, no text is formatted
-  pub formats-none : (why : Option Reason) → IsNotWritten reading d why → IsNotFormatted reading style before why
-  formats-none why none =
-      not_formatted reading style before x is_open why read
-      (λ r is. let h = none_written reading [] (tree_owned d) is_open before d refl by_mode same_end why none r is in (
-        h.0,
-        h.1,
-        h.2,
-        λ s f. h.3 s (subst (λ (t : Tree). IsLeft reading [] t is_open before s)
-            (ap (formatted_by reading style.keys before) (same_sorted f.left y (sorted_by style.sorts.items x) f.sorted sorted) ∙ sym laid) f.written),
-      ))
+  module _ (way : is_laid_as_it_is reading style ≡ true) where
+    pub formats_it : (s : Text) → fmt.IsFormatted (rules_by reading style before) before s → (IsTrue reading.strict → IsAccepted v1_0 s)
+        → IsFormatted reading style before s
+    formats_it s laid version =
+        (x, is_open, read, record { text = before; sorted = subst (Stands before) (sym way) refl; laid = laid; version = version })
+
+    pub formats_it-none : (why : Option Reason) → IsNotLaid reading (rules_by reading style before) before why
+        → IsNotFormatted reading style before why
+    formats_it-none why = unlaid before (λ s f. subst (Stands f.text) way f.sorted) why
+
+  module _ (d : DocumentMut) (way : is_laid_as_it_is reading style ≡ false) (sorted : sorted_by style.sorts.items x ≡ Ok (tree_owned d))
+      (by_mode : mode_owned d ≡ mode_by reading) (same_end : open_owned d ≡ is_open) where
+    left_by : (t : Text) → IsWritten reading before d t → IsLeft reading [] (tree_owned d) is_open before t
+    left_by t w = left reading [] (tree_owned d) is_open before d refl by_mode same_end t w
+
+    -- what is laid out is left of the tree that is sorted
+    sorted_left : (s : Text) (f : IsLaidOut reading style x is_open before s) → IsLeft reading [] (tree_owned d) is_open before f.text
+    sorted_left s f =
+        let made = subst (Stands f.text) way f.sorted in
+        subst (λ (t : Tree). IsLeft reading [] t is_open before f.text)
+        (same_sorted made.0 (tree_owned d) (sorted_by style.sorts.items x) made.1 sorted) made.2
+
+    pub formats : (t s : Text) → IsWritten reading before d t → fmt.IsFormatted (rules_by reading style before) t s
+        → (IsTrue reading.strict → IsAccepted v1_0 s) → IsFormatted reading style before s
+    formats t s w laid version = (
+      x,
+      is_open,
+      read,
+      record {
+        text = t;
+        sorted = subst (Stands t) (sym way) (tree_owned d, sorted, left_by t w);
+        laid = laid;
+        version = version;
+      },
+    )
+
+    -- where nothing is written, no text is formatted
+    pub formats-none : (why : Option Reason) → IsNotWritten reading d why → IsNotFormatted reading style before why
+    formats-none why none =
+        not_formatted reading style before x is_open why read
+        (λ r is. let h = none_written reading [] (tree_owned d) is_open before d refl by_mode same_end why none r is in
+        (h.0, h.1, h.2, λ s f. h.3 f.text (sorted_left s f)))
+
+    pub formats-unlaid : (t : Text) → IsWritten reading before d t → (why : Option Reason)
+        → IsNotLaid reading (rules_by reading style before) t why → IsNotFormatted reading style before why
+    formats-unlaid t w why = unlaid t (λ s f. same_left reading (tree_owned d) is_open before f.text t (sorted_left s f) (left_by t w)) why
 
 -- ---- files that are not formatted
 

@@ -1,14 +1,10 @@
 -- What `fmt` does with files.
-use Rattle.std.specs.Prelude.{◌≡◌, ◌≢◌, ◌⊎◌, Bool, true, false, not, ◌||◌, if◌then◌else◌, MatchBool, List, [], ◌∷◌, ◌++◌, Option, Some, None, Result, Ok, Err, bytes_eq, codes}
-use Rattle.toml_edit_model.specs.Accepted.{AcceptedAs}
-use Rattle.toml_edit_model.specs.Shown.{shown_meaning}
-use Rattle.toml_edit_model.specs.Syntax.{Document}
+use Rattle.std.specs.Prelude.{◌≡◌, ◌≢◌, ◌⊎◌, Bool, true, false, not, ◌==◌, ◌&&◌, ◌||◌, if◌then◌else◌, IsTrue, MatchBool, List, [], ◌∷◌, ◌++◌, Option, Some, None, Result, Ok, Err, bytes_eq, codes, vec_len}
 use Rattle.toml_edit_model.specs.Tree.{Tree}
+use Rattle.toml_edit_model.specs.Version.{v1_0}
 use Rattle.toml_edit_fmt.specs.Newlines.{rules_for}
-use Rattle.toml_edit_fmt_laws.specs.BareKeys.{bared}
-use Rattle.toml_edit_fmt_laws.specs.FormattedTree.{formatted}
+use Rattle.toml_edit_fmt.specs.TextView as fmt
 use Rattle.toml_edit_fmt_laws.specs.Rules.{Rules}
-use Rattle.toml_edit_fmt_laws.specs.TreeLaws.{PrintsFormattedText, formatted_text}
 use Rattle.file_replace.specs.Events.{Text, Event}
 use Rattle.toml_edit_edits.specs.Lists.{effect}
 use Rattle.toml_edit_edits.specs.Outcomes.{and_then}
@@ -16,7 +12,7 @@ use Rattle.toml_edit_edits.specs.declared.edit.Edit.{Edit}
 use Rattle.toml_edit_edits.specs.declared.fault.EditFault.{EditFault}
 use Rattle.toml_edit_edits.specs.declared.fault.EditFault.TheVariants.{NoSuchPath}
 use Rattle.toml_edit_files.specs.Checks.{IsReadAsRefused}
-use Rattle.toml_edit_files.specs.Edited.{IsLeft, IsRead, mark_of, mode_by, version_by}
+use Rattle.toml_edit_files.specs.Edited.{IsAccepted, IsLeft, IsRead, version_by}
 use Rattle.toml_edit_files.specs.Folders.{IsHeld, IsPut, IsReadOf, IsTextOf, Stops, is_stream}
 use Rattle.toml_edit_files.specs.Outcomes.{TellsAlone, TellsRefused, TellsStop}
 use Rattle.toml_edit_files.specs.Stops.{IsUnread, reason_of}
@@ -31,8 +27,8 @@ use Rattle.toml_edit_files.specs.declared.words.Style.{Style}
 -- ---- the text of a file
 
 -- lines that are made end in CR LF where line endings are kept and the first line does
-abbrev pub rules_by : Reading → Text → Rules
-rules_by reading t = rules_for (not reading.normal) t
+abbrev pub rules_by : Reading → Style → Text → Rules
+rules_by reading style t = record (rules_for (not reading.normal) t) { keys = style.keys }
 
 -- a path where nothing is is passed over
 abbrev pub passing_over : Tree → Result Tree EditFault → Result Tree EditFault
@@ -44,29 +40,22 @@ abbrev pub sorted_by : List Edit → Tree → Result Tree EditFault
 sorted_by [] x = Ok x
 sorted_by (e ∷ es) x = and_then (sorted_by es) (passing_over x (effect e x))
 
--- what is written of a tree, with bare keys if they are asked for
-abbrev pub formatted_by : Reading → Bool → Text → Tree → Tree
-formatted_by reading keys before x = formatted (rules_by reading before) (if keys then bared x else x)
+-- a text that is laid out as it stands
+abbrev pub is_laid_as_it_is : Reading → Style → Bool
+is_laid_as_it_is reading style = (vec_len style.sorts == 0) && not reading.normal
 
--- The text is the formatted normal form of the text before, behind its mark: it has the same
--- comments, each with what it belongs to, and formatted again it stays, byte for byte.
-abbrev pub IsFormattedOnly : Reading → Text → Tree → Text → Type 0
-IsFormattedOnly reading before x s =
-    (d : Document) × AcceptedAs before d
-    × PrintsFormattedText (mode_by reading) (rules_by reading before) d x
-    × (s ≡ mark_of reading.normal before
-    ++ formatted_text (mode_by reading) (rules_by reading before) d x)
-
--- What the sorts leave of the tree is formatted, which shows the same, and written with no edit more.
+-- What is laid out is the text before, or what is written of it after the sorts; and this is its
+-- formatted text, which TOML 1.0 accepts where that is asked for.
 pub record IsLaidOut (reading : Reading) (style : Style) (tree : Tree) (is_open : Bool)
     (before s : Text) : Type 0 where
-  pub left : Tree
-  pub sorted : sorted_by style.sorts.items tree ≡ Ok left
-  pub shows : shown_meaning (formatted_by reading style.keys before left) ≡ shown_meaning left
-  pub written : IsLeft reading [] (formatted_by reading style.keys before left) is_open before s
-  pub unsorted : style.sorts.items ≡ [] → style.keys ≡ false → IsFormattedOnly reading before tree s
+  pub text : Text
+  pub sorted : MatchBool (is_laid_as_it_is reading style) (text ≡ before)
+      ((left : Tree) × (sorted_by style.sorts.items tree ≡ Ok left)
+      × IsLeft reading [] left is_open before text)
+  pub laid : fmt.IsFormatted (rules_by reading style before) text s
+  pub version : IsTrue reading.strict → IsAccepted v1_0 s
 
--- the text before is read, and so is its tree written
+-- the text before is read, and so is it laid out
 abbrev pub IsFormatted : Reading → Style → Text → Text → Type 0
 IsFormatted reading style before s =
     (tree : Tree) × (is_open : Bool) × IsRead reading before tree is_open
@@ -80,6 +69,13 @@ IsNotSorted made None = Unit {0}
 IsNotSorted made (Some No) = (x : Tree) → made ≢ Ok x
 IsNotSorted made (Some Mistaken) = (x : Tree) → made ≢ Ok x
 IsNotSorted made (Some _) = ⊥
+
+-- why a text is not laid out: TOML 1.0 is asked for, and refuses what it is formatted
+abbrev pub IsNotLaid : Reading → Rules → Text → Option Reason → Type 0
+IsNotLaid reading r t None = Unit {0}
+IsNotLaid reading r t (Some Mistaken) =
+    IsTrue reading.strict × ((s : Text) → fmt.IsFormatted r t s → ¬ (IsAccepted v1_0 s))
+IsNotLaid reading r t (Some _) = ⊥
 
 -- why a text that is read is not formatted: no text is its formatted one
 abbrev pub IsNotFormatted : Reading → Style → Text → Option Reason → Type 0

@@ -235,7 +235,7 @@ fn with_mark(alloc: Global, before: &str, text: String, normal: bool) -> Mem<Str
 }
 
 /// Refuses a text that is not TOML 1.0.
-fn needs_old(alloc: Global, file: &str, text: &str) -> Step<()>
+pub fn needs_old(alloc: Global, file: &str, text: &str) -> Step<()>
     ensures accepted { OnOk result (IsAccepted v1_0 text.now) }
     ensures stops { IfErr result (λ stop. IsTooNew text.now (reason_of stop)) }
 {

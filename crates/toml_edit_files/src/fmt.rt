@@ -1,16 +1,19 @@
 //! The command `fmt`: files in the layout of the formatter.
-ghost use Rattle.std.specs.Prelude.{◌≡◌, ◌⊎◌, ◌++◌, [], IfErr, IfOk, Ok, OnOk, Option, codes, map, string_bytes};
-ghost use Rattle.toml_edit.specs.DocumentView.{IsPrintedAs, mode_owned, open_owned, tree_owned};
-ghost use Rattle.toml_edit_files.specs.Edited.{IsNotRead, IsRead, mode_by, version_by};
+ghost use Rattle.std.specs.Prelude.{◌≡◌, ◌⊎◌, [], IfErr, IfOk, IsTrue, Ok, OnOk, Option, map, not, string_bytes};
+ghost use Rattle.toml_edit.specs.DocumentView.{IsPrintedAs, tree_owned};
+ghost use Rattle.toml_edit_files.specs.Edited.{IsAccepted, IsNotRead, version_by};
 ghost use Rattle.toml_edit_files.specs.Folders.{LeavesInput, Stops};
-ghost use Rattle.toml_edit_files.specs.FormatFiles.{FormatsDone, FormatsFile, FormatsInPlace, IsFormatted, IsNotFormatted, IsNotSorted, IsUnformatted, passing_over, rules_by, sorted_by};
+ghost use Rattle.toml_edit_files.specs.FormatFiles.{FormatsDone, FormatsFile, FormatsInPlace, IsFormatted, IsNotFormatted, IsNotLaid, IsNotSorted, IsUnformatted, is_laid_as_it_is, passing_over, sorted_by};
 ghost use Rattle.toml_edit_files.specs.Outcomes.{DoesAll, WasRead};
 ghost use Rattle.toml_edit_files.specs.Stops.{Reads, reason_of};
 ghost use Rattle.toml_edit_edits.specs.Lists.{effect};
+ghost use Rattle.toml_edit_fmt.specs.Newlines.{rules_for};
 ghost use Rattle.toml_edit_fmt.specs.RulesView.{rules_of};
+ghost use Rattle.toml_edit_fmt.specs.TextView as fmt;
 ghost use Rattle.toml_edit_model.specs.Text.{Text};
+ghost use Rattle.toml_edit_model.specs.Version.{v1_0};
 
-use crate::edit::text_after;
+use crate::edit::{needs_old, text_after};
 use crate::messages::refused_edit;
 use crate::outcome::{Done, told_of, told_of_file};
 use crate::put::{held_of, put};
@@ -22,8 +25,7 @@ use file_replace::Folder;
 use std::alloc::Global;
 use toml_edit::{DocumentMut, Mem};
 use toml_edit_edits::{Edit, EditFault, apply_edit};
-use toml_edit_fmt::{Rules, format};
-use toml_edit_fmt_laws::{formatted_reads, formatted_trees};
+use toml_edit_fmt::{Rules, format_text};
 use toml_edit_io::Input;
 
 /// Formats each file in place, one after another, and standard input for `-`. Under `--check` those
@@ -137,40 +139,47 @@ fn formatted(alloc: Global, file: &str, text: &str, style: &Style, reading: Read
     ensures stops { IfErr result (λ stop. IsNotRead (version_by reading) file.now text.now stop
         ⊎ IsNotFormatted reading style.now text.now (reason_of stop)) }
 {
-    let document = document_of(alloc, file, text, reading)?;
-    formatted_text(alloc, file, text, document, style, reading)
+    let mut document = document_of(alloc, file, text, reading)?;
+    let rules = rules_by(text, reading, style.keys);
+    if is_laid_as_it_is(reading, style) {
+        return laid_out(alloc, file, text, &rules, reading);
+    }
+    sort_all(alloc, file, &mut document, style.sorts.as_slice())?;
+    let sorted = text_after(alloc, file, text, &document, reading)?;
+    laid_out(alloc, file, sorted.as_str(), &rules, reading)
 }
 
-/// Returns the text of a document after the sorts, formatted.
-fn formatted_text(
-    alloc: Global,
-    file: &str,
-    before: &str,
-    document: DocumentMut,
-    style: &Style,
-    reading: Reading,
-) -> Step<String>
-    ensures formatted { mode_owned document ≡ mode_by reading
-        → IsRead reading before.now (tree_owned document) (open_owned document)
-        → IfOk result (λ s. IsFormatted reading style.now before.now (string_bytes s)) }
-    ensures stops { mode_owned document ≡ mode_by reading
-        → IsRead reading before.now (tree_owned document) (open_owned document)
-        → IfErr result (λ stop. IsNotFormatted reading style.now before.now (reason_of stop)) }
+/// Returns `true` if a text is laid out as it stands: nothing is sorted or brought to normal form.
+fn is_laid_as_it_is(reading: Reading, style: &Style) -> bool
+    ensures { result ≡ is_laid_as_it_is reading style.now }
 {
-    formatted_trees();
-    formatted_reads();
-    let mut document = document;
-    sort_all(alloc, file, &mut document, style.sorts.as_slice())?;
-    let rules = rules_by(before, reading, style.keys);
-    let formatted = format(alloc, document, &rules)?;
-    text_after(alloc, file, before, &formatted, reading)
+    style.sorts.is_empty() && !reading.normal
+}
+
+/// Returns a text that was parsed, formatted, unless TOML 1.0 is asked for and refuses it.
+fn laid_out(alloc: Global, file: &str, text: &str, rules: &Rules, reading: Reading) -> Step<String>
+    ensures laid { IfOk result
+        (λ s. fmt.IsFormatted (rules_of rules.now) text.now (string_bytes s)) }
+    ensures version { IfOk result
+        (λ s. IsTrue reading.strict → IsAccepted v1_0 (string_bytes s)) }
+    ensures stops { IfErr result
+        (λ stop. IsNotLaid reading (rules_of rules.now) text.now (reason_of stop)) }
+{
+    let formatted = match format_text(alloc, text, rules) {
+        Ok(formatted) => formatted,
+        // It is in the grammar.
+        Err(_) => return Err(Stop::Memory),
+    };
+    if reading.strict {
+        needs_old(alloc, file, formatted.as_str())?;
+    }
+    Ok(formatted)
 }
 
 /// Returns the rules for a text: lines that are made end as its first one does, unless none but line
 /// feeds are to be written.
 fn rules_by(text: &str, reading: Reading, keys: bool) -> Rules
-    ensures rules { rules_of result ≡ rules_by reading text.now }
-    ensures keys { result.keys ≡ keys }
+    ensures { rules_of result ≡ record (rules_for (not reading.normal) text.now) { keys = keys } }
 {
     let mut rules = Rules::for_text(text.as_bytes(), !reading.normal);
     rules.keys = keys;

@@ -1,13 +1,15 @@
--- Cited by contracts.
+-- Cited by the contracts of this crate.
 pub mod RulesView
-pub mod Newlines
+pub mod PageView
 pub mod LinesView
-pub mod KindView
-pub mod WidthView
+pub mod StateView
+pub mod ValueBits
+pub mod PathView
+pub mod MeasureView
+pub mod ValueView
+pub mod MemberView
+pub mod StatementView
+pub mod TextView
 pub mod LayoutView
-pub mod ArrayParts
-pub mod TableParts
-pub mod StartParts
-pub mod Promises
--- Worked examples: nothing cites them.
-pub mod examples
+pub mod Newlines
+pub mod Documents

@@ -1,37 +1,52 @@
--- The rules as the definitions have them, and what they make of a tree.
-use Rattle.std.specs.Prelude.{if◌then◌else◌}
-use Rattle.toml_edit_model.specs.Tree.{Tree}
-use Rattle.toml_edit_fmt_laws.specs.BareKeys.{bared}
-use Rattle.toml_edit_fmt_laws.specs.FormattedTree.{formatted}
-use Rattle.toml_edit_fmt_laws.specs.Rules.{Indentation, as_it_is, flush, by_depth, Rules}
-use Rattle.toml_edit_fmt.specs.declared.rules.Indentation as code
+-- The rules as the definitions have them.
+use Rattle.toml_edit_fmt_laws.specs.Rules as laws
+use Rattle.toml_edit_fmt.specs.declared.rules.Indentation as indentations
 use Rattle.toml_edit_fmt.specs.declared.rules.Indentation.TheVariants.{AsItIs, Flush, ByDepth}
-use Rattle.toml_edit_fmt.specs.declared.rules.Rules as code_rules
+use Rattle.toml_edit_fmt.specs.declared.rules.Comments as comments
+use Rattle.toml_edit_fmt.specs.declared.rules.Comments.TheVariants as comment
+use Rattle.toml_edit_fmt.specs.declared.rules.Arrays as arrays
+use Rattle.toml_edit_fmt.specs.declared.rules.Arrays.TheVariants as array
+use Rattle.toml_edit_fmt.specs.declared.rules.Commas as commas
+use Rattle.toml_edit_fmt.specs.declared.rules.Commas.TheVariants as comma
+use Rattle.toml_edit_fmt.specs.declared.rules.Rules as rules
 
-abbrev pub indentation_of : code.Indentation → Indentation
-indentation_of AsItIs = as_it_is
-indentation_of Flush = flush
-indentation_of ByDepth = by_depth
+abbrev pub indentation_of : indentations.Indentation → laws.Indentation
+indentation_of AsItIs = laws.as_it_is
+indentation_of Flush = laws.flush
+indentation_of ByDepth = laws.by_depth
 
-abbrev pub rules_of : code_rules.Rules → Rules
+abbrev pub comments_of : comments.Comments → laws.Comments
+comments_of comment.AsTheyAre = laws.as_they_are
+comments_of (comment.Apart n) = laws.apart n
+comments_of (comment.Aligned n) = laws.aligned n
+
+abbrev pub arrays_of : arrays.Arrays → laws.Arrays
+arrays_of array.AsTheyAre = laws.arrays_stay
+arrays_of array.Kept = laws.kept
+arrays_of array.Collapsed = laws.collapsed
+
+abbrev pub commas_of : commas.Commas → laws.Commas
+commas_of comma.AsTheyAre = laws.commas_stay
+commas_of comma.Always = laws.always
+commas_of comma.Never = laws.never
+
+abbrev pub rules_of : rules.Rules → laws.Rules
 rules_of r =
     record {
       equals = r.equals;
       dots = r.dots;
-      before_comment = r.before_comment;
-      empty_lines = r.empty_lines;
+      comments = comments_of r.comments;
+      blank_lines = r.blank_lines;
       indentation = indentation_of r.indentation;
       unit = r.unit;
-      arrays = r.arrays;
+      arrays = arrays_of r.arrays;
+      rows = r.rows;
+      commas = commas_of r.commas;
+      bracket_space = r.bracket_space;
+      brace_space = r.brace_space;
       width = r.width;
       inline_tables = r.inline_tables;
       returns = r.returns;
+      keys = r.keys;
+      left_alone = r.left_alone;
     }
-
--- the tree with bare keys, if they are asked for
-abbrev pub asked_keys : code_rules.Rules → Tree → Tree
-asked_keys r t = if r.keys then bared t else t
-
--- the tree, formatted by the rules
-abbrev pub formatted_by : code_rules.Rules → Tree → Tree
-formatted_by r t = formatted (rules_of r) (asked_keys r t)

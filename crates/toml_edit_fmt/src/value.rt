@@ -1,303 +1,437 @@
-//! Values: what is between the brackets of arrays and inline tables, each in place.
-ghost use Rattle.std.specs.Prelude.{◌≡◌, ◌&&◌, IfOk, None, OnOk, not, string_bytes, true};
-ghost use Rattle.toml_edit_laws.specs.PrintByVisits.{has_inside, has_inside_of};
-ghost use Rattle.toml_edit_model.specs.Tree.{is_value_node};
-ghost use Rattle.toml_edit_tree.specs.Containers.{array_node, inline_node, table_node};
-ghost use Rattle.toml_edit_tree.specs.View.{array_view, inline_view, item_view, items_view, slots_view, table_view, value_view};
-ghost use Rattle.toml_edit_fmt_laws.specs.FormattedTree.{formatted_inside, formatted_items, formatted_pairs, formatted_value};
-ghost use Rattle.toml_edit_fmt.specs.ArrayParts.{laid_element, laid_item};
-ghost use Rattle.toml_edit_fmt.specs.KindView.{holds_inside};
-ghost use Rattle.toml_edit_fmt.specs.LayoutView.{layout_of};
+//! Values: what is between the brackets of arrays and inline tables.
+ghost use Rattle.std.specs.Prelude.{◌≡◌, ◌<◌, ◌+◌, ◌++◌, ◌^◌, true, false, ℕ, Bool, List, [], Option, None, IfOk, OnOk, if◌then◌else◌, is_none, is_some, length};
+ghost use Rattle.toml_edit_model.specs.Syntax as syntax;
+ghost use Rattle.toml_edit_model.specs.Text.{Text};
+ghost use Rattle.toml_edit_laws.specs.Standing.{Stands};
+ghost use Rattle.toml_edit_syntax.specs.LateEvents.{AreIn};
+ghost use Rattle.toml_edit_syntax.specs.ValueEvents.{value_events};
+ghost use Rattle.toml_edit_fmt_laws.specs.Formatted.{array_layout, inner_depth, inner_room, is_in_rows, is_too_wide, rows_if};
+ghost use Rattle.toml_edit_fmt.specs.MemberView.{AreNext, End, IsMember, Member, head, head_bits, head_events, members_bits, text_before, text_of, value_at, value_of};
+ghost use Rattle.toml_edit_fmt.specs.MeasureView.{IfArrayNext, IfInlineNext, IsInsideArray};
+ghost use Rattle.toml_edit_fmt.specs.PageView.{Gains, Grows};
+ghost use Rattle.toml_edit_fmt.specs.PathView.{Handed, Leaves};
 ghost use Rattle.toml_edit_fmt.specs.RulesView.{rules_of};
+ghost use Rattle.toml_edit_fmt.specs.ValueBits.{after_bits, before_bits, before_last, comma_bits, counted, inner_bits, inner_text, last_comma_as, value_bits};
+ghost use Rattle.toml_edit_fmt.specs.ValueView.{CanGoDeeper, IfValueNext, IsArrayLaid, IsInlineLaid, RoomIs, SplitsMember, StandsAt, is_open, layout_of, listed, split_comma};
+ghost use Rattle.toml_edit_fmt.specs.declared.value.Layout.TheVariants.{LineByLine, OnOneLine};
 
-use crate::array::{array_layout, array_trailing, close_array, ends_array, has_values};
-use crate::inline::{close_inline, ends_pairs, format_key, inline_layout, inline_trailing};
-use crate::kind::{has_pairs, is_line, is_pair};
-use crate::layout::Inside;
-use crate::places::{format_around, format_pair_around};
-use crate::rules::Rules;
-use std::alloc::Global;
+use crate::columns::{is_over, plus};
+use crate::lines::{Gap, has_comments, is_broken, put_gap};
+use crate::measure::{Inside, is_in_rows, measure};
+use crate::page::Page;
+use crate::path::put_pair_head;
+use crate::rules::{Arrays, Commas, Rules};
 use toml_edit_repr::Mem;
-use toml_edit_slots::Slots;
-use toml_edit_tree::{Array, InlineTable, Item, Table, Value};
+use toml_edit_syntax::{Event, EventKind, Span, text_at};
 
-/// Formats what is between the brackets of a value. `room` is how much of its line is used before
-/// it, if the value may be broken for its width.
-#[cycle(value)]
-pub(crate) fn format_value(
-    alloc: Global,
-    rules: &Rules,
-    indent: &str,
-    room: Option<usize>,
-    value: &mut Value,
-) -> Mem<()>
-    ensures { OnOk result
-        (value_view value.new
-        ≡ formatted_value (rules_of rules.now) indent.now room (value_view value.old)) }
-{
-    match value {
-        Value::String(_) => Ok(()),
-        Value::Integer(_) => Ok(()),
-        Value::Float(_) => Ok(()),
-        Value::Boolean(_) => Ok(()),
-        Value::Datetime(_) => Ok(()),
-        Value::Array(array) => format_array(alloc, rules, indent, room, array),
-        Value::InlineTable(table) => format_inline(alloc, rules, indent, table),
-    }
+/// How what is between brackets is laid out.
+#[derive(Clone, Copy, PartialEq, Eq)]
+enum Layout {
+    /// As it is.
+    Untouched,
+    /// On one line.
+    OnOneLine,
+    /// With a line for each value or pair.
+    LineByLine,
+    /// With the lines that it had.
+    InRows,
 }
 
-/// Formats what is between the brackets of an array.
-#[cycle(value)]
-fn format_array(
-    alloc: Global,
-    rules: &Rules,
-    indent: &str,
-    room: Option<usize>,
-    array: &mut Array,
-) -> Mem<()>
-    ensures { OnOk result
-        (array_node (array_view array.new)
-        ≡ formatted_value (rules_of rules.now) indent.now room
-        (array_node (array_view array.old))) }
-{
-    let layout = array_layout(alloc, rules, room, array)?;
-    let inside = Inside::new(alloc, rules, layout, indent)?;
-    let has_any = has_values(array.values.as_slice());
-    let trailing = array_trailing(alloc, &inside, has_any, array)?;
-    let comma = array.trailing_comma();
-    format_items(alloc, &inside, comma, &mut array.values)?;
-    close_array(layout, has_any, trailing, array);
-    Ok(())
-}
-
-/// Formats the values of an array, and what is before and after each.
-#[cycle(value)]
-fn format_items(alloc: Global, inside: &Inside, comma: bool, items: &mut Vec<Item>) -> Mem<()>
-    ensures { OnOk result
-        (items_view items.new.items
-        ≡ formatted_items (rules_of inside.now.rules) (layout_of inside.now.layout)
-        (string_bytes inside.now.indent) comma true (items_view items.old.items)) }
-{
-    let mut is_first = true;
-    for at in 0..items.len() {
-        let is_end = ends_array(comma, items.as_slice(), at);
-        is_first = format_item(alloc, inside, is_first, is_end, &mut items[at])?;
-    }
-    Ok(())
-}
-
-/// Formats a value of an array, and what is before and after it. Returns `true` if no value was
-/// formatted yet.
-#[cycle(value)]
-fn format_item(
-    alloc: Global,
-    inside: &Inside,
-    is_first: bool,
-    is_end: bool,
-    item: &mut Item,
-) -> Mem<bool>
-    ensures item { OnOk result
-        (item_view item.new
-        ≡ laid_element (rules_of inside.now.rules) (layout_of inside.now.layout)
-        (string_bytes inside.now.indent) is_first is_end (item_view item.old)) }
-    ensures first { IfOk result (λ b. b ≡ is_first && not (is_value_node (item_view item.old))) }
-{
-    match item {
-        Item::None => Ok(is_first),
-        Item::Value(value) => {
-            format_element(alloc, inside, is_first, is_end, value)?;
-            Ok(false)
-        }
-        Item::Table(_) => Ok(is_first),
-        Item::ArrayOfTables(_) => Ok(is_first),
-    }
-}
-
-/// Formats a value of an array, and what is before and after it.
-#[cycle(value)]
-fn format_element(
-    alloc: Global,
-    inside: &Inside,
-    is_first: bool,
-    is_end: bool,
-    value: &mut Value,
-) -> Mem<()>
-    ensures { OnOk result
-        (value_view value.new
-        ≡ laid_element (rules_of inside.now.rules) (layout_of inside.now.layout)
-        (string_bytes inside.now.indent) is_first is_end (value_view value.old)) }
-{
-    let room = inside.inner_room();
-    format_value(alloc, &inside.rules, inside.inner_indent(), room, value)?;
-    format_around(alloc, inside, is_first, is_end, value.decor_mut())
-}
-
-/// Formats what is between the braces of an inline table.
-#[cycle(value)]
-fn format_inline(alloc: Global, rules: &Rules, indent: &str, table: &mut InlineTable) -> Mem<()>
-    ensures { OnOk result
-        (inline_node (inline_view table.new)
-        ≡ formatted_value (rules_of rules.now) indent.now None
-        (inline_node (inline_view table.old))) }
-{
-    let layout = inline_layout(rules, table);
-    let inside = Inside::new(alloc, rules, layout, indent)?;
-    let has_any = has_pairs(&table.items);
-    let trailing = inline_trailing(alloc, &inside, has_any, table)?;
-    let ends = PairEnds {
-        comma: table.trailing_comma(),
-        is_last: true,
-    };
-    format_pairs(alloc, &inside, ends, true, &mut table.items)?;
-    close_inline(layout, has_any, trailing, table);
-    Ok(())
-}
-
-/// Whether a comma is after the last pair of the inline table, and whether the last of some pairs
-/// is that one.
+/// Where a value stands: how far its line is indented, whether it may be broken for its width, and how
+/// much of its line is used.
 #[derive(Clone, Copy)]
-struct PairEnds {
-    comma: bool,
-    is_last: bool,
+pub(crate) struct Place {
+    pub(crate) depth: usize,
+    pub(crate) may_break: bool,
+    pub(crate) used: Option<usize>,
 }
 
-/// Formats the pairs of the slots. Returns `true` if no pair was formatted yet.
+/// An array or an inline table that is laid out.
+#[derive(Clone, Copy)]
+struct Brackets {
+    is_array: bool,
+    layout: Layout,
+    has_any: bool,
+    depth: usize,
+}
+
+impl Brackets {
+    /// Returns `true` if it has several lines that are laid out.
+    fn is_open(&self) -> bool
+        ensures { result ≡ is_open self.now.layout }
+    {
+        matches!(self.layout, Layout::LineByLine | Layout::InRows)
+    }
+
+    /// Returns where a value inside stands.
+    fn place(&self, rules: &Rules) -> Place
+        requires { self.now.depth + 1 < 2 ^ 64 }
+        ensures { StandsAt (inner_depth (layout_of self.now.layout) self.now.depth)
+            (if self.now.is_array then inner_room (rules_of rules.now) (layout_of self.now.layout) self.now.depth
+            else None) result }
+    {
+        if !self.is_open() {
+            return Place {
+                depth: self.depth,
+                may_break: false,
+                used: None,
+            };
+        }
+        let depth = self.depth + 1;
+        Place {
+            depth,
+            may_break: self.is_array,
+            used: depth.checked_mul(rules.unit),
+        }
+    }
+}
+
+/// Adds the value at the front. Returns the events after it.
 #[cycle(value)]
-fn format_pairs(
-    alloc: Global,
-    inside: &Inside,
-    ends: PairEnds,
-    is_first: bool,
-    slots: &mut Slots<Item>,
-) -> Mem<bool>
-    ensures slots { OnOk result
-        (slots_view slots.new
-        ≡ formatted_pairs (rules_of inside.now.rules) (layout_of inside.now.layout)
-        (string_bytes inside.now.indent) ends.comma is_first ends.is_last (slots_view slots.old)) }
-    ensures first { IfOk result (λ b. b ≡ is_first && not (has_inside (slots_view slots.old))) }
+pub(crate) fn put_value<'e>(
+    page: &mut Page<'_>,
+    place: Place,
+    events: &'e [Event],
+) -> Mem<&'e [Event]>
+    requires spans { AreIn page.old.source.now events.now }
+    requires room { CanGoDeeper place.depth events.now }
+    ensures value { (v : syntax.Value) (start : ℕ) (room : Option ℕ) (more : List Event)
+        → IfValueNext page.old.source.now events.now v start more (StandsAt place.depth room place
+        → IfOk result (λ rest. Handed more rest.now
+        (Grows (value_bits (rules_of page.old.rules) place.depth room v) page.old page.new))) }
+    ensures rest { Leaves page.old page.new events.now result }
 {
-    let mut is_first = is_first;
-    for at in 0..slots.len() {
-        let is_pair = is_line(&slots.as_slice()[at].item);
-        let here = PairEnds {
-            comma: ends.comma,
-            is_last: ends_pairs(ends.is_last, slots, at),
+    let [first, rest @ ..] = events else {
+        return Ok(events);
+    };
+    page.put_event(first)?;
+    match first.kind {
+        EventKind::ArrayOpen => {
+            let list = array_of(page, place, rest)?;
+            put_members(page, &list, rest)
+        }
+        EventKind::InlineTableOpen => {
+            let list = inline_table_of(page, place, rest)?;
+            put_members(page, &list, rest)
+        }
+        _ => Ok(rest),
+    }
+}
+
+/// Returns how the array of these events is laid out.
+fn array_of(page: &Page<'_>, place: Place, events: &[Event]) -> Mem<Brackets>
+    requires spans { AreIn page.now.source.now events.now }
+    requires room { place.depth + 1 < 2 ^ 64 }
+    ensures array { (es : syntax.Elements) (comma : Bool) (t : Text) (start : ℕ) (room : Option ℕ) (more : List Event)
+        → IfArrayNext page.now.source.now events.now es comma t start more (StandsAt place.depth room place
+        → IfOk result (IsArrayLaid (rules_of page.now.rules) place.depth room es comma t)) }
+    ensures kind { IfOk result (λ x. (x.is_array ≡ true) × (x.depth ≡ place.depth)) }
+{
+    let inside = measure(page, events)?;
+    let layout = open_array(page, place, inside);
+    Ok(Brackets {
+        is_array: true,
+        layout: with_rows(page, place.depth, layout, events),
+        has_any: inside.has_any,
+        depth: place.depth,
+    })
+}
+
+/// Returns how an array with this inside is laid out, but for rows.
+fn open_array(page: &Page<'_>, place: Place, inside: Inside) -> Layout
+    ensures { (es : syntax.Elements) (comma : Bool) (t : Text) (room : Option ℕ)
+        → RoomIs room place → IsInsideArray (rules_of page.now.rules) es comma t inside
+        → rows_if (is_in_rows (rules_of page.now.rules) place.depth comma es) (layout_of result)
+        ≡ array_layout (rules_of page.now.rules) place.depth room es comma t }
+{
+    let is_wide = is_too_wide(page, place, inside.columns);
+    match page.rules.arrays {
+        Arrays::AsTheyAre => Layout::Untouched,
+        Arrays::Kept => open_if(inside, inside.is_broken || is_wide),
+        Arrays::Collapsed => open_if(inside, inside.has_comments || is_wide),
+    }
+}
+
+/// Returns the layout with the lines that an array had, if it is to be line by line and is in rows.
+fn with_rows(page: &Page<'_>, depth: usize, layout: Layout, events: &[Event]) -> Layout
+    requires spans { AreIn page.now.source.now events.now }
+    requires room { depth + 1 < 2 ^ 64 }
+    ensures { (es : syntax.Elements) (comma : Bool) (t : Text) (start : ℕ) (more : List Event)
+        → IfArrayNext page.now.source.now events.now es comma t start more
+        (layout_of result ≡ rows_if (is_in_rows (rules_of page.now.rules) depth comma es) (layout_of layout)) }
+{
+    if layout != Layout::LineByLine || !page.rules.rows {
+        return layout;
+    }
+    let indent = (depth + 1).checked_mul(page.rules.unit);
+    if is_in_rows(page, indent, events) {
+        Layout::InRows
+    } else {
+        layout
+    }
+}
+
+/// Returns `true` if so many columns are too many where a value stands that may be broken.
+fn is_too_wide(page: &Page<'_>, place: Place, columns: Option<usize>) -> bool
+    ensures { (room : Option ℕ) (n : ℕ) → RoomIs room place → columns ≡ counted n
+        → result ≡ is_too_wide (rules_of page.now.rules) room n }
+{
+    if !place.may_break {
+        return false;
+    }
+    let all = match columns {
+        Some(more) => plus(place.used, more),
+        None => None,
+    };
+    is_over(page.rules.width, all)
+}
+
+/// Returns how the inline table of these events is laid out.
+fn inline_table_of(page: &Page<'_>, place: Place, events: &[Event]) -> Mem<Brackets>
+    requires { AreIn page.now.source.now events.now }
+    ensures inline { (ps : syntax.Pairs) (comma : Bool) (t : Text) (start : ℕ) (more : List Event)
+        → IfInlineNext page.now.source.now events.now ps comma t start more
+        (IfOk result (IsInlineLaid (rules_of page.now.rules) place.depth ps comma t)) }
+    ensures kind { IfOk result (λ x. (x.is_array ≡ false) × (x.depth ≡ place.depth)) }
+{
+    let inside = measure(page, events)?;
+    let layout = if page.rules.inline_tables {
+        open_if(inside, inside.is_broken)
+    } else {
+        Layout::Untouched
+    };
+    Ok(Brackets {
+        is_array: false,
+        layout,
+        has_any: inside.has_any,
+        depth: place.depth,
+    })
+}
+
+/// Returns the layout with a line for each member if so asked. Where there is none, it is so if there
+/// is a comment.
+fn open_if(inside: Inside, is_asked: bool) -> Layout
+    ensures { result ≡ (if (if inside.has_any then is_asked else inside.has_comments) then LineByLine else OnOneLine) }
+{
+    let is_open = if inside.has_any {
+        is_asked
+    } else {
+        inside.has_comments
+    };
+    if is_open {
+        Layout::LineByLine
+    } else {
+        Layout::OnOneLine
+    }
+}
+
+/// Adds the members at the front and the closing bracket. Returns the events after that.
+#[cycle(value)]
+fn put_members<'e>(page: &mut Page<'_>, list: &Brackets, events: &'e [Event]) -> Mem<&'e [Event]>
+    requires spans { AreIn page.old.source.now events.now }
+    requires room { CanGoDeeper (list.now.depth + 1) events.now }
+    ensures members { (e : End) (ms : List Member) (at : ℕ) (more : List Event)
+        → AreNext page.old.source.now list.now.is_array events.now e None ms at more → IfOk result
+        (λ rest. Handed more rest.now (Grows
+        (members_bits (rules_of page.old.rules) (listed (rules_of page.old.rules) list.now) e None ms)
+        page.old page.new)) }
+    ensures rest { Leaves page.old page.new events.now result }
+{
+    let source = page.source;
+    let mut rest = events;
+    let mut after = None;
+    'members: while let Some((before, member)) = split_member(rest) {
+        put_between(page, list, after, text_at(source, before))?;
+        let value = put_member_head(page, list, member)?;
+        let place = list.place(&page.rules);
+        let behind = put_value(page, place, value)?;
+        let [last, more @ ..] = behind else {
+            return Ok(behind);
         };
-        format_key(alloc, inside, is_pair, is_first, slots, at)?;
-        is_first = format_pair(alloc, inside, here, is_first, slots.item_mut(at))?;
+        after = Some(text_at(source, last.span));
+        rest = more;
     }
-    Ok(is_first)
+    put_close(page, list, after, rest)
 }
 
-/// Formats the item of a slot: a pair's value, or the pairs in it. Returns `true` if no pair was
-/// formatted yet.
-#[cycle(value)]
-fn format_pair(
-    alloc: Global,
-    inside: &Inside,
-    ends: PairEnds,
-    is_first: bool,
-    item: &mut Item,
-) -> Mem<bool>
-    ensures item { OnOk result
-        (item_view item.new
-        ≡ laid_item (rules_of inside.now.rules) (layout_of inside.now.layout)
-        (string_bytes inside.now.indent) ends.comma is_first ends.is_last (item_view item.old)) }
-    ensures first { IfOk result (λ b. b ≡ is_first && not (holds_inside (item_view item.old))) }
+/// Splits off the text before an element or a pair, if one comes first.
+fn split_member(events: &[Event]) -> Option<(Span, &[Event])>
+    ensures { SplitsMember events.now result }
 {
-    match item {
-        Item::None => Ok(is_first),
-        Item::Value(value) => format_pair_value(alloc, inside, ends, is_first, value),
-        Item::Table(table) => format_table_pairs(alloc, inside, ends, is_first, table),
-        Item::ArrayOfTables(_) => Ok(is_first),
+    match events {
+        [first, rest @ ..] if matches!(first.kind, EventKind::Before | EventKind::Leading) => {
+            Some((first.span, rest))
+        }
+        _ => None,
     }
 }
 
-/// Formats the value of a pair, or the pairs in a dotted inline table.
-#[cycle(value)]
-fn format_pair_value(
-    alloc: Global,
-    inside: &Inside,
-    ends: PairEnds,
-    is_first: bool,
-    value: &mut Value,
-) -> Mem<bool>
-    ensures item { OnOk result
-        (value_view value.new
-        ≡ laid_item (rules_of inside.now.rules) (layout_of inside.now.layout)
-        (string_bytes inside.now.indent) ends.comma is_first ends.is_last (value_view value.old)) }
-    ensures first { IfOk result (λ b. b ≡ is_first && not (holds_inside (value_view value.old))) }
+/// Adds what a pair has before its value. Returns the events after that.
+fn put_member_head<'e>(
+    page: &mut Page<'_>,
+    list: &Brackets,
+    events: &'e [Event],
+) -> Mem<&'e [Event]>
+    requires { AreIn page.old.source.now events.now }
+    ensures head { (m : Member) (start : ℕ) (more : List Event)
+        → IsMember list.now.is_array m
+        → Stands page.old.source.now (start + length (text_before m)) (head m)
+        → events.now ≡ head_events (start + length (text_before m)) m ++ (value_events (value_at start m) (value_of m) ++ more)
+        → IfOk result (λ rest. Handed (value_events (value_at start m) (value_of m) ++ more) rest.now
+        (Grows (head_bits (rules_of page.old.rules) m) page.old page.new)) }
+    ensures rest { Leaves page.old page.new events.now result }
 {
-    if is_pair(value) {
-        format_value(alloc, &inside.rules, inside.inner_indent(), None, value)?;
-        format_pair_around(alloc, inside, ends.is_last, ends.comma, value.decor_mut())?;
-        return Ok(false);
+    if list.is_array {
+        return Ok(events);
     }
-    format_dotted_pairs(alloc, inside, ends, is_first, value)
+    put_pair_head(page, events)
 }
 
-/// Formats the pairs in a dotted inline table.
-#[cycle(value)]
-fn format_dotted_pairs(
-    alloc: Global,
-    inside: &Inside,
-    ends: PairEnds,
-    is_first: bool,
-    value: &mut Value,
-) -> Mem<bool>
-    ensures item { OnOk result
-        (value_view value.new
-        ≡ formatted_inside (rules_of inside.now.rules) (layout_of inside.now.layout)
-        (string_bytes inside.now.indent) ends.comma is_first ends.is_last (value_view value.old)) }
-    ensures first { IfOk result (λ b. b ≡ is_first && not (has_inside_of (value_view value.old))) }
+/// Adds what is between a member and the one before, after which is this text, if there is one.
+fn put_between(page: &mut Page<'_>, list: &Brackets, after: Option<&str>, before: &str) -> Mem<()>
+    requires { list.now.depth + 1 < 2 ^ 64 }
+    ensures { OnOk result
+        (Grows (after_bits (rules_of page.old.rules) (listed (rules_of page.old.rules) list.now) (text_of after.entry)
+        ++ before_bits (rules_of page.old.rules) (listed (rules_of page.old.rules) list.now) (is_none after.entry) before.now)
+        page.old page.new) }
 {
-    match value {
-        Value::InlineTable(table) => format_inline_pairs(alloc, inside, ends, is_first, table),
-        Value::String(_) => Ok(is_first),
-        Value::Integer(_) => Ok(is_first),
-        Value::Float(_) => Ok(is_first),
-        Value::Boolean(_) => Ok(is_first),
-        Value::Datetime(_) => Ok(is_first),
-        Value::Array(_) => Ok(is_first),
+    if let Some(text) = after {
+        put_comma(page, list, text, true)?;
+    }
+    put_before(page, list, after.is_none(), before)
+}
+
+/// Adds what is before a member.
+fn put_before(page: &mut Page<'_>, list: &Brackets, is_first: bool, text: &str) -> Mem<()>
+    requires { list.now.depth + 1 < 2 ^ 64 }
+    ensures { OnOk result
+        (Grows (before_bits (rules_of page.old.rules) (listed (rules_of page.old.rules) list.now) is_first
+        text.now) page.old page.new) }
+{
+    let gap = if is_first { Gap::First } else { Gap::Next };
+    match list.layout {
+        Layout::Untouched => page.put(text),
+        Layout::OnOneLine if is_first => put_bracket_space(page, list),
+        Layout::OnOneLine => page.put(" "),
+        Layout::InRows if !is_first && !is_broken(text) => page.put(" "),
+        Layout::LineByLine | Layout::InRows => put_gap(page, list.depth, gap, text),
     }
 }
 
-/// Formats the pairs in a dotted table.
-#[cycle(value)]
-fn format_table_pairs(
-    alloc: Global,
-    inside: &Inside,
-    ends: PairEnds,
-    is_first: bool,
-    table: &mut Table,
-) -> Mem<bool>
-    ensures item { OnOk result
-        (table_node (table_view table.new)
-        ≡ formatted_inside (rules_of inside.now.rules) (layout_of inside.now.layout)
-        (string_bytes inside.now.indent) ends.comma is_first ends.is_last
-        (table_node (table_view table.old))) }
-    ensures first { IfOk result
-        (λ b. b ≡ is_first && not (has_inside_of (table_node (table_view table.old)))) }
+/// Adds the space inside of the brackets of a list on one line, if so asked.
+fn put_bracket_space(page: &mut Page<'_>, list: &Brackets) -> Mem<()>
+    ensures { OnOk result
+        (Gains (listed (rules_of page.old.rules) list.now).edge page.old page.new) }
 {
-    format_pairs(alloc, inside, ends, is_first, &mut table.slots)
+    let has_space = if list.is_array {
+        page.rules.bracket_space
+    } else {
+        page.rules.brace_space
+    };
+    if has_space && list.has_any {
+        page.put(" ")?;
+    }
+    Ok(())
 }
 
-/// Formats the pairs in a dotted inline table, as it is.
-#[cycle(value)]
-fn format_inline_pairs(
-    alloc: Global,
-    inside: &Inside,
-    ends: PairEnds,
-    is_first: bool,
-    table: &mut InlineTable,
-) -> Mem<bool>
-    ensures item { OnOk result
-        (inline_node (inline_view table.new)
-        ≡ formatted_inside (rules_of inside.now.rules) (layout_of inside.now.layout)
-        (string_bytes inside.now.indent) ends.comma is_first ends.is_last
-        (inline_node (inline_view table.old))) }
-    ensures first { IfOk result
-        (λ b. b ≡ is_first && not (has_inside_of (inline_node (inline_view table.old)))) }
+/// Adds a comma, if there is to be one, and what is before it: in several lines nothing but comments.
+fn put_comma(page: &mut Page<'_>, list: &Brackets, before: &str, has_comma: bool) -> Mem<()>
+    requires { list.now.depth + 1 < 2 ^ 64 }
+    ensures { OnOk result
+        (Grows (comma_bits (rules_of page.old.rules) (listed (rules_of page.old.rules) list.now) before.now
+        has_comma) page.old page.new) }
 {
-    format_pairs(alloc, inside, ends, is_first, &mut table.items)
+    if list.layout == Layout::Untouched {
+        page.put(before)?;
+    } else if list.is_open() && has_comments(before) {
+        put_gap(page, list.depth, Gap::Comma, before)?;
+    }
+    if has_comma {
+        page.put(",")?;
+    }
+    Ok(())
+}
+
+/// Adds the end of an array or inline table, where this is after the last member if there is one.
+/// Returns the events after it.
+fn put_close<'e>(
+    page: &mut Page<'_>,
+    list: &Brackets,
+    after: Option<&str>,
+    events: &'e [Event],
+) -> Mem<&'e [Event]>
+    requires spans { AreIn page.old.source.now events.now }
+    requires room { list.now.depth + 1 < 2 ^ 64 }
+    ensures close { (e : End) (at : ℕ) (more : List Event)
+        → AreNext page.old.source.now list.now.is_array events.now e (text_of after.entry) [] at more → IfOk result
+        (λ rest. Handed more rest.now (Grows
+        (members_bits (rules_of page.old.rules) (listed (rules_of page.old.rules) list.now) e (text_of after.entry) [])
+        page.old page.new)) }
+    ensures rest { Leaves page.old page.new events.now result }
+{
+    let (comma, rest) = split_comma(events);
+    let [inner, bracket, rest @ ..] = rest else {
+        return Ok(events);
+    };
+    let (before, inner) = texts_at_end(after, comma, page.text_of(inner));
+    let has_comma = has_last_comma(page, list, comma, before);
+    put_comma(page, list, before, has_comma)?;
+    put_inner(page, list, inner)?;
+    page.put_event(bracket)?;
+    Ok(rest)
+}
+
+/// Adds what is before the closing bracket.
+fn put_inner(page: &mut Page<'_>, list: &Brackets, text: &str) -> Mem<()>
+    requires { list.now.depth + 1 < 2 ^ 64 }
+    ensures { OnOk result
+        (Grows (inner_bits (layout_of list.now.layout) (rules_of page.old.rules)
+        (listed (rules_of page.old.rules) list.now) text.now) page.old page.new) }
+{
+    let gap = if list.has_any { Gap::Last } else { Gap::Only };
+    match list.layout {
+        Layout::Untouched => page.put(text),
+        Layout::OnOneLine => put_bracket_space(page, list),
+        Layout::LineByLine | Layout::InRows => put_gap(page, list.depth, gap, text),
+    }
+}
+
+/// Splits off the comma after the last member, if there is one.
+fn split_comma(events: &[Event]) -> (bool, &[Event])
+    ensures { (result.0, result.1.now) ≡ split_comma events.now }
+{
+    match events {
+        [first, rest @ ..] if first.kind == EventKind::Comma => (true, rest),
+        _ => (false, events),
+    }
+}
+
+/// Returns the texts before the last comma and before the closing bracket. Without a comma that after
+/// the last member is before the bracket.
+fn texts_at_end<'a>(after: Option<&'a str>, comma: bool, inner: &'a str) -> (&'a str, &'a str)
+    ensures before { result.0.now ≡ before_last (text_of after.entry) comma }
+    ensures inner { syntax.IsClose (is_some after.entry) comma inner.now → result.1.now ≡ inner_text (text_of after.entry) comma inner.now }
+{
+    match after {
+        Some(text) if comma => (text, inner),
+        Some(text) => ("", text),
+        None => ("", inner),
+    }
+}
+
+/// Returns `true` if a comma is after the last member, where one was or none was after this text.
+fn has_last_comma(page: &Page<'_>, list: &Brackets, comma: bool, before: &str) -> bool
+    ensures { result
+        ≡ last_comma_as (layout_of list.now.layout) (rules_of page.now.rules)
+        (listed (rules_of page.now.rules) list.now) comma before.now }
+{
+    match list.layout {
+        Layout::Untouched => comma,
+        Layout::OnOneLine => false,
+        Layout::LineByLine | Layout::InRows => match page.rules.commas {
+            Commas::AsTheyAre => comma,
+            Commas::Always => list.has_any,
+            Commas::Never => has_comments(before),
+        },
+    }
 }

@@ -1,563 +1,415 @@
--- Values, statements and documents laid out again stay.
-use Rattle.std.proofs.Common.{◌≡◌, refl, sym, ap, ◌∙◌, ℕ, zero, suc, ◌+◌, Bool, true, false, List, [], ◌∷◌, ◌++◌, length, Option, Some, None}
-use Rattle.std.specs.Prelude.{◌⊎◌, ◌||◌, ◌==◌, not, if◌then◌else◌}
-use Rattle.std.specs.List.{before_first}
-use Rattle.std.proofs.lemmas.List.Folds.{list_any-append}
+-- Values, statements and documents laid out again are as they are laid out once.
+use Rattle.std.proofs.Common.{◌≡◌, refl, sym, ap, ◌∙◌, ℕ, suc, Bool, true, false, List, [], ◌∷◌, ◌++◌, length, Option, Some, None, append-nil}
+use Rattle.std.specs.Prelude.{◌⊎◌, ◌||◌, ◌&&◌, ◌==◌, not, codes, if◌then◌else◌}
+use Rattle.std.specs.List.{list_any}
 use Rattle.toml_edit_model.specs.Comments.{comments}
-use Rattle.toml_edit_model.specs.Mode.{exact, holds_return}
+use Rattle.toml_edit_model.specs.Paths.{Path, to_element}
 use Rattle.toml_edit_model.specs.Print.{one_space}
 use Rattle.toml_edit_model.specs.Syntax.{Segment, Around, Frame, Value, scalar, array, inline_table, Elements, no_elements, element, Pairs}
-use Rattle.toml_edit_model.specs.Syntax.{no_pairs, pair, Header, Statement, key_line, header, has_elements, has_pairs}
-use Rattle.toml_edit_model.specs.Syntax.{IsValue, AreElements, ArePairs, IsStatement, AreStatements}
-use Rattle.toml_edit_model.specs.Text.{Text, line_feed, carriage_return, newline, is_empty}
-use Rattle.toml_edit_model.specs.Trivia.{is_blank, IsWhiteSpace, IsWholeTrivia, IsNewline}
-use Rattle.toml_edit_laws.proofs.accepted_prints.PrintedValues.{whole-append}
-use Rattle.toml_edit_laws.proofs.common.Each.{each-append}
-use Rattle.toml_edit_laws.proofs.common.Tests.{or-true, or-left, or-right}
-use Rattle.toml_edit_laws.proofs.common.Trivia.{close-trivia, empty-trivia}
-use Rattle.toml_edit_fmt_laws.specs.Promises.{FormattedAgain}
-use Rattle.toml_edit_fmt_laws.proofs.Ends.{final-again}
-use Rattle.toml_edit_fmt_laws.specs.Rules.{Rules, deeper, spaces, line_indent, header_indent, indent_as, as_it_is, flush, by_depth, Indentation, units}
-use Rattle.toml_edit_fmt_laws.specs.Laying.{is_broken, gap, beside, line_break, leading, header_leading, line_rest, final_text}
-use Rattle.toml_edit_fmt_laws.specs.Formatted.{path_width, flat_width, elements_width, pairs_width, is_too_wide, Layout, untouched, on_one_line}
-use Rattle.toml_edit_fmt_laws.specs.Formatted.{line_by_line, has_broken_elements, has_broken_pairs, layout_by, array_layout, inline_layout}
-use Rattle.toml_edit_fmt_laws.specs.Formatted.{laid_comma, before_part, after_part, before_bracket, inner_indent, inner_room, last_after}
-use Rattle.toml_edit_fmt_laws.specs.Formatted.{last_trailing, laid_segment, laid_path, beside_equals, laid_frame, laid_value, laid_elements}
-use Rattle.toml_edit_fmt_laws.specs.Formatted.{laid_pairs, used_before, keys_below, laid_statement, laid_statements, laid_document}
-use Rattle.toml_edit_fmt_laws.proofs.SpacedRows.{white-spaces}
-use Rattle.toml_edit_fmt_laws.proofs.GapLaws.{gap-again, gap-comments, comma-again}
-use Rattle.toml_edit_fmt_laws.proofs.LeadingLaws.{leading-again}
-use Rattle.toml_edit_fmt_laws.proofs.HeaderLaws.{header-again}
+use Rattle.toml_edit_model.specs.Syntax.{no_pairs, pair, Header, Statement, key_line, header, Document, has_elements, has_pairs}
+use Rattle.toml_edit_model.specs.Syntax.{IsClose, IsValue, AreElements, ArePairs, IsStatement, AreStatements, IsDocument}
+use Rattle.toml_edit_model.specs.Text.{Text}
+use Rattle.toml_edit_model.specs.Trivia.{IsWholeTrivia, IsFinalTrivia, IsNewline}
+use Rattle.toml_edit_laws.proofs.common.Tests.{or-true}
+use Rattle.toml_edit_fmt_laws.specs.Rules.{Rules, Comments, as_they_are, apart, aligned, line_depth, header_depth}
+use Rattle.toml_edit_fmt_laws.specs.Laying.{leading, header_leading, line_rest, final_text, usual_pad}
+use Rattle.toml_edit_fmt_laws.specs.Formatted.{Layout, array_layout, inline_layout, before_part, after_part, Inside, inside, in_array, in_inline, inner_depth, inner_room}
+use Rattle.toml_edit_fmt_laws.specs.Formatted.{last_after, last_trailing, elements_count, pairs_count, last_pad, laid_spelling, laid_segment, laid_path, beside_equals, laid_frame}
+use Rattle.toml_edit_fmt_laws.specs.Formatted.{laid_value, laid_elements, laid_pairs, used_before, State, start, stays, reached, keys_below, leading_of, after}
+use Rattle.toml_edit_fmt_laws.specs.Formatted.{off_after, has_part, laid_statement, lay, laid_statements, state_after, laid_final, laid_document}
+use Rattle.toml_edit_fmt_laws.specs.Aligned.{pad_in, pads_of, pads_as, formatted}
+use Rattle.toml_edit_fmt_laws.specs.Promises.{LaidAgain, FormattedAgain}
+use Rattle.toml_edit_fmt_laws.proofs.EndsAgain.{before-again, after-again, after_last, ends-again, none-again}
+use Rattle.toml_edit_fmt_laws.proofs.LayoutAgain.{spelling-again, some-again, none-layout-again, pairs-layout-again, none-pairs-again}
+use Rattle.toml_edit_fmt_laws.proofs.LeadingLaws.{leading-again, leading-comments}
+use Rattle.toml_edit_fmt_laws.proofs.HeaderLaws.{header-again, header-comments}
 use Rattle.toml_edit_fmt_laws.proofs.LineRests.{rest-again}
-
--- ---- layouts
-
--- a comma closes what is laid out line by line, if there is anything
-abbrev pub Closed : Layout → Bool → Bool → Type 0
-Closed untouched has c = Unit {0}
-Closed on_one_line has c = Unit {0}
-Closed line_by_line has c = has ≡ true → c ≡ true
-
-closed : (l : Layout) (has comma : Bool) → Closed l has (laid_comma l has comma)
-closed untouched has comma = tt
-closed on_one_line has comma = tt
-closed line_by_line has comma = λ e. e
-
-closed-tail : (l : Layout) (has c : Bool) → Closed l true c → Closed l has c
-closed-tail untouched has c h = tt
-closed-tail on_one_line has c h = tt
-closed-tail line_by_line has c h = λ e. h refl
-
-laid-comma-again : (l : Layout) (has comma : Bool) → laid_comma l has (laid_comma l has comma) ≡ laid_comma l has comma
-laid-comma-again untouched has comma = refl
-laid-comma-again on_one_line has comma = refl
-laid-comma-again line_by_line has comma = refl
-
--- what is after a part is not at the end there
-abbrev pub Opens : Layout → Bool → Type 0
-Opens untouched end = Unit {0}
-Opens on_one_line end = Unit {0}
-Opens line_by_line end = end ≡ false
-
-opens : (l : Layout) (c b : Bool) → Closed l true c → Opens l (not (c || b))
-opens untouched c b h = tt
-opens on_one_line c b h = tt
-opens line_by_line c b h = ap (λ x. not (x || b)) (h refl)
-
--- a layout on one line has nothing that splits it
-pub not-split : (asked split : Bool) (t : Text) → layout_by asked true split t ≡ on_one_line → (split || is_broken t) ≡ false
-not-split false split t e = absurd (let clash : untouched ≡ on_one_line = e in cc)
-not-split true split t e = by_test (split || is_broken t) e
-  where
-    by_test : (b : Bool) → (if b then line_by_line else on_one_line) ≡ on_one_line → b ≡ false
-    by_test true h = absurd (let clash : line_by_line ≡ on_one_line = h in cc)
-    by_test false h = refl
-
-layout-some : (asked split other : Bool) (t u : Text) (l : Layout) → layout_by asked true split t ≡ l
-    → (l ≡ line_by_line → is_broken u ≡ true) → (l ≡ on_one_line → (other || is_broken u) ≡ false)
-    → layout_by asked true other u ≡ l
-layout-some false split other t u l e lines flat = e
-layout-some true split other t u l e lines flat = by_test (split || is_broken t) e
-  where
-    by_test : (b : Bool) → (if b then line_by_line else on_one_line) ≡ l → (if other || is_broken u then line_by_line else on_one_line) ≡ l
-    by_test true h =
-        ap (λ b. if other || b then line_by_line else on_one_line) (lines (sym h))
-        ∙ ap (λ b. if b then line_by_line else on_one_line) (or-true other) ∙ h
-    by_test false h = ap (λ b. if b then line_by_line else on_one_line) (flat (sym h)) ∙ h
+use Rattle.toml_edit_fmt_laws.proofs.Ends.{final-again, final-comments}
+use Rattle.toml_edit_fmt_laws.proofs.Grammar.{last-whole, last-pair-whole}
 
 module _ (r : Rules) where
-  pub white-deeper : (i : Text) → IsWhiteSpace i → IsWhiteSpace (deeper r i)
-  white-deeper i h = each-append is_blank i (spaces r.unit) h (white-spaces r.unit)
-
-  pub white-inner : (l : Layout) (i : Text) → IsWhiteSpace i → IsWhiteSpace (inner_indent r l i)
-  white-inner untouched i h = h
-  white-inner on_one_line i h = h
-  white-inner line_by_line i h = white-deeper i h
-
-  -- a gap has a newline
-  break-broken : (t : Text) → is_broken (line_break r t) ≡ true
-  break-broken t = by_test (is_broken t) r.returns (holds_return exact (before_first (λ c. c == line_feed) t))
-    where
-      by_test : (b m n : Bool) → is_broken (if b then (if n then carriage_return ∷ newline else newline)
-          else (if m then carriage_return ∷ newline else newline)) ≡ true
-      by_test true m true = refl
-      by_test true m false = refl
-      by_test false true n = refl
-      by_test false false n = refl
-
-  broken-between : (a b c : Text) → is_broken b ≡ true → is_broken (a ++ (b ++ c)) ≡ true
-  broken-between a b c h =
-      list_any-append (λ x. x == line_feed) a (b ++ c)
-      ∙ ap (λ x. is_broken a || x) (list_any-append (λ x. x == line_feed) b c ∙ ap (λ x. x || is_broken c) h)
-      ∙ or-true (is_broken a)
-
-  pub gap-broken : (s e : Bool) (i last t : Text) → is_broken (gap r s e i last t) ≡ true
-  gap-broken s e i last t = broken-between (beside r t) (line_break r t) _ (break-broken t)
-
-  -- ---- parts
-
-  before-again : (l : Layout) (first : Bool) (i d t : Text) → IsWhiteSpace i → IsWholeTrivia t
-      → before_part r l first i d (before_part r l first i d t) ≡ before_part r l first i d t
-  before-again untouched first i d t w h = refl
-  before-again on_one_line first i d t w h = refl
-  before-again line_by_line first i d t w h =
-      gap-again r first false (deeper r i) (deeper r i) t (white-deeper i w) (white-deeper i w) h
-
-  after-again : (l : Layout) (ends end : Bool) (i d t : Text) → IsWhiteSpace i → IsWholeTrivia t → Opens l end
-      → after_part r l end i d (after_part r l ends i d t) ≡ after_part r l ends i d t
-  after-again untouched ends end i d t w h c = refl
-  after-again on_one_line ends end i d t w h c = refl
-  after-again line_by_line ends true i d t w h c = absurd (let clash : true ≡ false = c in cc)
-  after-again line_by_line true false i d t w h c = refl
-  after-again line_by_line false false i d t w h c = comma-again r (deeper r i) t (white-deeper i w) h
-
-  bracket-again : (l : Layout) (has : Bool) (i last more t : Text) → IsWhiteSpace i → IsWholeTrivia (last ++ t)
-      → (l ≡ line_by_line → more ≡ [])
-      → before_bracket r l has i more (before_bracket r l has i last t) ≡ before_bracket r l has i last t
-  bracket-again untouched has i last more t w h none = refl
-  bracket-again on_one_line has i last more t w h none = refl
-  bracket-again line_by_line has i last more t w h none =
-      ap (λ u. gap r (not has) true (deeper r i) i (u ++ gap r (not has) true (deeper r i) i (last ++ t))) (none refl)
-      ∙ gap-again r (not has) true (deeper r i) i (last ++ t) (white-deeper i w) w h
-
   -- ---- keys
 
+  twice : (b : Bool) (s t : Text) → (if b then s else (if b then s else t)) ≡ (if b then s else t)
+  twice true s t = refl
+  twice false s t = refl
+
   segment-again : (s : Segment) → laid_segment r (laid_segment r s) ≡ laid_segment r s
-  segment-again s = by_test r.dots
-    where
-      by_test : (b : Bool)
-          → (if b then record (if b then record s { before = []; after = [] } else s) { before = []; after = [] }
-          else (if b then record s { before = []; after = [] } else s))
-          ≡ (if b then record s { before = []; after = [] } else s)
-      by_test true = refl
-      by_test false = refl
+  segment-again s =
+      ap (λ u. record (laid_segment r s) {
+        before = u;
+        spelled = laid_spelling r (laid_segment r s);
+        after = if r.dots then [] else (if r.dots then [] else s.after);
+      }) (twice r.dots [] s.before)
+      ∙ ap (λ u. record (laid_segment r s) { spelled = u; after = if r.dots then [] else (if r.dots then [] else s.after) }) (spelling-again r s)
+      ∙ ap (λ u. record (laid_segment r s) { after = u }) (twice r.dots [] s.after)
 
   path-again : (p : List Segment) → laid_path r (laid_path r p) ≡ laid_path r p
   path-again [] = refl
   path-again (s ∷ p) =
       ap (λ t. t ∷ laid_path r (laid_path r p)) (segment-again s) ∙ ap (λ q. laid_segment r s ∷ q) (path-again p)
 
-  equals-again : (t : Text) → beside_equals r (beside_equals r t) ≡ beside_equals r t
-  equals-again t = by_test r.equals
-    where
-      by_test : (b : Bool) → (if b then one_space else (if b then one_space else t)) ≡ (if b then one_space else t)
-      by_test true = refl
-      by_test false = refl
-
-  frame-again : (f : Frame) (b c a d : Text) → c ≡ b → d ≡ a → laid_frame r c d (laid_frame r b a f) ≡ laid_frame r b a f
-  frame-again f b c a d e g =
-      ap (λ u. record (laid_frame r b a f) {
-        leading = u;
-        path = laid_path r (laid_path r f.path);
-        before_equals = beside_equals r (beside_equals r f.before_equals);
+  -- with other texts around it the second time
+  frame-again : (f : Frame) (b a c d u v : Text) → c ≡ u → d ≡ v → laid_frame r c d (laid_frame r b a f) ≡ laid_frame r u v f
+  frame-again f b a c d u v e g =
+      ap (λ w. record (laid_frame r c d (laid_frame r b a f)) { leading = w }) e
+      ∙ ap (λ w. record (laid_frame r u d (laid_frame r b a f)) { trailing = w }) g
+      ∙ ap (λ w. record (laid_frame r u v (laid_frame r b a f)) { path = w }) (path-again f.path)
+      ∙ ap (λ w. record (laid_frame r u v f) {
+        before_equals = w;
         after_equals = beside_equals r (beside_equals r f.after_equals);
-        trailing = d;
-      }) e
-      ∙ ap (λ u. record (laid_frame r b a f) {
-        path = laid_path r (laid_path r f.path);
-        before_equals = beside_equals r (beside_equals r f.before_equals);
-        after_equals = beside_equals r (beside_equals r f.after_equals);
-        trailing = u;
-      }) g
-      ∙ ap (λ u. record (laid_frame r b a f) {
-        path = u;
-        before_equals = beside_equals r (beside_equals r f.before_equals);
-        after_equals = beside_equals r (beside_equals r f.after_equals);
-      }) (path-again f.path)
-      ∙ ap (λ u. record (laid_frame r b a f) {
-        before_equals = u;
-        after_equals = beside_equals r (beside_equals r f.after_equals);
-      }) (equals-again f.before_equals)
-      ∙ ap (λ u. record (laid_frame r b a f) { after_equals = u }) (equals-again f.after_equals)
-
-  -- ---- widths, and whether there is anything
-
-  spelled-laid : (s : Segment) → (laid_segment r s).spelled ≡ s.spelled
-  spelled-laid s = by_test r.dots
-    where
-      by_test : (b : Bool) → (if b then record s { before = []; after = [] } else s).spelled ≡ s.spelled
-      by_test true = refl
-      by_test false = refl
-
-  pub path-wide : (p : List Segment) → path_width (laid_path r p) ≡ path_width p
-  path-wide [] = refl
-  path-wide (s ∷ []) = ap length (spelled-laid s)
-  path-wide (s ∷ t ∷ rest) =
-      ap (λ u. length u + (1 + path_width (laid_path r (t ∷ rest)))) (spelled-laid s)
-      ∙ ap (λ n. length s.spelled + (1 + n)) (path-wide (t ∷ rest))
-
-  mutual
-    value-wide : (i : Text) (room : Option ℕ) (v : Value) → flat_width (laid_value r i room v) ≡ flat_width v
-    value-wide i room (scalar s t) = refl
-    value-wide i room (array es comma t) = ap (λ n. 2 + n) (elements-wide (array_layout r room es t) i comma true es)
-    value-wide i room (inline_table ps comma t) = ap (λ n. 2 + n) (pairs-wide (inline_layout r ps t) i comma true ps)
-
-    pub elements-wide : (l : Layout) (i : Text) (comma first : Bool) (es : Elements)
-        → elements_width (laid_elements r l i comma first es) ≡ elements_width es
-    elements-wide l i comma first no_elements = refl
-    elements-wide l i comma first (element a v no_elements) = value-wide (inner_indent r l i) (inner_room r l i) v
-    elements-wide l i comma first (element a v (element b w es)) =
-        ap (λ n. n + (2 + elements_width (laid_elements r l i comma false (element b w es))))
-        (value-wide (inner_indent r l i) (inner_room r l i) v)
-        ∙ ap (λ n. flat_width v + (2 + n)) (elements-wide l i comma false (element b w es))
-
-    pairs-wide : (l : Layout) (i : Text) (comma first : Bool) (ps : Pairs)
-        → pairs_width (laid_pairs r l i comma first ps) ≡ pairs_width ps
-    pairs-wide l i comma first no_pairs = refl
-    pairs-wide l i comma first (pair f v no_pairs) =
-        ap (λ n. n + (5 + flat_width (laid_value r (inner_indent r l i) None v))) (path-wide f.path)
-        ∙ ap (λ n. path_width f.path + (5 + n)) (value-wide (inner_indent r l i) None v)
-    pairs-wide l i comma first (pair f v (pair g w ps)) =
-        ap (λ n. n + (5 + (flat_width (laid_value r (inner_indent r l i) None v)
-        + pairs_width (laid_pairs r l i comma false (pair g w ps))))) (path-wide f.path)
-        ∙ ap (λ n. path_width f.path + (5 + (n + pairs_width (laid_pairs r l i comma false (pair g w ps)))))
-        (value-wide (inner_indent r l i) None v)
-        ∙ ap (λ n. path_width f.path + (5 + (flat_width v + n))) (pairs-wide l i comma false (pair g w ps))
-
-  pub has-laid : (l : Layout) (i : Text) (comma first : Bool) (es : Elements) → has_elements (laid_elements r l i comma first es) ≡ has_elements es
-  has-laid l i comma first no_elements = refl
-  has-laid l i comma first (element a v es) = refl
-
-  pub has-laid-pairs : (l : Layout) (i : Text) (comma first : Bool) (ps : Pairs) → has_pairs (laid_pairs r l i comma first ps) ≡ has_pairs ps
-  has-laid-pairs l i comma first no_pairs = refl
-  has-laid-pairs l i comma first (pair f v ps) = refl
-
-  -- on one line there is no newline
-  flat-elements : (i : Text) (comma first : Bool) (es : Elements)
-      → has_broken_elements (laid_elements r on_one_line i comma first es) ≡ false
-  flat-elements i comma first no_elements = refl
-  flat-elements i comma true (element a v es) = flat-elements i comma false es
-  flat-elements i comma false (element a v es) = flat-elements i comma false es
-
-  flat-pairs : (i : Text) (comma first : Bool) (ps : Pairs)
-      → has_broken_pairs (laid_pairs r on_one_line i comma first ps) ≡ false
-  flat-pairs i comma first no_pairs = refl
-  flat-pairs i comma first (pair f v ps) =
-      ap (λ b. b || has_broken_pairs (laid_pairs r on_one_line i comma false ps)) (by_test (has_pairs ps)) ∙ flat-pairs i comma false ps
-    where
-      by_test : (b : Bool) → (is_broken one_space || is_broken (if b then [] else one_space)) ≡ false
-      by_test true = refl
-      by_test false = refl
-
-  -- ---- what is after the last
-
-  last-closed : (es : Elements) → last_after true es ≡ []
-  last-closed no_elements = refl
-  last-closed (element a v no_elements) = refl
-  last-closed (element a v (element b w es)) = last-closed (element b w es)
-
-  last-pair-closed : (ps : Pairs) → last_trailing true ps ≡ []
-  last-pair-closed no_pairs = refl
-  last-pair-closed (pair f v no_pairs) = refl
-  last-pair-closed (pair f v (pair g w ps)) = last-pair-closed (pair g w ps)
-
-  pub last-whole : (comma : Bool) (es : Elements) → AreElements es → IsWholeTrivia (last_after comma es)
-  last-whole comma no_elements h = empty-trivia
-  last-whole true (element a v no_elements) h = empty-trivia
-  last-whole false (element a v no_elements) h = h.1
-  last-whole comma (element a v (element b w es)) h = last-whole comma (element b w es) h.3
-
-  pub last-pair-whole : (comma : Bool) (ps : Pairs) → ArePairs ps → IsWholeTrivia (last_trailing comma ps)
-  last-pair-whole comma no_pairs h = empty-trivia
-  last-pair-whole true (pair f v no_pairs) h = empty-trivia
-  last-pair-whole false (pair f v no_pairs) h = h.0.0.trailing
-  last-pair-whole comma (pair f v (pair g w ps)) h = last-pair-whole comma (pair g w ps) h.2
-
-  -- ---- the layout of what is laid out
-
-  array-layout-again : (room : Option ℕ) (i : Text) (a : Around) (v : Value) (es : Elements) (comma : Bool) (t : Text)
-      → let xs = element a v es in
-      let l = array_layout r room xs t in
-      array_layout r room (laid_elements r l i comma true xs) (before_bracket r l true i (last_after comma xs) t) ≡ l
-  array-layout-again room i a v es comma t =
-      let xs = element a v es in
-      let l = array_layout r room xs t in
-      let ys = laid_elements r l i comma true xs in
-      let u = before_bracket r l true i (last_after comma xs) t in
-      layout-some r.arrays (has_broken_elements xs || is_too_wide r room (2 + elements_width xs))
-      (has_broken_elements ys || is_too_wide r room (2 + elements_width ys)) t u l refl
-      (λ e. ap (λ m. is_broken (before_bracket r m true i (last_after comma xs) t)) e
-      ∙ gap-broken false true (deeper r i) i (last_after comma xs ++ t))
-      (λ e.
-      let split : (has_broken_elements xs || is_too_wide r room (2 + elements_width xs)) ≡ false =
-      or-left _ (is_broken t) (not-split r.arrays _ t e) in
-      ap (λ n. (has_broken_elements ys || is_too_wide r room (2 + n)) || is_broken u) (elements-wide l i comma true xs)
-      ∙ ap (λ m. (has_broken_elements (laid_elements r m i comma true xs) || is_too_wide r room (2 + elements_width xs))
-      || is_broken (before_bracket r m true i (last_after comma xs) t)) e
-      ∙ ap (λ b. (b || is_too_wide r room (2 + elements_width xs)) || false) (flat-elements i comma true xs)
-      ∙ ap (λ b. b || false) (or-right (has_broken_elements xs) _ split))
-
-  none-again : (asked : Bool) (i : Text) (split : Bool) (t : Text) → IsWhiteSpace i → IsWholeTrivia t
-      → let l = layout_by asked false split t in
-      layout_by asked false split (before_bracket r l false i [] t) ≡ l
-  none-again false i split t w h = refl
-  none-again true i split t w h = by_test (not (is_empty (comments t))) refl
-    where
-      by_test : (b : Bool) → not (is_empty (comments t)) ≡ b
-          → (if not (is_empty (comments (before_bracket r (if b then line_by_line else on_one_line) false i [] t)))
-          then line_by_line else on_one_line) ≡ (if b then line_by_line else on_one_line)
-      by_test true e =
-          ap (λ cs. if not (is_empty cs) then line_by_line else on_one_line)
-          (gap-comments r true true (deeper r i) i t (white-deeper i w) w h)
-          ∙ ap (λ b. if b then line_by_line else on_one_line) e
-      by_test false e = refl
-
-  pairs-layout-again : (i : Text) (f : Frame) (v : Value) (ps : Pairs) (comma : Bool) (t : Text)
-      → let xs = pair f v ps in
-      let l = inline_layout r xs t in
-      inline_layout r (laid_pairs r l i comma true xs) (before_bracket r l true i (last_trailing comma xs) t) ≡ l
-  pairs-layout-again i f v ps comma t =
-      let xs = pair f v ps in
-      let l = inline_layout r xs t in
-      let ys = laid_pairs r l i comma true xs in
-      let u = before_bracket r l true i (last_trailing comma xs) t in
-      layout-some r.inline_tables (has_broken_pairs xs) (has_broken_pairs ys) t u l refl
-      (λ e. ap (λ m. is_broken (before_bracket r m true i (last_trailing comma xs) t)) e
-      ∙ gap-broken false true (deeper r i) i (last_trailing comma xs ++ t))
-      (λ e.
-      ap (λ m. has_broken_pairs (laid_pairs r m i comma true xs) || is_broken (before_bracket r m true i (last_trailing comma xs) t)) e
-      ∙ ap (λ b. b || false) (flat-pairs i comma true xs))
+      }) (twice r.equals one_space f.before_equals)
+      ∙ ap (λ w. record (laid_frame r u v f) { after_equals = w }) (twice r.equals one_space f.after_equals)
 
   -- ---- values
 
-  elements-layout-again : (room : Option ℕ) (i : Text) (es : Elements) (comma : Bool) (t : Text) → IsWhiteSpace i → IsWholeTrivia t
-      → let l = array_layout r room es t in
-      array_layout r room (laid_elements r l i comma true es) (before_bracket r l (has_elements es) i (last_after comma es) t) ≡ l
-  elements-layout-again room i no_elements comma t w h = none-again r.arrays i (is_too_wide r room 2) t w h
-  elements-layout-again room i (element a v es) comma t w h = array-layout-again room i a v es comma t
+  module _ (pad other : Path → ℕ) where
+    count-laid : (x : Inside) (i n : ℕ) (es : Elements) → elements_count (laid_elements r other x i n es) ≡ elements_count es
+    count-laid x i n no_elements = refl
+    count-laid x i n (element a v es) = ap suc (count-laid x (suc i) (other (to_element x.path i)) es)
 
-  slots-layout-again : (i : Text) (ps : Pairs) (comma : Bool) (t : Text) → IsWhiteSpace i → IsWholeTrivia t
-      → let l = inline_layout r ps t in
-      inline_layout r (laid_pairs r l i comma true ps) (before_bracket r l (has_pairs ps) i (last_trailing comma ps) t) ≡ l
-  slots-layout-again i no_pairs comma t w h = none-again r.inline_tables i false t w h
-  slots-layout-again i (pair f v ps) comma t w h = pairs-layout-again i f v ps comma t
+    count-pairs : (x : Inside) (i n : ℕ) (ps : Pairs) → pairs_count (laid_pairs r other x i n ps) ≡ pairs_count ps
+    count-pairs x i n no_pairs = refl
+    count-pairs x i n (pair f v ps) = ap suc (count-pairs x (suc i) (other (to_element x.path i)) ps)
 
-  -- nothing is after the last where a comma closes it
-  after-none : (l : Layout) (i : Text) (comma d : Bool) (es : Elements) → l ≡ line_by_line
-      → last_after (laid_comma l (has_elements es) comma) (laid_elements r l i d true es) ≡ []
-  after-none l i comma d no_elements e = refl
-  after-none l i comma d (element a v es) e =
-      ap (λ m. last_after (laid_comma m true comma) (laid_elements r l i d true (element a v es))) e
-      ∙ last-closed (laid_elements r l i d true (element a v es))
+    -- what is after the last
+    last-laid : (x : Inside) (i n : ℕ) (a : Around) (v : Value) (es : Elements)
+        → last_after (laid_elements r other x i n (element a v es))
+        ≡ after_part r x.layout (x.had_comma || false) x.depth (last_after (element a v es)) ++ x.last
+    last-laid x i n a v no_elements = refl
+    last-laid x i n a v (element b w es) = last-laid x (suc i) (other (to_element x.path i)) b w es
 
-  trailing-none : (l : Layout) (i : Text) (comma d : Bool) (ps : Pairs) → l ≡ line_by_line
-      → last_trailing (laid_comma l (has_pairs ps) comma) (laid_pairs r l i d true ps) ≡ []
-  trailing-none l i comma d no_pairs e = refl
-  trailing-none l i comma d (pair f v ps) e =
-      ap (λ m. last_trailing (laid_comma m true comma) (laid_pairs r l i d true (pair f v ps))) e
-      ∙ last-pair-closed (laid_pairs r l i d true (pair f v ps))
+    last-laid-pair : (x : Inside) (i n : ℕ) (f : Frame) (v : Value) (ps : Pairs)
+        → last_trailing (laid_pairs r other x i n (pair f v ps))
+        ≡ after_part r x.layout (x.had_comma || false) x.depth (last_trailing (pair f v ps)) ++ x.last
+    last-laid-pair x i n f v no_pairs = refl
+    last-laid-pair x i n f v (pair g w ps) = last-laid-pair x (suc i) (other (to_element x.path i)) g w ps
 
-  mutual
-    value-again : (i : Text) (room : Option ℕ) (v : Value) → IsWhiteSpace i → IsValue v
-        → laid_value r i room (laid_value r i room v) ≡ laid_value r i room v
-    value-again i room (scalar s t) w h = refl
-    value-again i room (array es comma t) w h =
-        let has = has_elements es in
-        let l = array_layout r room es t in
-        let c = laid_comma l has comma in
-        let ys = laid_elements r l i comma true es in
-        let u = before_bracket r l has i (last_after comma es) t in
-        let whole = close-trivia has comma t h.0 in
-        ap (λ m. array (laid_elements r m i c true ys) (laid_comma m (has_elements ys) c)
-        (before_bracket r m (has_elements ys) i (last_after c ys) u))
-        (elements-layout-again room i es comma t w whole)
-        ∙ ap (λ b. array (laid_elements r l i c true ys) (laid_comma l b c) (before_bracket r l b i (last_after c ys) u))
-        (has-laid l i comma true es)
-        ∙ ap (λ zs. array zs (laid_comma l has c) (before_bracket r l has i (last_after c ys) u))
-        (elements-again l i comma c true es w (closed l has comma) h.1)
-        ∙ ap (λ d. array ys d (before_bracket r l has i (last_after c ys) u)) (laid-comma-again l has comma)
-        ∙ ap (array ys c)
-        (bracket-again l has i (last_after comma es) (last_after c ys) t w
-        (whole-append (last_after comma es) t (last-whole comma es h.1) whole) (after-none l i comma comma es))
-    value-again i room (inline_table ps comma t) w h =
-        let has = has_pairs ps in
-        let l = inline_layout r ps t in
-        let c = laid_comma l has comma in
-        let ys = laid_pairs r l i comma true ps in
-        let u = before_bracket r l has i (last_trailing comma ps) t in
-        let whole = close-trivia has comma t h.0 in
-        ap (λ m. inline_table (laid_pairs r m i c true ys) (laid_comma m (has_pairs ys) c)
-        (before_bracket r m (has_pairs ys) i (last_trailing c ys) u))
-        (slots-layout-again i ps comma t w whole)
-        ∙ ap (λ b. inline_table (laid_pairs r l i c true ys) (laid_comma l b c) (before_bracket r l b i (last_trailing c ys) u))
-        (has-laid-pairs l i comma true ps)
-        ∙ ap (λ zs. inline_table zs (laid_comma l has c) (before_bracket r l has i (last_trailing c ys) u))
-        (pairs-again l i comma c true ps w (closed l has comma) h.1)
-        ∙ ap (λ d. inline_table ys d (before_bracket r l has i (last_trailing c ys) u)) (laid-comma-again l has comma)
-        ∙ ap (inline_table ys c)
-        (bracket-again l has i (last_trailing comma ps) (last_trailing c ys) t w
-        (whole-append (last_trailing comma ps) t (last-pair-whole comma ps h.1) whole) (trailing-none l i comma comma ps))
+    -- after a member that is not the last
+    mid-again : (l : Layout) (depth : ℕ) (c d : Bool) (t : Text) → IsWholeTrivia t
+        → after_part r l (d || true) depth (after_part r l (c || true) depth t ++ []) ++ [] ≡ after_part r l (c || true) depth t ++ []
+    mid-again l depth c d t h =
+        ap (λ b. after_part r l b depth (after_part r l (c || true) depth t ++ []) ++ []) (or-true d)
+        ∙ ap (λ b. after_part r l true depth (after_part r l b depth t ++ []) ++ []) (or-true c)
+        ∙ ap (λ u. after_part r l true depth u ++ []) (append-nil (after_part r l true depth t))
+        ∙ ap (λ u. u ++ []) (after-again r l depth t h)
+        ∙ sym (ap (λ b. after_part r l b depth t ++ []) (or-true c))
 
-    elements-again : (l : Layout) (i : Text) (comma c first : Bool) (es : Elements) → IsWhiteSpace i → Closed l (has_elements es) c
-        → AreElements es
-        → laid_elements r l i c first (laid_elements r l i comma first es) ≡ laid_elements r l i comma first es
-    elements-again l i comma c first no_elements w k h = refl
-    elements-again l i comma c first (element a v es) w k h =
-        let rest = laid_elements r l i comma false es in
-        let d = if first then [] else one_space in
-        let before = before_part r l first i d a.before in
-        let after = after_part r l (not (comma || has_elements es)) i [] a.after in
-        let ii = inner_indent r l i in
-        let room = inner_room r l i in
-        ap (λ x. element (record { before = x; after = after_part r l (not (c || has_elements rest)) i [] after })
-        (laid_value r ii room (laid_value r ii room v)) (laid_elements r l i c false rest))
-        (before-again l first i d a.before w h.0)
-        ∙ ap (λ x. element (record { before = before; after = x })
-        (laid_value r ii room (laid_value r ii room v)) (laid_elements r l i c false rest))
-        (after-again l (not (comma || has_elements es)) (not (c || has_elements rest)) i [] a.after w h.1
-        (opens l c (has_elements rest) k))
-        ∙ ap (λ x. element (record { before = before; after = after }) x (laid_elements r l i c false rest))
-        (value-again ii room v (white-inner l i w) h.2)
-        ∙ ap (element (record { before = before; after = after }) (laid_value r ii room v))
-        (elements-again l i comma c false es w (closed-tail l (has_elements es) c k) h.3)
+    mutual
+      value-again : (p : Path) (depth : ℕ) (room : Option ℕ) (v : Value) → IsValue v
+          → laid_value r pad p depth room (laid_value r other p depth room v) ≡ laid_value r pad p depth room v
+      value-again p depth room (scalar s t) h = refl
+      value-again p depth room (array no_elements comma t) h =
+          let n = usual_pad r.comments in
+          let l = array_layout r depth room no_elements comma t in
+          let x = in_array r other p depth room no_elements comma t in
+          let k = none-again r l p depth r.bracket_space n n comma t h.0 in
+          ap (λ m. let y = inside r m p depth false r.bracket_space n x.comma [] x.close in array no_elements y.comma y.close)
+          (none-layout-again r other p depth r.bracket_space n comma t room h.0 r.arrays)
+          ∙ ap (λ b. array no_elements b (inside r l p depth false r.bracket_space n x.comma [] x.close).close) k.comma_is
+          ∙ ap (array no_elements (in_array r pad p depth room no_elements comma t).comma) k.close
+      value-again p depth room (array (element a v es) comma t) h =
+          let m = usual_pad r.comments in
+          let xs = element a v es in
+          let l = array_layout r depth room xs comma t in
+          let x = in_array r other p depth room xs comma t in
+          let z = in_array r pad p depth room xs comma t in
+          let ys = laid_elements r other x 0 m xs in
+          let k = pad (to_element p (elements_count es)) in
+          let j = other (to_element p (elements_count es)) in
+          let made = λ (y : Inside). array (laid_elements r pad y 0 m ys) y.comma y.close in
+          let last = after_last r l p depth r.bracket_space j comma (last_after xs) t in
+          let y = inside r l p depth true r.bracket_space k x.comma last x.close in
+          let e = ends-again r l p depth r.bracket_space k j comma (last_after xs) t (last-whole xs h.1) h.0 in
+          ap (λ o. made (inside r o p depth true r.bracket_space (last_pad r pad p (elements_count ys)) x.comma (last_after ys) x.close))
+          (some-again r other p depth r.bracket_space j comma t room m a v es h.1 h.0 r.arrays)
+          ∙ ap (λ c. made (inside r l p depth true r.bracket_space (last_pad r pad p c) x.comma (last_after ys) x.close)) (count-laid x 0 m xs)
+          ∙ ap (λ u. made (inside r l p depth true r.bracket_space k x.comma u x.close)) (last-laid x 0 m a v es)
+          ∙ ap (λ qs. array qs y.comma y.close)
+          (elements-again l p depth r.bracket_space k j comma t 0 m m (element a v es) h.1 h.0 refl)
+          ∙ ap (λ b. array (laid_elements r pad z 0 m xs) b y.close) e.comma_is
+          ∙ ap (array (laid_elements r pad z 0 m xs) z.comma) e.close
+      value-again p depth room (inline_table no_pairs comma t) h =
+          let n = usual_pad r.comments in
+          let l = inline_layout r no_pairs t in
+          let x = in_inline r other p depth no_pairs comma t in
+          let k = none-again r l p depth r.brace_space n n comma t h.0 in
+          ap (λ m. let y = inside r m p depth false r.brace_space n x.comma [] x.close in inline_table no_pairs y.comma y.close)
+          (none-pairs-again r other p depth r.brace_space n comma t room h.0 r.inline_tables)
+          ∙ ap (λ b. inline_table no_pairs b (inside r l p depth false r.brace_space n x.comma [] x.close).close) k.comma_is
+          ∙ ap (inline_table no_pairs (in_inline r pad p depth no_pairs comma t).comma) k.close
+      value-again p depth room (inline_table (pair f v ps) comma t) h =
+          let m = usual_pad r.comments in
+          let xs = pair f v ps in
+          let l = inline_layout r xs t in
+          let x = in_inline r other p depth xs comma t in
+          let z = in_inline r pad p depth xs comma t in
+          let ys = laid_pairs r other x 0 m xs in
+          let k = pad (to_element p (pairs_count ps)) in
+          let j = other (to_element p (pairs_count ps)) in
+          let made = λ (y : Inside). inline_table (laid_pairs r pad y 0 m ys) y.comma y.close in
+          let last = after_last r l p depth r.brace_space j comma (last_trailing xs) t in
+          let y = inside r l p depth true r.brace_space k x.comma last x.close in
+          let e = ends-again r l p depth r.brace_space k j comma (last_trailing xs) t (last-pair-whole xs h.1) h.0 in
+          ap (λ o. made (inside r o p depth true r.brace_space (last_pad r pad p (pairs_count ys)) x.comma (last_trailing ys) x.close))
+          (pairs-layout-again r other p depth r.brace_space j comma t m f v ps r.inline_tables)
+          ∙ ap (λ c. made (inside r l p depth true r.brace_space (last_pad r pad p c) x.comma (last_trailing ys) x.close)) (count-pairs x 0 m xs)
+          ∙ ap (λ u. made (inside r l p depth true r.brace_space k x.comma u x.close)) (last-laid-pair x 0 m f v ps)
+          ∙ ap (λ qs. inline_table qs y.comma y.close)
+          (pairs-again l p depth r.brace_space k j comma t 0 m m (pair f v ps) h.1 h.0 refl)
+          ∙ ap (λ b. inline_table (laid_pairs r pad z 0 m xs) b y.close) e.comma_is
+          ∙ ap (inline_table (laid_pairs r pad z 0 m xs) z.comma) e.close
 
-    pairs-again : (l : Layout) (i : Text) (comma c first : Bool) (ps : Pairs) → IsWhiteSpace i → Closed l (has_pairs ps) c → ArePairs ps
-        → laid_pairs r l i c first (laid_pairs r l i comma first ps) ≡ laid_pairs r l i comma first ps
-    pairs-again l i comma c first no_pairs w k h = refl
-    pairs-again l i comma c first (pair f v ps) w k h =
-        let rest = laid_pairs r l i comma false ps in
-        let d = if has_pairs ps then [] else one_space in
-        let before = before_part r l first i one_space f.leading in
-        let after = after_part r l (not (comma || has_pairs ps)) i d f.trailing in
-        let ii = inner_indent r l i in
-        ap (λ b. pair (laid_frame r (before_part r l first i one_space before)
-        (after_part r l (not (c || b)) i (if b then [] else one_space) after) (laid_frame r before after f))
-        (laid_value r ii None (laid_value r ii None v)) (laid_pairs r l i c false rest))
-        (has-laid-pairs l i comma false ps)
-        ∙ ap (λ g. pair g (laid_value r ii None (laid_value r ii None v)) (laid_pairs r l i c false rest))
-        (frame-again f before (before_part r l first i one_space before) after
-        (after_part r l (not (c || has_pairs ps)) i d after)
-        (before-again l first i one_space f.leading w h.0.0.leading)
-        (after-again l (not (comma || has_pairs ps)) (not (c || has_pairs ps)) i d f.trailing w h.0.0.trailing
-        (opens l c (has_pairs ps) k)))
-        ∙ ap (λ x. pair (laid_frame r before after f) x (laid_pairs r l i c false rest))
-        (value-again ii None v (white-inner l i w) h.1)
-        ∙ ap (pair (laid_frame r before after f) (laid_value r ii None v))
-        (pairs-again l i comma c false ps w (closed-tail l (has_pairs ps) c k) h.2)
+      elements-again : (l : Layout) (p : Path) (depth : ℕ) (space : Bool) (k j : ℕ) (comma : Bool) (t : Text) (i n m : ℕ) (es : Elements)
+          → AreElements es → IsClose true comma t → has_elements es ≡ true
+          → let x = inside r l p depth true space j comma (last_after es) t in
+          let y = inside r l p depth true space k x.comma (after_last r l p depth space j comma (last_after es) t) x.close in
+          laid_elements r pad y i n (laid_elements r other x i m es)
+          ≡ laid_elements r pad (inside r l p depth true space k comma (last_after es) t) i n es
+      elements-again l p depth space k j comma t i n m no_elements h g some = absurd (let clash : false ≡ true = some in cc)
+      elements-again l p depth space k j comma t i n m (element a v no_elements) h g some =
+          let s = a.after in
+          let x = inside r l p depth true space j comma s t in
+          let y = inside r l p depth true space k x.comma (after_last r l p depth space j comma s t) x.close in
+          let here = to_element p i in
+          let d = inner_depth l depth in
+          let room = inner_room r l depth in
+          let w = laid_value r pad here d room (laid_value r other here d room v) in
+          let end = after_last r l p depth space k x.comma (after_last r l p depth space j comma s t) x.close in
+          ap (λ u. element (record { before = u; after = end }) w no_elements)
+          (before-again r l n m (i == 0) depth x.edge a.before h.0)
+          ∙ ap (λ u. element (record { before = before_part r l n (i == 0) depth x.edge a.before; after = u }) w no_elements)
+          (ends-again r l p depth space k j comma s t h.1 g).after
+          ∙ ap (λ u. element (record {
+            before = before_part r l n (i == 0) depth x.edge a.before;
+            after = after_last r l p depth space k comma s t;
+          }) u no_elements) (value-again here d room v h.2)
+      elements-again l p depth space k j comma t i n m (element a v (element b u es)) h g some =
+          let rest = element b u es in
+          let s = last_after rest in
+          let x = inside r l p depth true space j comma s t in
+          let y = inside r l p depth true space k x.comma (after_last r l p depth space j comma s t) x.close in
+          let here = to_element p i in
+          let d = inner_depth l depth in
+          let room = inner_room r l depth in
+          let w = laid_value r pad here d room (laid_value r other here d room v) in
+          let before = before_part r l n (i == 0) depth x.edge a.before in
+          let end = after_part r l (comma || true) depth a.after ++ [] in
+          let more = laid_elements r pad y (suc i) (pad here) (laid_elements r other x (suc i) (other here) rest) in
+          ap (λ q. element (record { before = q; after = after_part r l (x.comma || true) depth end ++ [] }) w more)
+          (before-again r l n m (i == 0) depth x.edge a.before h.0)
+          ∙ ap (λ q. element (record { before = before; after = q }) w more) (mid-again l depth comma x.comma a.after h.1)
+          ∙ ap (λ q. element (record { before = before; after = end }) q more) (value-again here d room v h.2)
+          ∙ ap (element (record { before = before; after = end }) (laid_value r pad here d room v))
+          (elements-again l p depth space k j comma t (suc i) (pad here) (other here) (element b u es) h.3 g refl)
 
-  -- ---- statements
+      pairs-again : (l : Layout) (p : Path) (depth : ℕ) (space : Bool) (k j : ℕ) (comma : Bool) (t : Text) (i n m : ℕ) (ps : Pairs)
+          → ArePairs ps → IsClose true comma t → has_pairs ps ≡ true
+          → let x = inside r l p depth true space j comma (last_trailing ps) t in
+          let y = inside r l p depth true space k x.comma (after_last r l p depth space j comma (last_trailing ps) t) x.close in
+          laid_pairs r pad y i n (laid_pairs r other x i m ps)
+          ≡ laid_pairs r pad (inside r l p depth true space k comma (last_trailing ps) t) i n ps
+      pairs-again l p depth space k j comma t i n m no_pairs h g some = absurd (let clash : false ≡ true = some in cc)
+      pairs-again l p depth space k j comma t i n m (pair f v no_pairs) h g some =
+          let s = f.trailing in
+          let x = inside r l p depth true space j comma s t in
+          let here = to_element p i in
+          let d = inner_depth l depth in
+          let w = laid_value r pad here d None (laid_value r other here d None v) in
+          ap (λ q. pair q w no_pairs)
+          (frame-again f (before_part r l m (i == 0) depth x.edge f.leading) (after_last r l p depth space j comma s t)
+          (before_part r l n (i == 0) depth x.edge (before_part r l m (i == 0) depth x.edge f.leading))
+          (after_last r l p depth space k x.comma (after_last r l p depth space j comma s t) x.close)
+          (before_part r l n (i == 0) depth x.edge f.leading) (after_last r l p depth space k comma s t)
+          (before-again r l n m (i == 0) depth x.edge f.leading h.0.0.leading)
+          (ends-again r l p depth space k j comma s t h.0.0.trailing g).after)
+          ∙ ap (λ u. pair (laid_frame r (before_part r l n (i == 0) depth x.edge f.leading) (after_last r l p depth space k comma s t) f) u no_pairs)
+          (value-again here d None v h.1)
+      pairs-again l p depth space k j comma t i n m (pair f v (pair b u ps)) h g some =
+          let rest = pair b u ps in
+          let s = last_trailing rest in
+          let x = inside r l p depth true space j comma s t in
+          let y = inside r l p depth true space k x.comma (after_last r l p depth space j comma s t) x.close in
+          let here = to_element p i in
+          let d = inner_depth l depth in
+          let w = laid_value r pad here d None (laid_value r other here d None v) in
+          let before = before_part r l n (i == 0) depth x.edge f.leading in
+          let end = after_part r l (comma || true) depth f.trailing ++ [] in
+          let more = laid_pairs r pad y (suc i) (pad here) (laid_pairs r other x (suc i) (other here) rest) in
+          ap (λ q. pair q w more)
+          (frame-again f (before_part r l m (i == 0) depth x.edge f.leading) end
+          (before_part r l n (i == 0) depth x.edge (before_part r l m (i == 0) depth x.edge f.leading))
+          (after_part r l (x.comma || true) depth end ++ []) before end
+          (before-again r l n m (i == 0) depth x.edge f.leading h.0.0.leading) (mid-again l depth comma x.comma f.trailing h.0.0.trailing))
+          ∙ ap (λ q. pair (laid_frame r before end f) q more) (value-again here d None v h.1)
+          ∙ ap (pair (laid_frame r before end f) (laid_value r pad here d None v))
+          (pairs-again l p depth space k j comma t (suc i) (pad here) (other here) (pair b u ps) h.2 g refl)
 
-  white-units : (n : ℕ) → IsWhiteSpace (units r n)
-  white-units zero = refl
-  white-units (suc n) = each-append is_blank (spaces r.unit) (units r n) (white-spaces r.unit) (white-units n)
+    -- ---- statements
 
-  pub white-line : (n : ℕ) → IsWhiteSpace (line_indent r n)
-  white-line n = by_kind r.indentation
+    long-laid : (p : List Segment) → length (laid_path r p) ≡ length p
+    long-laid [] = refl
+    long-laid (s ∷ p) = ap suc (long-laid p)
+
+    laid-again : (End : Text → Type 0) (st : State) (s : Statement) → IsStatement End s
+        → laid_statement r pad st (laid_statement r other st s) ≡ laid_statement r pad st s
+    laid-again End st (key_line f v end) h =
+        let depth = line_depth r st.keys in
+        let before = leading r st.is_start depth f.leading in
+        let once = laid_frame r before (line_rest r (other []) f.trailing) f in
+        let again = laid_frame r (leading r st.is_start depth before) (line_rest r (pad []) (line_rest r (other []) f.trailing)) once in
+        let frame = laid_frame r before (line_rest r (pad []) f.trailing) f in
+        let room = Some (used_before frame) in
+        ap (λ g. key_line g (laid_value r pad [] depth (Some (used_before g)) (laid_value r other [] depth room v)) end)
+        (frame-again f before (line_rest r (other []) f.trailing) (leading r st.is_start depth before)
+        (line_rest r (pad []) (line_rest r (other []) f.trailing)) before (line_rest r (pad []) f.trailing)
+        (leading-again r st.is_start depth f.leading h.0.0.leading) (rest-again r (pad []) (other []) f.trailing h.0.0.trailing))
+        ∙ ap (λ w. key_line frame w end) (value-again [] depth room v h.1)
+    laid-again End st (header x end) h =
+        let n = usual_pad r.comments in
+        let depth = header_depth r (length x.path) in
+        let before = header_leading r st.is_start depth x.leading in
+        let after_it = line_rest r n x.trailing in
+        let y : Header = record {
+          leading = before;
+          is_array = x.is_array;
+          opening = if r.dots then [] else x.opening;
+          path = laid_path r x.path;
+          closing = if r.dots then [] else x.closing;
+          trailing = after_it;
+        } in
+        ap (λ k. header (record {
+          leading = header_leading r st.is_start (header_depth r k) before;
+          is_array = x.is_array;
+          opening = if r.dots then [] else (if r.dots then [] else x.opening);
+          path = laid_path r (laid_path r x.path);
+          closing = if r.dots then [] else (if r.dots then [] else x.closing);
+          trailing = line_rest r n after_it;
+        }) end) (long-laid x.path)
+        ∙ ap (λ u. header (record y {
+          leading = u;
+          opening = if r.dots then [] else (if r.dots then [] else x.opening);
+          path = laid_path r (laid_path r x.path);
+          closing = if r.dots then [] else (if r.dots then [] else x.closing);
+          trailing = line_rest r n after_it;
+        }) end) (header-again r st.is_start depth x.leading h.0.0.leading)
+        ∙ ap (λ u. header (record y {
+          opening = u;
+          path = laid_path r (laid_path r x.path);
+          closing = if r.dots then [] else (if r.dots then [] else x.closing);
+          trailing = line_rest r n after_it;
+        }) end) (twice r.dots [] x.opening)
+        ∙ ap (λ u. header (record y {
+          path = u;
+          closing = if r.dots then [] else (if r.dots then [] else x.closing);
+          trailing = line_rest r n after_it;
+        }) end) (path-again x.path)
+        ∙ ap (λ u. header (record y { closing = u; trailing = line_rest r n after_it }) end) (twice r.dots [] x.closing)
+        ∙ ap (λ u. header (record y { trailing = u }) end) (rest-again r n n x.trailing h.0.0.trailing)
+
+    -- the state is of the comments, which stay
+    leading-said : (End : Text → Type 0) (st : State) (s : Statement) → IsStatement End s
+        → comments (leading_of (laid_statement r other st s)) ≡ comments (leading_of s)
+    leading-said End st (key_line f v end) h = leading-comments r st.is_start (line_depth r st.keys) f.leading h.0.0.leading
+    leading-said End st (header x end) h = header-comments r st.is_start (header_depth r (length x.path)) x.leading h.0.0.leading
+
+  reached-by : (st : State) (t u : Text) → comments t ≡ comments u → reached r st t ≡ reached r st u
+  reached-by st t u e =
+      ap (λ cs. if not r.left_alone then st else record st {
+        is_off = off_after st.is_off cs;
+        is_generated = st.is_generated || (st.is_start && list_any (has_part (codes "@generated")) cs);
+      }) e
+
+  keys-again : (pad : Path → ℕ) (keys : ℕ) (st : State) (s : Statement) → keys_below keys (laid_statement r pad st s) ≡ keys_below keys s
+  keys-again pad keys st (key_line f v end) = refl
+  keys-again pad keys st (header x end) = long-laid pad pad x.path
+
+  -- a statement laid out leaves the state that it left
+  abbrev passed : State → ℕ → State
+  passed q k = record q { is_start = false; keys = k }
+
+  record Passed (pad other : Path → ℕ) (st : State) (s : Statement) : Type 0 where
+    again : lay r pad st (lay r other st s) ≡ lay r pad st s
+    next : after r st (lay r other st s) ≡ after r st s
+
+  statement-again : (pad other : Path → ℕ) (End : Text → Type 0) (st : State) (s : Statement) → IsStatement End s → Passed pad other st s
+  statement-again pad other End st s h = by_test (stays (reached r st (leading_of s))) refl
     where
-      by_kind : (k : Indentation) → IsWhiteSpace (indent_as k r n)
-      by_kind as_it_is = refl
-      by_kind flush = refl
-      by_kind by_depth = white-units n
+      by_test : (b : Bool) → stays (reached r st (leading_of s)) ≡ b → Passed pad other st s
+      by_test true e =
+          let same : lay r other st s ≡ s = ap (λ b. if b then s else laid_statement r other st s) e in
+          record { again = ap (lay r pad st) same; next = ap (after r st) same }
+      by_test false e =
+          let t = laid_statement r other st s in
+          let same : lay r other st s ≡ t = ap (λ b. if b then s else t) e in
+          let said : reached r st (leading_of t) ≡ reached r st (leading_of s) =
+          reached-by st (leading_of t) (leading_of s) (leading-said pad other End st s h) in
+          record {
+            again = ap (lay r pad st) same ∙ ap (λ q. if stays q then t else laid_statement r pad st t) said
+                ∙ ap (λ b. if b then t else laid_statement r pad st t) e
+                ∙ laid-again pad other End st s h
+                ∙ sym (ap (λ b. if b then s else laid_statement r pad st s) e);
+            next = ap (after r st) same
+                ∙ ap (λ q. passed q (keys_below st.keys t)) said
+                ∙ ap (passed (reached r st (leading_of s))) (keys-again other st.keys st s);
+          }
 
-  dots-again : (t : Text) → (if r.dots then [] else (if r.dots then [] else t)) ≡ (if r.dots then [] else t)
-  dots-again t = by_test r.dots
+  -- ---- documents
+
+  module _ (pad other : ℕ → Path → ℕ) where
+    statements-again : (n : ℕ) (final : Text) (st : State) (ss : List Statement) → AreStatements final ss
+        → laid_statements r pad n st (laid_statements r other n st ss) ≡ laid_statements r pad n st ss
+    statements-again n final st [] h = refl
+    statements-again n final st (s ∷ []) h =
+        ap (λ x. x ∷ []) (statement-again (pad n) (other n) (λ end. IsNewline end ⊎ ((end ≡ []) × (final ≡ []))) st s h).again
+    statements-again n final st (s ∷ next ∷ rest) h =
+        let one = statement-again (pad n) (other n) IsNewline st s h.0 in
+        ap (λ x. x ∷ laid_statements r pad (suc n) (after r st (lay r (other n) st s))
+        (laid_statements r other (suc n) (after r st s) (next ∷ rest))) one.again
+        ∙ ap (λ q. lay r (pad n) st s ∷ laid_statements r pad (suc n) q (laid_statements r other (suc n) (after r st s) (next ∷ rest))) one.next
+        ∙ ap (λ xs. lay r (pad n) st s ∷ xs) (statements-again (suc n) final (after r st s) (next ∷ rest) h.1)
+
+    state-again : (n : ℕ) (final : Text) (st : State) (ss : List Statement) → AreStatements final ss
+        → state_after r st (laid_statements r other n st ss) ≡ state_after r st ss
+    state-again n final st [] h = refl
+    state-again n final st (s ∷ []) h =
+        (statement-again (pad n) (other n) (λ end. IsNewline end ⊎ ((end ≡ []) × (final ≡ []))) st s h).next
+    state-again n final st (s ∷ next ∷ rest) h =
+        ap (λ q. state_after r q (laid_statements r other (suc n) (after r st s) (next ∷ rest)))
+        (statement-again (pad n) (other n) IsNewline st s h.0).next
+        ∙ state-again (suc n) final (after r st s) (next ∷ rest) h.1
+
+  final-laid-again : (st : State) (t : Text) → IsFinalTrivia t → laid_final r st (laid_final r st t) ≡ laid_final r st t
+  final-laid-again st t h = by_test (stays (reached r st t)) refl
     where
-      by_test : (b : Bool) → (if b then [] else (if b then [] else t)) ≡ (if b then [] else t)
-      by_test true = refl
-      by_test false = refl
+      end : Text
+      end = final_text r st.is_start t
 
-  long-laid : (p : List Segment) → length (laid_path r p) ≡ length p
-  long-laid [] = refl
-  long-laid (s ∷ p) = ap suc (long-laid p)
+      by_test : (b : Bool) → stays (reached r st t) ≡ b → laid_final r st (if b then t else end) ≡ (if b then t else end)
+      by_test true e = ap (λ b. if b then t else end) e
+      by_test false e =
+          ap (λ q. if stays q then end else final_text r st.is_start end) (reached-by st end t (final-comments r st.is_start t h))
+          ∙ ap (λ b. if b then end else final_text r st.is_start end) e
+          ∙ final-again r st.is_start t h
 
-  statement-again : (End : Text → Type 0) (s : Bool) (keys : ℕ) (st : Statement) → IsStatement End st
-      → laid_statement r s keys (laid_statement r s keys st) ≡ laid_statement r s keys st
-  statement-again End s keys (key_line f v end) h =
-      let i = line_indent r keys in
-      let room = Some (used_before i f) in
-      let before = leading r s i f.leading in
-      let after = line_rest r f.trailing in
-      ap (λ n. key_line (laid_frame r (leading r s i before) (line_rest r after) (laid_frame r before after f))
-      (laid_value r i (Some (length i + (n + 3))) (laid_value r i room v)) end) (path-wide f.path)
-      ∙ ap (λ g. key_line g (laid_value r i room (laid_value r i room v)) end)
-      (frame-again f before (leading r s i before) after (line_rest r after)
-      (leading-again r s i f.leading (white-line keys) h.0.0.leading) (rest-again r f.trailing h.0.0.trailing))
-      ∙ ap (λ x. key_line (laid_frame r before after f) x end) (value-again i room v (white-line keys) h.1)
-  statement-again End s keys (header x end) h =
-      let i = header_indent r (length x.path) in
-      let before = header_leading r s i x.leading in
-      let after = line_rest r x.trailing in
-      let y : Header = record {
-        leading = before;
-        is_array = x.is_array;
-        opening = if r.dots then [] else x.opening;
-        path = laid_path r x.path;
-        closing = if r.dots then [] else x.closing;
-        trailing = after;
-      } in
-      ap (λ n. header (record {
-        leading = header_leading r s (header_indent r n) before;
-        is_array = x.is_array;
-        opening = if r.dots then [] else (if r.dots then [] else x.opening);
-        path = laid_path r (laid_path r x.path);
-        closing = if r.dots then [] else (if r.dots then [] else x.closing);
-        trailing = line_rest r after;
-      }) end) (long-laid x.path)
-      ∙ ap (λ u. header (record y {
-        leading = u;
-        opening = if r.dots then [] else (if r.dots then [] else x.opening);
-        path = laid_path r (laid_path r x.path);
-        closing = if r.dots then [] else (if r.dots then [] else x.closing);
-        trailing = line_rest r after;
-      }) end) (header-again r s i x.leading (white-line _) h.0.0.leading)
-      ∙ ap (λ u. header (record y {
-        opening = u;
-        path = laid_path r (laid_path r x.path);
-        closing = if r.dots then [] else (if r.dots then [] else x.closing);
-        trailing = line_rest r after;
-      }) end) (dots-again x.opening)
-      ∙ ap (λ u. header (record y {
-        path = u;
-        closing = if r.dots then [] else (if r.dots then [] else x.closing);
-        trailing = line_rest r after;
-      }) end) (path-again x.path)
-      ∙ ap (λ u. header (record y { closing = u; trailing = line_rest r after }) end) (dots-again x.closing)
-      ∙ ap (λ u. header (record y { trailing = u }) end) (rest-again r x.trailing h.0.0.trailing)
+pub laid_again : LaidAgain
+laid_again r pad other d h =
+    let once = laid_document r other d in
+    let st = state_after r start d.statements in
+    ap (λ ss. record once { statements = ss; final = laid_final r (state_after r start once.statements) once.final })
+    (statements-again r pad other 0 d.final start d.statements h.0)
+    ∙ ap (λ q. record (laid_document r pad d) { final = laid_final r q (laid_final r st d.final) })
+    (state-again r pad other 0 d.final start d.statements h.0)
+    ∙ ap (λ t. record (laid_document r pad d) { final = t }) (final-laid-again r st d.final h.1)
 
-  keys-again : (keys : ℕ) (s : Bool) (st : Statement) → keys_below keys (laid_statement r s keys st) ≡ keys_below keys st
-  keys-again keys s (key_line f v end) = refl
-  keys-again keys s (header x end) = long-laid x.path
-
-  pub statements-again : (final : Text) (s : Bool) (keys : ℕ) (ss : List Statement) → AreStatements final ss
-      → laid_statements r s keys (laid_statements r s keys ss) ≡ laid_statements r s keys ss
-  statements-again final s keys [] h = refl
-  statements-again final s keys (st ∷ []) h = ap (λ x. x ∷ [])
-      (statement-again (λ end. IsNewline end ⊎ ((end ≡ []) × (final ≡ []))) s keys st h)
-  statements-again final s keys (st ∷ next ∷ rest) h =
-      ap (λ x. x ∷ laid_statements r false (keys_below keys (laid_statement r s keys st)) (laid_statements r false (keys_below keys st) (next ∷ rest)))
-      (statement-again IsNewline s keys st h.0)
-      ∙ ap (λ n. laid_statement r s keys st ∷ laid_statements r false n (laid_statements r false (keys_below keys st) (next ∷ rest)))
-      (keys-again keys s st)
-      ∙ ap (λ xs. laid_statement r s keys st ∷ xs) (statements-again final false (keys_below keys st) (next ∷ rest) h.1)
-
-  pub empty-laid : (s : Bool) (keys : ℕ) (ss : List Statement) → is_empty (laid_statements r s keys ss) ≡ is_empty ss
-  empty-laid s keys [] = refl
-  empty-laid s keys (st ∷ rest) = refl
+-- the spaces are found without those that were there
+pads-again : (c : Comments) (r : Rules) (other : ℕ → Path → ℕ) (d : Document) → IsDocument d
+    → pads_as c r (laid_document r other d) ≡ pads_as c r d
+pads-again as_they_are r other d h = refl
+pads-again (apart n) r other d h = refl
+pads-again (aligned n) r other d h = ap (λ e. pad_in (pads_of r n e)) (laid_again r (λ _ _. 0) other d h)
 
 pub formatted_again : FormattedAgain
 formatted_again r d h =
-    let once = laid_document r d in
-    ap (λ ss. record once { statements = ss; final = final_text r (is_empty once.statements) once.final })
-    (statements-again r d.final true 0 d.statements h.0)
-    ∙ ap (λ b. record once { final = final_text r b once.final }) (empty-laid r true 0 d.statements)
-    ∙ ap (λ t. record once { final = t }) (final-again r (is_empty d.statements) d.final h.1)
+    let pads = pads_as r.comments r d in
+    ap (λ p. laid_document r p (formatted r d)) (pads-again r.comments r pads d h) ∙ laid_again r pads pads d h

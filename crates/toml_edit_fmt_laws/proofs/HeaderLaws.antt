@@ -1,285 +1,191 @@
--- What is laid out before a header: as before other statements, set off by an empty line.
-use Rattle.std.proofs.Common.{◌≡◌, refl, sym, ap, subst, ◌∙◌, Bool, true, false, not, List, [], ◌∷◌, ◌++◌}
-use Rattle.std.proofs.Common.{None, append_assoc}
+-- What is laid out before a header: as before other statements, below an empty line where nothing is before it.
+use Rattle.std.proofs.Common.{◌≡◌, refl, sym, ap, subst, ◌∙◌, ℕ, zero, suc, Bool, true, false, not, List, [], ◌∷◌, ◌++◌, append_assoc, inl, inr}
+use Rattle.std.proofs.Common.{Option, Some, None}
 use Rattle.std.specs.Prelude.{◌&&◌, ◌||◌, if◌then◌else◌, map}
-use Rattle.std.specs.List.{AllByRecursion, flat_map, list_any}
+use Rattle.std.specs.List.{AllByRecursion, flat_map}
+use Rattle.std.proofs.lemmas.Bool.{cases_Bool}
 use Rattle.toml_edit_model.specs.Comments.{comments}
-use Rattle.toml_edit_model.specs.Text.{Text, newline, carriage_return, without_returns}
-use Rattle.toml_edit_laws.proofs.common.Trivia.{returns-append}
-use Rattle.toml_edit_laws.proofs.common.WhiteSpace.{white-returns}
+use Rattle.toml_edit_model.specs.Text.{Text, is_empty}
 use Rattle.toml_edit_model.specs.Trivia.{IsWhiteSpace, newline_text, IsWholeTrivia}
 use Rattle.toml_edit_laws.proofs.common.Tests.{and_left, and_right, not-true, or-left, or-right, or-true}
-use Rattle.toml_edit_fmt_laws.specs.Rules.{Indentation, as_it_is, flush, by_depth, Rules, made_newline}
-use Rattle.toml_edit_fmt_laws.specs.Laying.{is_empty_line, squeezed, has_empty_line}
-use Rattle.toml_edit_fmt_laws.specs.Laying.{leading, set_off, header_leading}
-use Rattle.toml_edit_fmt_laws.proofs.Spacing.{squeezed-other}
-use Rattle.toml_edit_fmt_laws.proofs.Rows.{Row, row_text, IsRow, rows_text, view, rows-whole, lines-rows, last_lines}
-use Rattle.toml_edit_fmt_laws.proofs.Rows.{white-no-line, empty-row, is_none_body}
-use Rattle.toml_edit_fmt_laws.proofs.Rows.{row_bodies, comments-rows, moved}
-use Rattle.toml_edit_fmt_laws.proofs.Rows.{lean_row, lean-rows, all-lean}
-use Rattle.toml_edit_fmt_laws.proofs.SpacedRows.{spaced_rows, made_end, made-text}
-use Rattle.toml_edit_fmt_laws.proofs.LeadingLaws.{lead_rows, lead_last, lead-form, all-lead, white-lead, lead-again-rows, lead-last-again, bodies-lead, leading-whole, leading-returns, lead-start, leading-any}
+use Rattle.toml_edit_fmt_laws.specs.Rules.{Indentation, as_it_is, flush, by_depth, Rules, units, made_newline}
+use Rattle.toml_edit_fmt_laws.specs.Laying.{is_broken, squeezed, may_be_empty, leading, header_leading, spaced_by}
+use Rattle.toml_edit_fmt_laws.proofs.Spacing.{squeezed-pass, squeezed-other}
+use Rattle.toml_edit_fmt_laws.proofs.Rows.{Row, row_text, IsRow, rows_text, view, rows-whole, row_bodies, comments-rows, moved, is_none_body, broken-row, white-unbroken}
+use Rattle.toml_edit_fmt_laws.proofs.SpacedRows.{all-laid, none-laid, bodies-laid, laid-again, made_end, made-text}
+use Rattle.toml_edit_fmt_laws.proofs.LeadingLaws.{lead_depth, lead_last, lead_rows, lead-form, white-lead, lead-last-again}
+
+-- rows have a newline if there are any
+broken-rows : (rs : List Row) (l : Text) → IsWhiteSpace l → is_broken (rows_text rs l) ≡ not (is_empty rs)
+broken-rows [] l h = white-unbroken l h
+broken-rows (x ∷ xs) l h =
+    ap is_broken (append_assoc (row_text x) (flat_map row_text xs) l) ∙ broken-row x (rows_text xs l)
+
+-- the first of rows that are spaced stays, where empty ones may be there
+some-spaced : (o : Option ℕ) (s : Bool) (x : Row) (xs : List Row) → may_be_empty o ≡ true → s ≡ false
+    → is_empty (spaced_by is_none_body o s false (x ∷ xs)) ≡ false
+some-spaced None s x xs may start = refl
+some-spaced (Some zero) s x xs may start = absurd (let clash : false ≡ true = may in cc)
+some-spaced (Some (suc most)) s x xs may start =
+    ap (λ b. is_empty (squeezed is_none_body (suc most) (if b then 0 else suc most) (x ∷ xs))) start
+    ∙ elim (cases_Bool (is_none_body x)) [
+      | inl e ↦ ap is_empty (squeezed-pass is_none_body (suc most) most x xs e)
+      | inr e ↦ ap is_empty (squeezed-other is_none_body (suc most) (suc most) x xs e)
+    ]
+
+-- an empty row alone stays there
+alone-spaced : (o : Option ℕ) (s : Bool) (x : Row) → may_be_empty o ≡ true → s ≡ false → is_none_body x ≡ true
+    → spaced_by is_none_body o s false (x ∷ []) ≡ x ∷ []
+alone-spaced None s x may start none = refl
+alone-spaced (Some zero) s x may start none = absurd (let clash : false ≡ true = may in cc)
+alone-spaced (Some (suc most)) s x may start none =
+    ap (λ b. squeezed is_none_body (suc most) (if b then 0 else suc most) (x ∷ [])) start
+    ∙ squeezed-pass is_none_body (suc most) most x [] none
+
+empty-map : {A B : Type 0} (f : A → B) (xs : List A) → is_empty (map f xs) ≡ is_empty xs
+empty-map f [] = refl
+empty-map f (x ∷ xs) = refl
 
 module _ (r : Rules) where
   made_row : Row
   made_row = record { white = []; body = None; end = made_end r }
 
-  any-empty : (rs : List Row) (l : Text) → AllByRecursion IsRow rs → IsWhiteSpace l → has_empty_line (rows_text rs l) ≡ list_any is_none_body rs
-  any-empty rs l h g = ap (list_any is_empty_line) (lines-rows rs l h g) ∙ of_lines rs h
-    where
-      of_lines : (xs : List Row) → AllByRecursion IsRow xs → list_any is_empty_line (map row_text xs ++ last_lines l) ≡ list_any is_none_body xs
-      of_lines [] k = last l g
-        where
-          last : (m : Text) → IsWhiteSpace m → list_any is_empty_line (last_lines m) ≡ false
-          last [] j = refl
-          last (c ∷ m) j = ap (λ b. b || false) (white-no-line (c ∷ m) j)
-      of_lines (x ∷ xs) k =
-          ap (λ b. b || list_any is_empty_line (map row_text xs ++ last_lines l)) (empty-row x k.0)
-          ∙ ap (λ b. is_none_body x || b) (of_lines xs k.1)
+  -- whether an empty line is made
+  abbrev needs_line : Bool → List Row → Bool
+  needs_line s rs = may_be_empty r.blank_lines && not (s || not (is_empty rs))
 
-  set_rows : Bool → List Row → List Row
-  set_rows s rs = if r.empty_lines && not (s || list_any is_none_body rs) then made_row ∷ rs else rs
+  head_rows : Bool → ℕ → List Row → List Row
+  head_rows s depth rs =
+      if needs_line s rs then made_row ∷ lead_rows r r.indentation s depth rs else lead_rows r r.indentation s depth rs
 
-  set-form : (s : Bool) (rs : List Row) (l : Text) → AllByRecursion IsRow rs → IsWhiteSpace l
-      → set_off r s (rows_text rs l) ≡ rows_text (set_rows s rs) l
-  unfolding set_rows made_row
-  set-form s rs l h g =
-      ap (λ b. if r.empty_lines && not (s || b) then made_newline r ++ rows_text rs l else rows_text rs l) (any-empty rs l h g)
-      ∙ by_test (r.empty_lines && not (s || list_any is_none_body rs))
+  all-head : (s : Bool) (depth : ℕ) (rs : List Row) → AllByRecursion IsRow rs → AllByRecursion IsRow (head_rows s depth rs)
+  unfolding head_rows made_row
+  all-head s depth rs h = by_test (needs_line s rs)
     where
-      by_test : (b : Bool) → (if b then made_newline r ++ rows_text rs l else rows_text rs l)
-          ≡ rows_text (if b then made_row ∷ rs else rs) l
+      by_test : (b : Bool) → AllByRecursion IsRow
+          (if b then made_row ∷ lead_rows r r.indentation s depth rs else lead_rows r r.indentation s depth rs)
+      by_test true = ((refl, tt), all-laid r s false (lead_depth r.indentation depth) rs h)
+      by_test false = all-laid r s false (lead_depth r.indentation depth) rs h
+
+  bodies-head : (s : Bool) (depth : ℕ) (rs : List Row) → row_bodies (head_rows s depth rs) ≡ row_bodies rs
+  unfolding head_rows made_row
+  bodies-head s depth rs = by_test (needs_line s rs)
+    where
+      by_test : (b : Bool) → row_bodies (if b then made_row ∷ lead_rows r r.indentation s depth rs else lead_rows r r.indentation s depth rs)
+          ≡ row_bodies rs
+      by_test true = bodies-laid r s false (lead_depth r.indentation depth) rs
+      by_test false = bodies-laid r s false (lead_depth r.indentation depth) rs
+
+  head-form : (s : Bool) (depth : ℕ) (rs : List Row) (l : Text) → AllByRecursion IsRow rs → IsWhiteSpace l
+      → header_leading r s depth (rows_text rs l) ≡ rows_text (head_rows s depth rs) (lead_last r r.indentation depth l)
+  unfolding head_rows made_row
+  head-form s depth rs l h g =
+      ap (λ b. (if may_be_empty r.blank_lines && not (s || b) then made_newline r else []) ++ leading r s depth (rows_text rs l))
+      (broken-rows rs l g)
+      ∙ ap (λ u. (if needs_line s rs then made_newline r else []) ++ u) (lead-form r r.indentation s depth rs l h g)
+      ∙ by_test (needs_line s rs)
+    where
+      last : Text
+      last = lead_last r r.indentation depth l
+
+      by_test : (b : Bool) → (if b then made_newline r else []) ++ rows_text (lead_rows r r.indentation s depth rs) last
+          ≡ rows_text (if b then made_row ∷ lead_rows r r.indentation s depth rs else lead_rows r r.indentation s depth rs) last
       by_test true =
-          ap (λ u. u ++ rows_text rs l) (sym (made-text r)) ∙ sym (append_assoc (newline_text (made_end r)) (flat_map row_text rs) l)
+          ap (λ u. u ++ rows_text (lead_rows r r.indentation s depth rs) last) (sym (made-text r))
+          ∙ sym (append_assoc (newline_text (made_end r)) (flat_map row_text (lead_rows r r.indentation s depth rs)) last)
       by_test false = refl
 
-  all-set : (s : Bool) (rs : List Row) → AllByRecursion IsRow rs → AllByRecursion IsRow (set_rows s rs)
-  unfolding set_rows made_row
-  all-set s rs h = by_test (r.empty_lines && not (s || list_any is_none_body rs))
-    where
-      by_test : (b : Bool) → AllByRecursion IsRow (if b then made_row ∷ rs else rs)
-      by_test true = ((refl, tt), h)
-      by_test false = h
+  -- rows are laid out as they are where no line is needed, and else the one that was made
+  head-other : (s : Bool) (depth : ℕ) (rs : List Row) → needs_line s rs ≡ false → head_rows s depth rs ≡ lead_rows r r.indentation s depth rs
+  unfolding head_rows
+  head-other s depth rs e =
+      ap (λ b. if b then made_row ∷ lead_rows r r.indentation s depth rs else lead_rows r r.indentation s depth rs) e
 
-  bodies-set : (s : Bool) (rs : List Row) → row_bodies (set_rows s rs) ≡ row_bodies rs
-  unfolding set_rows made_row
-  bodies-set s rs = by_test (r.empty_lines && not (s || list_any is_none_body rs))
-    where
-      by_test : (b : Bool) → row_bodies (if b then made_row ∷ rs else rs) ≡ row_bodies rs
-      by_test true = refl
-      by_test false = refl
+  some-laid : (k : Indentation) (s : Bool) (depth : ℕ) (x : Row) (xs : List Row) → may_be_empty r.blank_lines ≡ true → s ≡ false
+      → is_empty (lead_rows r k s depth (x ∷ xs)) ≡ false
+  some-laid as_it_is s depth x xs may start = some-spaced r.blank_lines s x xs may start
+  some-laid flush s depth x xs may start =
+      empty-map (moved (units r depth)) (spaced_by is_none_body r.blank_lines s false (x ∷ xs)) ∙ some-spaced r.blank_lines s x xs may start
+  some-laid by_depth s depth x xs may start =
+      empty-map (moved (units r depth)) (spaced_by is_none_body r.blank_lines s false (x ∷ xs)) ∙ some-spaced r.blank_lines s x xs may start
 
-  -- a list without empty rows is spaced as it is
-  squeezed-full : (may : Bool) (rs : List Row) → list_any is_none_body rs ≡ false → squeezed is_none_body may rs ≡ rs
-  squeezed-full may [] h = refl
-  squeezed-full may (x ∷ xs) h =
-      squeezed-other is_none_body may x xs (or-left (is_none_body x) _ h)
-      ∙ ap (λ ys. x ∷ ys) (squeezed-full true xs (or-right (is_none_body x) _ h))
-
-  any-moved : (indent : Text) (rs : List Row) → list_any is_none_body (map (moved indent) rs) ≡ list_any is_none_body rs
-  any-moved indent [] = refl
-  any-moved indent (x ∷ xs) = ap (λ b. is_none_body x || b) (any-moved indent xs)
-
-  head_rows : Indentation → Bool → Text → List Row → List Row
-  head_rows k s indent rs = set_rows s (lead_rows r k s indent rs)
-
-  -- a made row in front of rows without empty ones
-  lead-made : (k : Indentation) (s : Bool) (indent : Text) (rs : List Row) → r.empty_lines ≡ true → s ≡ false
-      → list_any is_none_body rs ≡ false
-      → lead_rows r k s indent (made_row ∷ rs) ≡ made_row ∷ lead_rows r k true indent rs
+  alone-laid : (k : Indentation) (s : Bool) (depth : ℕ) → may_be_empty r.blank_lines ≡ true → s ≡ false
+      → lead_rows r k s depth (made_row ∷ []) ≡ made_row ∷ []
   unfolding made_row
-  lead-made k s indent rs on start none = by_kind k
+  alone-laid as_it_is s depth may start = alone-spaced r.blank_lines s made_row may start refl
+  alone-laid flush s depth may start = ap (map (moved (units r depth))) (alone-spaced r.blank_lines s made_row may start refl)
+  alone-laid by_depth s depth may start = ap (map (moved (units r depth))) (alone-spaced r.blank_lines s made_row may start refl)
+
+  none-needed : (s : Bool) (depth : ℕ) (rs : List Row) → needs_line s rs ≡ false → needs_line s (lead_rows r r.indentation s depth rs) ≡ false
+  none-needed s depth rs e = by_tests (may_be_empty r.blank_lines) s rs refl refl e
     where
-      both : spaced_rows r s false (made_row ∷ rs) ≡ made_row ∷ rs
-      both =
-          ap (λ b. if b then squeezed is_none_body (not s) (made_row ∷ rs) else made_row ∷ rs) on
-          ∙ ap (λ b. squeezed is_none_body (not b) (made_row ∷ rs)) start
-          ∙ ap (λ ys. made_row ∷ ys) (squeezed-full false rs none)
+      by_tests : (m b : Bool) (xs : List Row) → may_be_empty r.blank_lines ≡ m → s ≡ b → (m && not (b || not (is_empty xs))) ≡ false
+          → (may_be_empty r.blank_lines && not (s || not (is_empty (lead_rows r r.indentation s depth xs)))) ≡ false
+      by_tests false b xs may start g = ap (λ m. m && not (s || not (is_empty (lead_rows r r.indentation s depth xs)))) may
+      by_tests true true xs may start g =
+          ap (λ b. may_be_empty r.blank_lines && not (b || not (is_empty (lead_rows r r.indentation s depth xs)))) start
+          ∙ ap (λ m. m && false) may
+      by_tests true false [] may start g = cc
+      by_tests true false (x ∷ xs) may start g =
+          ap (λ b. may_be_empty r.blank_lines && not (s || not b)) (some-laid r.indentation s depth x xs may start)
+          ∙ ap (λ b. may_be_empty r.blank_lines && not b) (or-true s) ∙ ap (λ m. m && false) may
 
-      alone : spaced_rows r true false rs ≡ rs
-      alone = ap (λ b. if b then squeezed is_none_body false rs else rs) on ∙ squeezed-full false rs none
-
-      by_kind : (j : Indentation) → lead_rows r j s indent (made_row ∷ rs) ≡ made_row ∷ lead_rows r j true indent rs
-      by_kind as_it_is = both ∙ ap (λ ys. made_row ∷ ys) (sym alone)
-      by_kind flush = ap (map (moved indent)) both ∙ ap (λ ys. made_row ∷ map (moved indent) ys) (sym alone)
-      by_kind by_depth = ap (map (moved indent)) both ∙ ap (λ ys. made_row ∷ map (moved indent) ys) (sym alone)
-
-  -- rows without empty ones are led by the same, whether they begin the text or not
-  lead-full : (k : Indentation) (s : Bool) (indent : Text) (rs : List Row) → list_any is_none_body rs ≡ false
-      → lead_rows r k true indent rs ≡ lead_rows r k s indent rs
-  lead-full k s indent rs none = by_kind k
+  head-rows-again : (s : Bool) (depth : ℕ) (rs : List Row) → AllByRecursion IsRow rs
+      → head_rows s depth (head_rows s depth rs) ≡ head_rows s depth rs
+  unfolding head_rows
+  head-rows-again s depth rs h =
+      elim (cases_Bool (needs_line s rs)) [
+        | inl e ↦ needed e rs e
+        | inr e ↦ ap (head_rows s depth) (head-other s depth rs e)
+            ∙ head-other s depth (lead_rows r r.indentation s depth rs) (none-needed s depth rs e)
+            ∙ laid-again r s false (lead_depth r.indentation depth) rs h ∙ sym (head-other s depth rs e)
+      ]
     where
-      same : spaced_rows r true false rs ≡ spaced_rows r s false rs
-      same = by_rule r.empty_lines
-        where
-          by_rule : (b : Bool) → (if b then squeezed is_none_body false rs else rs) ≡ (if b then squeezed is_none_body (not s) rs else rs)
-          by_rule true = squeezed-full false rs none ∙ sym (squeezed-full (not s) rs none)
-          by_rule false = refl
-
-      by_kind : (j : Indentation) → lead_rows r j true indent rs ≡ lead_rows r j s indent rs
-      by_kind as_it_is = same
-      by_kind flush = ap (map (moved indent)) same
-      by_kind by_depth = ap (map (moved indent)) same
-
-  and-false : (b : Bool) → (b && false) ≡ false
-  and-false true = refl
-  and-false false = refl
-
-  head-again-rows : (k : Indentation) (s : Bool) (indent : Text) (rs : List Row) → AllByRecursion IsRow rs
-      → head_rows k s indent (head_rows k s indent rs) ≡ head_rows k s indent rs
-  unfolding head_rows set_rows made_row
-  head-again-rows k s indent rs h = by_test (r.empty_lines && not (s || list_any is_none_body (lead_rows r k s indent rs))) refl
-    where
-      by_test : (b : Bool) → (r.empty_lines && not (s || list_any is_none_body (lead_rows r k s indent rs))) ≡ b
-          → set_rows s (lead_rows r k s indent (if b then made_row ∷ lead_rows r k s indent rs else lead_rows r k s indent rs))
-          ≡ (if b then made_row ∷ lead_rows r k s indent rs else lead_rows r k s indent rs)
-      by_test true e =
-          let rest : (s || list_any is_none_body (lead_rows r k s indent rs)) ≡ false = not-true _ (and_right r.empty_lines _ e) in
+      needed : needs_line s rs ≡ true → (xs : List Row) → needs_line s xs ≡ true → head_rows s depth (head_rows s depth xs) ≡ head_rows s depth xs
+      needed e xs g =
+          let may : may_be_empty r.blank_lines ≡ true = and_left (may_be_empty r.blank_lines) _ g in
+          let rest : (s || not (is_empty xs)) ≡ false = not-true _ (and_right (may_be_empty r.blank_lines) _ g) in
           let start : s ≡ false = or-left s _ rest in
-          let none : list_any is_none_body (lead_rows r k s indent rs) ≡ false = or-right s _ rest in
-          ap (set_rows s)
-          (lead-made k s indent (lead_rows r k s indent rs) (and_left r.empty_lines _ e) start none
-          ∙ ap (λ ys. made_row ∷ ys) (lead-full k s indent (lead_rows r k s indent rs) none ∙ lead-again-rows r k s indent rs h))
-          ∙ ap (λ b. if r.empty_lines && not b then made_row ∷ (made_row ∷ lead_rows r k s indent rs) else made_row ∷ lead_rows r k s indent rs)
-          (or-true s)
-          ∙ ap (λ b. if b then made_row ∷ (made_row ∷ lead_rows r k s indent rs) else made_row ∷ lead_rows r k s indent rs)
-          (and-false r.empty_lines)
-      by_test false e =
-          ap (set_rows s) (lead-again-rows r k s indent rs h)
-          ∙ ap (λ b. if b then made_row ∷ lead_rows r k s indent rs else lead_rows r k s indent rs) e
+          let once : head_rows s depth xs ≡ made_row ∷ [] =
+          ap (λ b. if b then made_row ∷ lead_rows r r.indentation s depth xs else lead_rows r r.indentation s depth xs) g
+          ∙ ap (λ ys. made_row ∷ ys) (no-rows xs (or-right s _ rest)) in
+          ap (head_rows s depth) once
+          ∙ head-other s depth (made_row ∷ []) (ap (λ b. may_be_empty r.blank_lines && not b) (or-true s) ∙ and-false (may_be_empty r.blank_lines))
+          ∙ alone-laid r.indentation s depth may start ∙ sym once
+        where
+          and-false : (b : Bool) → (b && false) ≡ false
+          and-false true = refl
+          and-false false = refl
 
-  head-form : (s : Bool) (indent : Text) (rs : List Row) (l : Text) → IsWhiteSpace indent → AllByRecursion IsRow rs → IsWhiteSpace l
-      → header_leading r s indent (rows_text rs l)
-      ≡ rows_text (head_rows r.indentation s indent rs) (lead_last r r.indentation indent l)
-  unfolding head_rows
-  head-form s indent rs l w h g =
-      ap (set_off r s) (lead-form r r.indentation s indent rs l h g)
-      ∙ set-form s (lead_rows r r.indentation s indent rs) (lead_last r r.indentation indent l)
-      (all-lead r r.indentation s indent rs w h) (white-lead r r.indentation indent l w g)
+          no-rows : (ys : List Row) → not (is_empty ys) ≡ false → lead_rows r r.indentation s depth ys ≡ []
+          no-rows [] k = none-laid r s false (lead_depth r.indentation depth)
+          no-rows (y ∷ ys) k = cc
 
-  all-head : (k : Indentation) (s : Bool) (indent : Text) (rs : List Row) → IsWhiteSpace indent → AllByRecursion IsRow rs
-      → AllByRecursion IsRow (head_rows k s indent rs)
-  unfolding head_rows
-  all-head k s indent rs w h = all-set s (lead_rows r k s indent rs) (all-lead r k s indent rs w h)
-
-  bodies-head : (k : Indentation) (s : Bool) (indent : Text) (rs : List Row) → row_bodies (head_rows k s indent rs) ≡ row_bodies rs
-  unfolding head_rows
-  bodies-head k s indent rs = bodies-set s (lead_rows r k s indent rs) ∙ bodies-lead r k s indent rs
-
-  pub header-whole : (s : Bool) (indent t : Text) → IsWhiteSpace indent → IsWholeTrivia t → IsWholeTrivia (header_leading r s indent t)
-  header-whole s indent t w h =
+  pub header-whole : (s : Bool) (depth : ℕ) (t : Text) → IsWholeTrivia t → IsWholeTrivia (header_leading r s depth t)
+  header-whole s depth t h =
       let rows = view t h in
-      subst IsWholeTrivia
-      (sym (ap (header_leading r s indent) rows.is ∙ head-form s indent rows.rows rows.last w rows.all rows.white))
-      (rows-whole (head_rows r.indentation s indent rows.rows) (lead_last r r.indentation indent rows.last)
-      (all-head r.indentation s indent rows.rows w rows.all) (white-lead r r.indentation indent rows.last w rows.white))
+      subst IsWholeTrivia (sym (ap (header_leading r s depth) rows.is ∙ head-form s depth rows.rows rows.last rows.all rows.white))
+      (rows-whole (head_rows s depth rows.rows) (lead_last r r.indentation depth rows.last)
+      (all-head s depth rows.rows rows.all) (white-lead r r.indentation depth rows.last rows.white))
 
-  pub header-again : (s : Bool) (indent t : Text) → IsWhiteSpace indent → IsWholeTrivia t
-      → header_leading r s indent (header_leading r s indent t) ≡ header_leading r s indent t
-  header-again s indent t w h =
+  pub header-again : (s : Bool) (depth : ℕ) (t : Text) → IsWholeTrivia t
+      → header_leading r s depth (header_leading r s depth t) ≡ header_leading r s depth t
+  header-again s depth t h =
       let rows = view t h in
       let k = r.indentation in
-      let once = ap (header_leading r s indent) rows.is ∙ head-form s indent rows.rows rows.last w rows.all rows.white in
-      ap (header_leading r s indent) once
-      ∙ head-form s indent (head_rows k s indent rows.rows) (lead_last r k indent rows.last) w
-      (all-head k s indent rows.rows w rows.all) (white-lead r k indent rows.last w rows.white)
-      ∙ ap (λ rs. rows_text rs (lead_last r k indent (lead_last r k indent rows.last))) (head-again-rows k s indent rows.rows rows.all)
-      ∙ ap (rows_text (head_rows k s indent rows.rows)) (lead-last-again r k indent rows.last)
+      let once = ap (header_leading r s depth) rows.is ∙ head-form s depth rows.rows rows.last rows.all rows.white in
+      ap (header_leading r s depth) once
+      ∙ head-form s depth (head_rows s depth rows.rows) (lead_last r k depth rows.last)
+      (all-head s depth rows.rows rows.all) (white-lead r k depth rows.last rows.white)
+      ∙ ap (λ rs. rows_text rs (lead_last r k depth (lead_last r k depth rows.last))) (head-rows-again s depth rows.rows rows.all)
+      ∙ ap (rows_text (head_rows s depth rows.rows)) (lead-last-again r k depth rows.last)
       ∙ sym once
 
-  pub header-comments : (s : Bool) (indent t : Text) → IsWhiteSpace indent → IsWholeTrivia t
-      → comments (header_leading r s indent t) ≡ comments t
-  header-comments s indent t w h =
+  pub header-comments : (s : Bool) (depth : ℕ) (t : Text) → IsWholeTrivia t → comments (header_leading r s depth t) ≡ comments t
+  header-comments s depth t h =
       let rows = view t h in
-      let k = r.indentation in
-      ap comments (ap (header_leading r s indent) rows.is ∙ head-form s indent rows.rows rows.last w rows.all rows.white)
-      ∙ comments-rows (head_rows k s indent rows.rows) (lead_last r k indent rows.last)
-      (all-head k s indent rows.rows w rows.all) (white-lead r k indent rows.last w rows.white)
-      ∙ bodies-head k s indent rows.rows
+      ap comments (ap (header_leading r s depth) rows.is ∙ head-form s depth rows.rows rows.last rows.all rows.white)
+      ∙ comments-rows (head_rows s depth rows.rows) (lead_last r r.indentation depth rows.last)
+      (all-head s depth rows.rows rows.all) (white-lead r r.indentation depth rows.last rows.white)
+      ∙ bodies-head s depth rows.rows
       ∙ sym (ap comments rows.is ∙ comments-rows rows.rows rows.last rows.all rows.white)
-
-  -- ---- rows with LF for each newline
-
-  made-returns : r.returns ≡ false → without_returns (made_newline r) ≡ made_newline r
-  made-returns n =
-      ap (λ b. without_returns (if b then carriage_return ∷ newline else newline)) n
-      ∙ sym (ap (λ b. if b then carriage_return ∷ newline else newline) n)
-
-  any-lean : (rs : List Row) → list_any is_none_body (map lean_row rs) ≡ list_any is_none_body rs
-  any-lean [] = refl
-  any-lean (x ∷ xs) = ap (λ b. is_none_body x || b) (any-lean xs)
-
-  empty-returns : (t : Text) → IsWholeTrivia t → has_empty_line (without_returns t) ≡ has_empty_line t
-  empty-returns t h =
-      let rows = view t h in
-      ap (λ u. has_empty_line (without_returns u)) rows.is
-      ∙ ap has_empty_line (lean-rows rows.rows rows.last rows.all (white-returns rows.last rows.white))
-      ∙ any-empty (map lean_row rows.rows) rows.last (all-lean rows.rows rows.all) rows.white
-      ∙ any-lean rows.rows
-      ∙ sym (ap has_empty_line rows.is ∙ any-empty rows.rows rows.last rows.all rows.white)
-
-  pub header-returns : r.returns ≡ false → (s : Bool) (indent t : Text) → IsWhiteSpace indent → IsWholeTrivia t
-      → without_returns (header_leading r s indent t) ≡ header_leading r s indent (without_returns t)
-  header-returns n s indent t w h =
-      let u = leading r s indent t in
-      by_test (r.empty_lines && not (s || has_empty_line u)) u
-      ∙ ap (λ b. if r.empty_lines && not (s || b) then made_newline r ++ without_returns u else without_returns u)
-      (sym (empty-returns u (leading-whole r s indent t w h)))
-      ∙ ap (set_off r s) (leading-returns r s indent t w h)
-    where
-      by_test : (b : Bool) (u : Text) → without_returns (if b then made_newline r ++ u else u)
-          ≡ (if b then made_newline r ++ without_returns u else without_returns u)
-      by_test true u = returns-append (made_newline r) u ∙ ap (λ x. x ++ without_returns u) (made-returns n)
-      by_test false u = refl
-
-  -- ---- the start of the text
-
-  -- a made row in front is none at the start
-  made-start : (k : Indentation) (indent : Text) (rs : List Row) → r.empty_lines ≡ true
-      → lead_rows r k true indent (made_row ∷ rs) ≡ lead_rows r k true indent rs
-  unfolding made_row
-  made-start k indent rs on = by_kind k
-    where
-      same : spaced_rows r true false (made_row ∷ rs) ≡ spaced_rows r true false rs
-      same =
-          ap (λ b. if b then squeezed is_none_body false (made_row ∷ rs) else made_row ∷ rs) on
-          ∙ sym (ap (λ b. if b then squeezed is_none_body false rs else rs) on)
-
-      by_kind : (j : Indentation) → lead_rows r j true indent (made_row ∷ rs) ≡ lead_rows r j true indent rs
-      by_kind as_it_is = same
-      by_kind flush = ap (map (moved indent)) same
-      by_kind by_depth = ap (map (moved indent)) same
-
-  head-start-rows : (k : Indentation) (indent : Text) (rs : List Row) → AllByRecursion IsRow rs → r.empty_lines ≡ true
-      → lead_rows r k true indent (head_rows k false indent rs) ≡ lead_rows r k true indent rs
-  unfolding head_rows set_rows
-  head-start-rows k indent rs h on = by_test (r.empty_lines && not (false || list_any is_none_body (lead_rows r k false indent rs)))
-    where
-      by_test : (b : Bool) → lead_rows r k true indent (if b then made_row ∷ lead_rows r k false indent rs else lead_rows r k false indent rs)
-          ≡ lead_rows r k true indent rs
-      by_test true = made-start k indent (lead_rows r k false indent rs) on ∙ lead-start r k indent rs h
-      by_test false = lead-start r k indent rs h
-
-  -- at the start a header is laid out as a line is
-  pub header-start : (indent t : Text) → header_leading r true indent t ≡ leading r true indent t
-  header-start indent t = ap (λ b. if b then made_newline r ++ leading r true indent t else leading r true indent t) (and-false r.empty_lines)
-
-  pub header-then-start : (indent t : Text) → IsWhiteSpace indent → IsWholeTrivia t → r.empty_lines ≡ true
-      → leading r true indent (header_leading r false indent t) ≡ header_leading r true indent t
-  header-then-start indent t w h on =
-      let rows = view t h in
-      let k = r.indentation in
-      ap (leading r true indent) (ap (header_leading r false indent) rows.is ∙ head-form false indent rows.rows rows.last w rows.all rows.white)
-      ∙ lead-form r k true indent (head_rows k false indent rows.rows) (lead_last r k indent rows.last)
-      (all-head k false indent rows.rows w rows.all) (white-lead r k indent rows.last w rows.white)
-      ∙ ap (λ rs. rows_text rs (lead_last r k indent (lead_last r k indent rows.last))) (head-start-rows k indent rows.rows rows.all on)
-      ∙ ap (rows_text (lead_rows r k true indent rows.rows)) (lead-last-again r k indent rows.last)
-      ∙ sym (ap (leading r true indent) rows.is ∙ lead-form r k true indent rows.rows rows.last rows.all rows.white)
-      ∙ sym (header-start indent t)
-
-  pub header-any : r.empty_lines ≡ false → (s : Bool) (indent t : Text) → header_leading r s indent t ≡ header_leading r false indent t
-  header-any off s indent t =
-      ap (λ b. if b && not (s || has_empty_line (leading r s indent t)) then made_newline r ++ leading r s indent t else leading r s indent t) off
-      ∙ leading-any r off s indent t
-      ∙ sym (ap (λ b. if b && not (false || has_empty_line (leading r false indent t)) then made_newline r ++ leading r false indent t
-      else leading r false indent t) off)

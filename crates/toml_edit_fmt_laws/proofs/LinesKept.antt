@@ -1,41 +1,37 @@
--- Before the statements of a formatted document and at its end: without the rule for empty lines the same lines, but for white space at
+-- Before the statements of a formatted document and at its end: without a rule for empty lines the same lines, but for white space at
 -- their start, and without indentation the same lines, but for empty ones.
-use Rattle.std.proofs.Common.{◌≡◌, refl, sym, ap, ◌∙◌, ℕ, Bool, true, false, not, List, [], ◌∷◌, ◌++◌, length, Option, Some, None, append_assoc, append-nil}
-use Rattle.std.specs.Prelude.{◌&&◌, ◌||◌, if◌then◌else◌, codes, filter, flat_map, map}
+use Rattle.std.proofs.Common.{◌≡◌, refl, sym, ap, ◌∙◌, ℕ, suc, Bool, true, false, not, List, [], ◌∷◌, ◌++◌, length, Option, Some, None, append_assoc, append-nil}
+use Rattle.std.specs.Prelude.{◌&&◌, ◌||◌, if◌then◌else◌, codes, filter, flat_map, map, is_none}
 use Rattle.std.specs.List.{AllByRecursion, cons_option, filter_map}
 use Rattle.std.proofs.lemmas.List.Elements.{filter-append}
 use Rattle.toml_edit_model.specs.Comments.{lines, words}
+use Rattle.toml_edit_model.specs.Paths.{Path}
 use Rattle.toml_edit_model.specs.Syntax.{Segment, Frame, Value, scalar, array, inline_table, Elements, no_elements, element, Pairs}
 use Rattle.toml_edit_model.specs.Syntax.{no_pairs, pair, Header, Statement, key_line, header, Document, has_elements, has_pairs, comma_text}
 use Rattle.toml_edit_model.specs.Syntax.{opening_brackets, closing_brackets}
 use Rattle.toml_edit_model.specs.Syntax.{IsStatement, AreStatements, IsDocument}
 use Rattle.toml_edit_model.specs.Text.{Text, carriage_return, is_empty, newline, one}
 use Rattle.toml_edit_model.specs.Trivia.{IsWhiteSpace, IsWholeTrivia, IsFinalTrivia, IsNewline, comment}
-use Rattle.toml_edit_fmt_laws.specs.Rules.{Indentation, as_it_is, flush, by_depth, Rules, line_indent, header_indent, made_newline}
-use Rattle.toml_edit_fmt_laws.specs.Laying.{is_empty_line, squeezed, trimmed, has_empty_line, leading_as, leading, header_leading, final_as, final_text}
-use Rattle.toml_edit_fmt_laws.specs.Formatted.{keys_below, laid_statement, laid_statements, laid_document}
+use Rattle.toml_edit_fmt_laws.specs.Rules.{as_it_is, Rules, units, line_depth, header_depth, made_newline}
+use Rattle.toml_edit_fmt_laws.specs.Laying.{is_broken, is_empty_line, spaced_by, may_be_empty, leading_as, leading, header_leading, final_as, final_text}
+use Rattle.toml_edit_fmt_laws.specs.Formatted.{State, start, stays, reached, leading_of, after, laid_statement, lay, laid_statements, state_after, laid_final, laid_document}
 use Rattle.toml_edit_fmt_laws.specs.Places.{Place, punctuation, at_equals, at_dots, before_statements, after_statements}
 use Rattle.toml_edit_fmt_laws.specs.Places.{line_ends, in_arrays, in_inline_tables, PlacedText, placed, segment_texts, path_texts, value_texts}
 use Rattle.toml_edit_fmt_laws.specs.Places.{elements_texts, pairs_texts, brackets_texts, statement_texts, is_before_statements, leading_texts}
 use Rattle.toml_edit_fmt_laws.specs.Places.{unindented, full_lines, FormattedKeepsPlaces}
-use Rattle.toml_edit_fmt_laws.proofs.Again.{white-line}
-use Rattle.toml_edit_fmt_laws.proofs.Ends.{closing, comment-some, last_row, end_flag, final_white, final_rows, final-form, all-final, white-final}
-use Rattle.toml_edit_fmt_laws.proofs.LeadingLaws.{lead_rows, lead_last, lead-form, all-lead, white-lead}
+use Rattle.toml_edit_fmt_laws.proofs.Ends.{closing, comment-some, last_row, end_flag, final_depth, final_white, final_rows, final-form, kept-final, all-final, white-final}
+use Rattle.toml_edit_fmt_laws.proofs.LeadingLaws.{lead_depth, lead_rows, lead_last, lead-form, white-lead}
 use Rattle.toml_edit_fmt_laws.proofs.PlacesKept.{places-kept, keys-kept, values-kept}
 use Rattle.toml_edit_fmt_laws.proofs.Rows.{Row, row_text, IsRow, IsBody, body_text, ended_body, rows_text, view, part-feed, last_lines, lines-any, lines-rows}
 use Rattle.toml_edit_fmt_laws.proofs.Rows.{words-row, words-part, is_none_body, empty-row, moved}
-use Rattle.toml_edit_fmt_laws.proofs.SpacedRows.{spaced_rows}
-use Rattle.toml_edit_fmt_laws.proofs.Spacing.{all-spaced, spaced-found}
+use Rattle.toml_edit_fmt_laws.proofs.SpacedRows.{spaced_rows, all-spaced-rows, laid_rows, all-laid}
+use Rattle.toml_edit_fmt_laws.proofs.Spacing.{spaced-found}
 
 -- ---- which texts these are
 
-abbrev lead_of : Statement → Text
-lead_of (key_line f v end) = f.leading
-lead_of (header h end) = h.leading
-
 abbrev heads : List Statement → Text → List Text
 heads [] final = one final
-heads (s ∷ ss) final = lead_of s ∷ heads ss final
+heads (s ∷ ss) final = leading_of s ∷ heads ss final
 
 abbrev found : List PlacedText → List PlacedText
 found xs = filter (λ p. is_before_statements p.place) xs
@@ -101,7 +97,7 @@ inner-brackets h =
     (both (apart at_dots h.opening refl)
     (both (inner-path h.path) (both (apart at_dots h.closing refl) (apart punctuation (closing_brackets h.is_array) refl))))
 
-one-lead : (s : Statement) → found (statement_texts s) ≡ placed before_statements (lead_of s)
+one-lead : (s : Statement) → found (statement_texts s) ≡ placed before_statements (leading_of s)
 one-lead (key_line f v end) =
     ap (λ xs. record { place = before_statements; text = f.leading } ∷ xs)
     (both (inner-frame after_statements f (value_texts v) refl (inner-value v)) (apart line_ends end refl)).is
@@ -117,36 +113,48 @@ leads (s ∷ ss) final =
     ap (λ xs. map (λ (p : PlacedText). p.text) (found xs)) (append_assoc (statement_texts s) (flat_map statement_texts ss) (placed before_statements final))
     ∙ ap (map (λ (p : PlacedText). p.text)) (filter-append (λ (p : PlacedText). is_before_statements p.place) (statement_texts s) rest)
     ∙ ap (λ xs. map (λ (p : PlacedText). p.text) (xs ++ found rest)) (one-lead s)
-    ∙ ap (λ ts. lead_of s ∷ ts) (leads ss final)
+    ∙ ap (λ ts. leading_of s ∷ ts) (leads ss final)
 
 leading-texts : (d : Document) → leading_texts d ≡ heads d.statements d.final
 leading-texts d = leads d.statements d.final
 
 -- ---- what stays of each stays of all
 
-module _ {A : Type 0} (r : Rules) (g : Text → A)
-    (line : (s : Bool) (i t : Text) → IsWhiteSpace i → IsWholeTrivia t → g (leading r s i t) ≡ g t)
-    (head : (s : Bool) (i t : Text) → IsWhiteSpace i → IsWholeTrivia t → g (header_leading r s i t) ≡ g t)
+module _ {A : Type 0} (r : Rules) (pad : ℕ → Path → ℕ) (g : Text → A)
+    (line : (s : Bool) (depth : ℕ) (t : Text) → IsWholeTrivia t → g (leading r s depth t) ≡ g t)
+    (head : (s : Bool) (depth : ℕ) (t : Text) → IsWholeTrivia t → g (header_leading r s depth t) ≡ g t)
     (last : (s : Bool) (t : Text) → IsFinalTrivia t → g (final_text r s t) ≡ g t) where
-  statement-same : (MayEnd : Text → Type 0) (s : Bool) (keys : ℕ) (st : Statement) → IsStatement MayEnd st
-      → g (lead_of (laid_statement r s keys st)) ≡ g (lead_of st)
-  statement-same MayEnd s keys (key_line f v end) h = line s (line_indent r keys) f.leading (white-line r keys) h.0.0.leading
-  statement-same MayEnd s keys (header x end) h = head s (header_indent r (length x.path)) x.leading (white-line r _) h.0.0.leading
+  statement-same : (MayEnd : Text → Type 0) (n : ℕ) (st : State) (s : Statement) → IsStatement MayEnd s
+      → g (leading_of (lay r (pad n) st s)) ≡ g (leading_of s)
+  statement-same MayEnd n st s h = by_test (stays (reached r st (leading_of s))) s h
+    where
+      by_test : (b : Bool) (s : Statement) → IsStatement MayEnd s
+          → g (leading_of (if b then s else laid_statement r (pad n) st s)) ≡ g (leading_of s)
+      by_test true s h = refl
+      by_test false (key_line f v end) h = line st.is_start (line_depth r st.keys) f.leading h.0.0.leading
+      by_test false (header x end) h = head st.is_start (header_depth r (length x.path)) x.leading h.0.0.leading
 
-  heads-same : (s : Bool) (keys : ℕ) (ss : List Statement) (after final other : Text) → AreStatements after ss → g other ≡ g final
-      → map g (heads (laid_statements r s keys ss) other) ≡ map g (heads ss final)
-  heads-same s keys [] after final other h e = ap (λ x. one x) e
-  heads-same s keys (st ∷ []) after final other h e =
-      ap (λ x. x ∷ one (g other)) (statement-same _ s keys st h) ∙ ap (λ x. g (lead_of st) ∷ one x) e
-  heads-same s keys (st ∷ next ∷ rest) after final other h e =
-      ap (λ x. x ∷ map g (heads (laid_statements r false (keys_below keys st) (next ∷ rest)) other)) (statement-same IsNewline s keys st h.0)
-      ∙ ap (λ xs. g (lead_of st) ∷ xs) (heads-same false (keys_below keys st) (next ∷ rest) after final other h.1 e)
+  heads-same : (n : ℕ) (st : State) (ss : List Statement) (after_all final other : Text) → AreStatements after_all ss → g other ≡ g final
+      → map g (heads (laid_statements r pad n st ss) other) ≡ map g (heads ss final)
+  heads-same n st [] after_all final other h e = ap (λ x. one x) e
+  heads-same n st (s ∷ []) after_all final other h e =
+      ap (λ x. x ∷ one (g other)) (statement-same _ n st s h) ∙ ap (λ x. g (leading_of s) ∷ one x) e
+  heads-same n st (s ∷ next ∷ rest) after_all final other h e =
+      ap (λ x. x ∷ map g (heads (laid_statements r pad (suc n) (after r st s) (next ∷ rest)) other)) (statement-same IsNewline n st s h.0)
+      ∙ ap (λ xs. g (leading_of s) ∷ xs) (heads-same (suc n) (after r st s) (next ∷ rest) after_all final other h.1 e)
 
-  leading-same : (d : Document) → IsDocument d → map g (leading_texts (laid_document r d)) ≡ map g (leading_texts d)
+  final-same : (st : State) (t : Text) → IsFinalTrivia t → g (laid_final r st t) ≡ g t
+  final-same st t h = by_test (stays (reached r st t))
+    where
+      by_test : (b : Bool) → g (if b then t else final_text r st.is_start t) ≡ g t
+      by_test true = refl
+      by_test false = last st.is_start t h
+
+  leading-same : (d : Document) → IsDocument d → map g (leading_texts (laid_document r pad d)) ≡ map g (leading_texts d)
   leading-same d h =
-      ap (map g) (leading-texts (laid_document r d))
-      ∙ heads-same true 0 d.statements d.final d.final (final_text r (is_empty d.statements) d.final) h.0
-      (last (is_empty d.statements) d.final h.1)
+      let st = state_after r start d.statements in
+      ap (map g) (leading-texts (laid_document r pad d))
+      ∙ heads-same 0 start d.statements d.final d.final (laid_final r st d.final) h.0 (final-same st d.final h.1)
       ∙ sym (ap (map g) (leading-texts d))
 
 -- ---- the lines of rows
@@ -194,47 +202,37 @@ words-moved : (indent : Text) (rs : List Row) → row_words (map (moved indent) 
 words-moved indent [] = refl
 words-moved indent (x ∷ xs) = ap (λ u. ended_body x.body x.end ++ u) (words-moved indent xs)
 
-module _ (r : Rules) (off : r.empty_lines ≡ false) where
+module _ (r : Rules) (off : r.blank_lines ≡ None) where
   words-spaced : (s e : Bool) (rs : List Row) → row_words (spaced_rows r s e rs) ≡ row_words rs
-  words-spaced s e rs =
-      ap (λ b. row_words (if b then (if e then trimmed is_none_body (squeezed is_none_body (not s) rs)
-      else squeezed is_none_body (not s) rs) else rs)) off
+  words-spaced s e rs = ap (λ b. row_words (spaced_by is_none_body b s e rs)) off
 
-  words-lead : (k : Indentation) (s : Bool) (indent : Text) (rs : List Row) → row_words (lead_rows r k s indent rs) ≡ row_words rs
-  words-lead as_it_is s indent rs = words-spaced s false rs
-  words-lead flush s indent rs = words-moved indent (spaced_rows r s false rs) ∙ words-spaced s false rs
-  words-lead by_depth s indent rs = words-moved indent (spaced_rows r s false rs) ∙ words-spaced s false rs
+  words-laid : (s e : Bool) (o : Option ℕ) (rs : List Row) → row_words (laid_rows r s e o rs) ≡ row_words rs
+  words-laid s e None rs = words-spaced s e rs
+  words-laid s e (Some depth) rs = words-moved (units r depth) (spaced_rows r s e rs) ∙ words-spaced s e rs
 
-  words-final : (k : Indentation) (s e : Bool) (rs : List Row) → row_words (final_rows r k s e rs) ≡ row_words rs
-  words-final as_it_is s e rs = words-spaced s e rs
-  words-final flush s e rs = words-moved [] (spaced_rows r s e rs) ∙ words-spaced s e rs
-  words-final by_depth s e rs = words-moved [] (spaced_rows r s e rs) ∙ words-spaced s e rs
-
-  lines-leading : (s : Bool) (indent t : Text) → IsWhiteSpace indent → IsWholeTrivia t → unindented (leading r s indent t) ≡ unindented t
-  lines-leading s indent t w h =
+  lines-leading : (s : Bool) (depth : ℕ) (t : Text) → IsWholeTrivia t → unindented (leading r s depth t) ≡ unindented t
+  lines-leading s depth t h =
       let rows = view t h in
       let k = r.indentation in
-      ap unindented (ap (leading r s indent) rows.is ∙ lead-form r k s indent rows.rows rows.last rows.all rows.white)
-      ∙ unindented-rows (lead_rows r k s indent rows.rows) (lead_last r k indent rows.last) (all-lead r k s indent rows.rows w rows.all)
-      (white-lead r k indent rows.last w rows.white)
-      ∙ ap (λ u. u ++ []) (words-lead k s indent rows.rows)
+      ap unindented (ap (leading r s depth) rows.is ∙ lead-form r k s depth rows.rows rows.last rows.all rows.white)
+      ∙ unindented-rows (lead_rows r k s depth rows.rows) (lead_last r k depth rows.last)
+      (all-laid r s false (lead_depth k depth) rows.rows rows.all) (white-lead r k depth rows.last rows.white)
+      ∙ ap (λ u. u ++ []) (words-laid s false (lead_depth k depth) rows.rows)
       ∙ sym (ap unindented rows.is ∙ unindented-rows rows.rows rows.last rows.all rows.white)
 
-  lines-header : (s : Bool) (indent t : Text) → IsWhiteSpace indent → IsWholeTrivia t → unindented (header_leading r s indent t) ≡ unindented t
-  lines-header s indent t w h =
-      ap (λ b. unindented (if b && not (s || has_empty_line (leading r s indent t)) then made_newline r ++ leading r s indent t else leading r s indent t))
-      off
-      ∙ lines-leading s indent t w h
+  lines-header : (s : Bool) (depth : ℕ) (t : Text) → IsWholeTrivia t → unindented (header_leading r s depth t) ≡ unindented t
+  lines-header s depth t h =
+      ap (λ o. unindented ((if may_be_empty o && not (s || is_broken t) then made_newline r else []) ++ leading r s depth t)) off
+      ∙ lines-leading s depth t h
 
   lines-final : (s : Bool) (t : Text) → IsFinalTrivia t → unindented (final_text r s t) ≡ unindented t
   lines-final s t h =
       let v = closing t h in
       let k = r.indentation in
-      let e = end_flag r k v.white v.body in
-      ap unindented (ap (final_text r s) v.is ∙ final-form r k s v.rows v.white v.body v.all v.is_white v.is_body)
-      ∙ unindented-closing (final_rows r k s e v.rows) (final_white r k v.white) v.body (all-final r k s e v.rows v.all)
-      (white-final r k v.white v.is_white) v.is_body
-      ∙ ap (λ u. u ++ body_text v.body) (words-final k s e v.rows)
+      ap unindented (ap (final_text r s) v.is ∙ final-form r s v.rows v.white v.body v.all v.is_white v.is_body)
+      ∙ unindented-closing (final_rows r s v.white v.body v.rows) (final_white r k v.white) v.body
+      (all-final r s v.white v.body v.rows v.all) (white-final r k v.white v.is_white) v.is_body
+      ∙ ap (λ u. u ++ body_text v.body) (words-laid s (end_flag r k v.white v.body) (final_depth r k) v.rows)
       ∙ sym (ap unindented v.is ∙ unindented-closing v.rows v.white v.body v.all v.is_white v.is_body)
 
 -- ---- without empty lines
@@ -268,48 +266,47 @@ full-closing rs w o h g k = ap full_of (lines-closing rs w o h g k) ∙ full-row
 full-spaced : (r : Rules) (s e : Bool) (rs : List Row) (w : Text) (o : Option Text) → AllByRecursion IsRow rs → IsWhiteSpace w → IsBody o
     → full_lines (rows_text (spaced_rows r s e rs) (w ++ body_text o)) ≡ full_lines (rows_text rs (w ++ body_text o))
 full-spaced r s e rs w o h g k =
-    full-closing (spaced_rows r s e rs) w o (all-spaced is_none_body IsRow r s e rs h) g k
-    ∙ ap (λ xs. map row_text xs ++ full_of (last_lines (w ++ body_text o))) (spaced-found is_none_body full_row no-full r s e rs)
+    full-closing (spaced_rows r s e rs) w o (all-spaced-rows r s e rs h) g k
+    ∙ ap (λ xs. map row_text xs ++ full_of (last_lines (w ++ body_text o))) (spaced-found is_none_body full_row no-full r.blank_lines s e rs)
     ∙ sym (full-closing rs w o h g k)
 
 module _ (r : Rules) (stay : r.indentation ≡ as_it_is) where
-  white-leading : (s : Bool) (indent t : Text) → IsWhiteSpace indent → IsWholeTrivia t → full_lines (leading r s indent t) ≡ full_lines t
-  white-leading s indent t w h =
+  white-leading : (s : Bool) (depth : ℕ) (t : Text) → IsWholeTrivia t → full_lines (leading r s depth t) ≡ full_lines t
+  white-leading s depth t h =
       let rows = view t h in
       let no_body : rows_text rows.rows rows.last ≡ rows_text rows.rows (rows.last ++ []) = ap (rows_text rows.rows) (sym (append-nil rows.last)) in
-      ap (λ k. full_lines (leading_as k r s indent t)) stay
-      ∙ ap full_lines (ap (leading_as as_it_is r s indent) rows.is ∙ lead-form r as_it_is s indent rows.rows rows.last rows.all rows.white
+      ap (λ k. full_lines (leading_as k r s depth t)) stay
+      ∙ ap full_lines (ap (leading_as as_it_is r s depth) rows.is ∙ lead-form r as_it_is s depth rows.rows rows.last rows.all rows.white
       ∙ ap (rows_text (spaced_rows r s false rows.rows)) (sym (append-nil rows.last)))
       ∙ full-spaced r s false rows.rows rows.last None rows.all rows.white tt
       ∙ sym (ap full_lines (rows.is ∙ no_body))
 
-  white-header : (s : Bool) (indent t : Text) → IsWhiteSpace indent → IsWholeTrivia t → full_lines (header_leading r s indent t) ≡ full_lines t
-  white-header s indent t w h =
-      by_test (r.empty_lines && not (s || has_empty_line (leading r s indent t))) (leading r s indent t)
-      ∙ white-leading s indent t w h
+  white-header : (s : Bool) (depth : ℕ) (t : Text) → IsWholeTrivia t → full_lines (header_leading r s depth t) ≡ full_lines t
+  white-header s depth t h =
+      by_test (may_be_empty r.blank_lines && not (s || is_broken t)) ∙ white-leading s depth t h
     where
       made : (b : Bool) (u : Text) → full_lines ((if b then carriage_return ∷ newline else newline) ++ u) ≡ full_lines u
       made true u = refl
       made false u = refl
 
-      by_test : (b : Bool) (u : Text) → full_lines (if b then made_newline r ++ u else u) ≡ full_lines u
-      by_test true u = made r.returns u
-      by_test false u = refl
+      by_test : (b : Bool) → full_lines ((if b then made_newline r else []) ++ leading r s depth t) ≡ full_lines (leading r s depth t)
+      by_test true = made r.returns (leading r s depth t)
+      by_test false = refl
 
   white-end : (s : Bool) (t : Text) → IsFinalTrivia t → full_lines (final_text r s t) ≡ full_lines t
   white-end s t h =
       let v = closing t h in
       ap (λ k. full_lines (final_as k r s t)) stay
-      ∙ ap full_lines (ap (final_as as_it_is r s) v.is ∙ final-form r as_it_is s v.rows v.white v.body v.all v.is_white v.is_body)
-      ∙ full-spaced r s (end_flag r as_it_is v.white v.body) v.rows v.white v.body v.all v.is_white v.is_body
+      ∙ ap full_lines (ap (final_as as_it_is r s) v.is ∙ kept-final r s v.rows v.white v.body v.all v.is_white v.is_body)
+      ∙ full-spaced r s (is_none v.body && is_empty v.white) v.rows v.white v.body v.all v.is_white v.is_body
       ∙ sym (ap full_lines v.is)
 
 pub formatted_keeps_places : FormattedKeepsPlaces
-formatted_keeps_places r d h =
+formatted_keeps_places r pad d h =
     record {
-      keys = keys-kept r d;
-      values = values-kept r d;
-      places = places-kept r d;
-      lines = λ off. leading-same r unindented (lines-leading r off) (lines-header r off) (lines-final r off) d h;
-      white_space = λ stay. leading-same r full_lines (white-leading r stay) (white-header r stay) (white-end r stay) d h;
+      values = values-kept r pad d;
+      keys = keys-kept r pad d;
+      places = places-kept r pad d;
+      lines = λ off. leading-same r pad unindented (lines-leading r off) (lines-header r off) (lines-final r off) d h;
+      white_space = λ stay. leading-same r pad full_lines (white-leading r stay) (white-header r stay) (white-end r stay) d h;
     }

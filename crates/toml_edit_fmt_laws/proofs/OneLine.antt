@@ -1,22 +1,23 @@
 -- Where no line is too wide, a value on one line stays on one line.
-use Rattle.std.proofs.Common.{◌≡◌, refl, sym, ap, ◌∙◌, ℕ, Bool, true, false, not, List, [], ◌∷◌, ◌++◌, ◌+◌, Option, None, append_assoc}
-use Rattle.std.specs.Prelude.{◌&&◌, ◌||◌, if◌then◌else◌, codes, flat_map}
+use Rattle.std.proofs.Common.{◌≡◌, refl, sym, ap, ◌∙◌, ℕ, suc, Bool, true, false, not, List, [], ◌∷◌, ◌++◌, ◌+◌, Option, Some, None, append_assoc}
+use Rattle.std.specs.Prelude.{◌&&◌, ◌||◌, ◌==◌, if◌then◌else◌, codes, flat_map}
 use Rattle.std.specs.List.{list_all}
-use Rattle.std.proofs.lemmas.List.Folds.{list_all-append}
+use Rattle.std.proofs.lemmas.List.Folds.{list_all-append, list_any-append}
 use Rattle.toml_edit_model.specs.Comments.{comments}
+use Rattle.toml_edit_model.specs.Paths.{Path, to_element}
 use Rattle.toml_edit_model.specs.Print.{one_space}
 use Rattle.toml_edit_model.specs.Syntax.{Segment, Frame, Value, scalar, array, inline_table, Elements, no_elements, element, Pairs}
 use Rattle.toml_edit_model.specs.Syntax.{no_pairs, pair, has_elements, has_pairs, comma_text, IsValue, AreElements, ArePairs}
-use Rattle.toml_edit_model.specs.Text.{Text, is_empty}
+use Rattle.toml_edit_model.specs.Text.{Text, is_empty, line_feed}
 use Rattle.toml_edit_model.specs.Trivia.{IsWholeTrivia}
-use Rattle.toml_edit_laws.proofs.common.Tests.{and_left, and_right, and_both, not-true, true-false}
+use Rattle.toml_edit_laws.proofs.common.Tests.{and_left, and_right, and_both, not-true, or-left, or-right, true-false}
 use Rattle.toml_edit_laws.proofs.common.Trivia.{close-trivia}
-use Rattle.toml_edit_fmt_laws.specs.Rules.{Rules}
-use Rattle.toml_edit_fmt_laws.specs.Laying.{is_broken}
-use Rattle.toml_edit_fmt_laws.specs.Formatted.{Layout, untouched, on_one_line, line_by_line, layout_by, array_layout, inline_layout, has_broken_elements}
-use Rattle.toml_edit_fmt_laws.specs.Formatted.{has_broken_pairs, exceeds, is_too_wide, elements_width, laid_comma, before_part, after_part, before_bracket}
-use Rattle.toml_edit_fmt_laws.specs.Formatted.{inner_indent, inner_room, last_after, last_trailing, laid_frame}
-use Rattle.toml_edit_fmt_laws.specs.Formatted.{laid_value, laid_elements, laid_pairs}
+use Rattle.toml_edit_fmt_laws.specs.Rules.{Rules, Arrays, arrays_stay, kept, collapsed}
+use Rattle.toml_edit_fmt_laws.specs.Laying.{is_broken, usual_pad}
+use Rattle.toml_edit_fmt_laws.specs.Formatted.{Layout, untouched, on_one_line, line_by_line, in_rows, is_over, is_too_wide, flat_width, open_if, rows_if, is_in_rows}
+use Rattle.toml_edit_fmt_laws.specs.Formatted.{array_layout_as, array_layout, inline_layout, has_broken_elements, has_broken_pairs, has_comments, elements_have_comments}
+use Rattle.toml_edit_fmt_laws.specs.Formatted.{before_part, after_part, Inside, inside, in_array, in_inline, inner_depth, inner_room}
+use Rattle.toml_edit_fmt_laws.specs.Formatted.{last_after, last_trailing, last_pad, elements_count, pairs_count, laid_frame, laid_value, laid_elements, laid_pairs}
 use Rattle.toml_edit_fmt_laws.specs.Places.{Place, punctuation, at_equals, in_arrays, in_inline_tables, PlacedText}
 use Rattle.toml_edit_fmt_laws.specs.Places.{placed, segment_texts, path_texts, frame_texts, value_texts, elements_texts, pairs_texts, is_inside, StaysOnOneLine}
 use Rattle.toml_edit_fmt_laws.proofs.Rows.{Row, rows_text, row_text, Rows, view, row_bodies, broken-row, comments-rows}
@@ -59,18 +60,24 @@ comma-unbroken false = refl
 
 abbrev is_lines : Layout → Bool
 is_lines line_by_line = true
+is_lines in_rows = true
 is_lines untouched = false
 is_lines on_one_line = false
 
-no-lines : (asked has split : Bool) (t : Text) → (if has then split || is_broken t else not (is_empty (comments t))) ≡ false
-    → is_lines (layout_by asked has split t) ≡ false
-no-lines asked has split t e =
-    by_test asked
+open-lines : (has asked : Bool) (t : Text) → asked ≡ false → has_comments t ≡ false → is_lines (open_if has asked t) ≡ false
+open-lines has asked t e g =
+    ap (λ b. is_lines (if (if has then b else has_comments t) then line_by_line else on_one_line)) e
+    ∙ ap (λ b. is_lines (if (if has then false else b) then line_by_line else on_one_line)) g ∙ by_test has
   where
-    by_test : (b : Bool) → is_lines (if not b then untouched
-        else if (if has then split || is_broken t else not (is_empty (comments t))) then line_by_line else on_one_line) ≡ false
+    by_test : (b : Bool) → is_lines (if (if b then false else false) then line_by_line else on_one_line) ≡ false
+    by_test true = refl
     by_test false = refl
-    by_test true = ap (λ c. is_lines (if c then line_by_line else on_one_line)) e
+
+rows-lines : (asked : Bool) (l : Layout) → is_lines l ≡ false → is_lines (rows_if asked l) ≡ false
+rows-lines asked line_by_line e = cc
+rows-lines asked in_rows e = e
+rows-lines asked untouched e = e
+rows-lines asked on_one_line e = e
 
 -- trivia without a newline has no comment
 no-comments : (t : Text) → IsWholeTrivia t → is_broken t ≡ false → is_empty (comments t) ≡ true
@@ -86,27 +93,60 @@ no-comments t h e = by_rows (view t h)
             (ap is_broken (v.is ∙ ap (λ rs. rows_text rs v.last) g ∙ append_assoc (row_text x) (flat_map row_text xs) v.last)
             ∙ broken-row x (rows_text xs v.last)) e
 
-before-unbroken : (r : Rules) (l : Layout) (first : Bool) (i d t : Text) → is_lines l ≡ false → is_broken d ≡ false → is_broken t ≡ false
-    → is_broken (before_part r l first i d t) ≡ false
-before-unbroken r untouched first i d t e f g = g
-before-unbroken r on_one_line first i d t e f g = f
-before-unbroken r line_by_line first i d t e f g = cc
+-- no comment is in these
+comments-unbroken : (t : Text) → IsWholeTrivia t → is_broken t ≡ false → has_comments t ≡ false
+comments-unbroken t h e = ap not (no-comments t h e)
 
-after-unbroken : (r : Rules) (l : Layout) (end : Bool) (i d t : Text) → is_lines l ≡ false → is_broken d ≡ false → is_broken t ≡ false
-    → is_broken (after_part r l end i d t) ≡ false
-after-unbroken r untouched end i d t e f g = g
-after-unbroken r on_one_line end i d t e f g = f
-after-unbroken r line_by_line end i d t e f g = cc
+if-unbroken : (b : Bool) (s t : Text) → is_broken s ≡ false → is_broken t ≡ false → is_broken (if b then s else t) ≡ false
+if-unbroken true s t e g = e
+if-unbroken false s t e g = g
 
-bracket-unbroken : (r : Rules) (l : Layout) (has : Bool) (i last t : Text) → is_lines l ≡ false → is_broken t ≡ false
-    → is_broken (before_bracket r l has i last t) ≡ false
-bracket-unbroken r untouched has i last t e g = g
-bracket-unbroken r on_one_line has i last t e g = refl
-bracket-unbroken r line_by_line has i last t e g = cc
+before-unbroken : (r : Rules) (l : Layout) (n : ℕ) (first : Bool) (depth : ℕ) (edge t : Text) → is_lines l ≡ false
+    → is_broken edge ≡ false → is_broken t ≡ false → is_broken (before_part r l n first depth edge t) ≡ false
+before-unbroken r untouched n first depth edge t e f g = g
+before-unbroken r on_one_line n first depth edge t e f g = if-unbroken first edge one_space f refl
+before-unbroken r line_by_line n first depth edge t e f g = cc
+before-unbroken r in_rows n first depth edge t e f g = cc
 
-default-unbroken : (b : Bool) → is_broken (if b then [] else one_space) ≡ false
-default-unbroken true = refl
-default-unbroken false = refl
+after-unbroken : (r : Rules) (l : Layout) (comma : Bool) (depth : ℕ) (t : Text) → is_lines l ≡ false → is_broken t ≡ false
+    → is_broken (after_part r l comma depth t) ≡ false
+after-unbroken r untouched comma depth t e g = g
+after-unbroken r on_one_line comma depth t e g = refl
+after-unbroken r line_by_line comma depth t e g = cc
+after-unbroken r in_rows comma depth t e g = cc
+
+-- No line ends at the edges of what is between these brackets.
+record FlatInside (x : Inside) : Type 0 where
+  lines : is_lines x.layout ≡ false
+  edge : is_broken x.edge ≡ false
+  last : is_broken x.last ≡ false
+  close : is_broken x.close ≡ false
+
+inside-flat : (r : Rules) (l : Layout) (p : Path) (depth : ℕ) (has space : Bool) (n : ℕ) (comma : Bool) (last t : Text)
+    → is_lines l ≡ false → is_broken t ≡ false → FlatInside (inside r l p depth has space n comma last t)
+inside-flat r l p depth has space n comma last t e g = by_layout l e
+  where
+    edge : is_broken (if has && space then one_space else []) ≡ false
+    edge = if-unbroken (has && space) one_space [] refl refl
+
+    by_layout : (m : Layout) → is_lines m ≡ false → FlatInside (inside r m p depth has space n comma last t)
+    by_layout untouched k = record { lines = refl; edge = edge; last = refl; close = g }
+    by_layout on_one_line k =
+        record {
+          lines = refl;
+          edge = edge;
+          last = if-unbroken (false || not has) [] _ refl edge;
+          close = if-unbroken (false || not has) _ [] edge refl;
+        }
+    by_layout line_by_line k = cc
+    by_layout in_rows k = cc
+
+end-unbroken : (r : Rules) (x : Inside) (has : Bool) (t : Text) → FlatInside x → is_broken t ≡ false
+    → is_broken (after_part r x.layout (x.had_comma || has) x.depth t ++ (if has then [] else x.last)) ≡ false
+end-unbroken r x has t f g =
+    list_any-append (λ c. c == line_feed) (after_part r x.layout (x.had_comma || has) x.depth t) (if has then [] else x.last)
+    ∙ ap (λ b. b || is_broken (if has then [] else x.last)) (after-unbroken r x.layout (x.had_comma || has) x.depth t f.lines g)
+    ∙ if-unbroken has [] x.last refl f.last
 
 -- ---- keys
 
@@ -145,6 +185,14 @@ elements-unbroken (element a v es) h =
     ∙ ap (λ b. b || has_broken_elements es) (unbroken in_arrays a.after refl (front (placed in_arrays a.after) _ after))
     ∙ elements-unbroken es (back (placed punctuation (comma_text (has_elements es))) _ (back (placed in_arrays a.after) _ after))
 
+elements-plain : (es : Elements) → AreElements es → has_broken_elements es ≡ false → elements_have_comments es ≡ false
+elements-plain no_elements h e = refl
+elements-plain (element a v es) h e =
+    let both = or-left (is_broken a.before || is_broken a.after) (has_broken_elements es) e in
+    ap (λ b. (b || has_comments a.after) || elements_have_comments es) (comments-unbroken a.before h.0 (or-left (is_broken a.before) _ both))
+    ∙ ap (λ b. b || elements_have_comments es) (comments-unbroken a.after h.1 (or-right (is_broken a.before) _ both))
+    ∙ elements-plain es h.3 (or-right _ (has_broken_elements es) e)
+
 pairs-unbroken : (ps : Pairs) → Flat (pairs_texts ps) → has_broken_pairs ps ≡ false
 pairs-unbroken no_pairs h = refl
 pairs-unbroken (pair f v ps) h =
@@ -155,78 +203,103 @@ pairs-unbroken (pair f v ps) h =
     ∙ pairs-unbroken ps (back (placed punctuation (comma_text (has_pairs ps))) _ (back frame _ h))
 
 module _ (r : Rules) (no_width : r.width ≡ None) where
-  stays-flat : (asked has split : Bool) (t : Text) → IsWholeTrivia t → split ≡ false → is_broken t ≡ false
-      → is_lines (layout_by asked has split t) ≡ false
-  stays-flat asked has split t h s e = no-lines asked has split t (by_test has)
+  narrow : (room : Option ℕ) (n : ℕ) → is_too_wide r room n ≡ false
+  narrow None n = refl
+  narrow (Some used) n = ap (λ o. is_over o (used + n)) no_width
+
+  array-flat : (depth : ℕ) (room : Option ℕ) (es : Elements) (comma : Bool) (t : Text) → AreElements es → IsWholeTrivia t
+      → has_broken_elements es ≡ false → is_broken t ≡ false → is_lines (array_layout r depth room es comma t) ≡ false
+  array-flat depth room es comma t h w e g = by_kind r.arrays
     where
-      by_test : (b : Bool) → (if b then split || is_broken t else not (is_empty (comments t))) ≡ false
-      by_test true = ap (λ x. x || is_broken t) s ∙ e
-      by_test false = ap not (no-comments t h e)
+      no_comments : has_comments t ≡ false
+      no_comments = comments-unbroken t w g
 
-  mutual
-    value-flat : (i : Text) (room : Option ℕ) (v : Value) → IsValue v → Flat (value_texts v) → Flat (value_texts (laid_value r i room v))
-    value-flat i room (scalar s t) h f = f
-    value-flat i room (array es comma t) h f =
-        let l = array_layout r room es t in
-        let all = back (placed punctuation (codes "[")) _ f in
-        let inside : Flat (elements_texts es) = front (elements_texts es) _ all in
-        let close = back (placed in_arrays (comma_text comma)) _ (back (elements_texts es) _ all) in
-        let last : is_broken t ≡ false = unbroken in_arrays t refl (front (placed in_arrays t) _ close) in
-        let flat : is_lines l ≡ false =
-        stays-flat r.arrays (has_elements es) (has_broken_elements es || is_too_wide r room (2 + elements_width es)) t
-        (close-trivia (has_elements es) comma t h.0)
-        (ap (λ b. b || is_too_wide r room (2 + elements_width es)) (elements-unbroken es inside)
-        ∙ ap (λ w. exceeds w room (2 + elements_width es)) no_width) last in
-        both (apart punctuation (codes "[") refl)
-        (both (elements-flat l flat i comma true es h.1 inside)
-        (both (within in_arrays _ (comma-unbroken (laid_comma l (has_elements es) comma)))
-        (both (within in_arrays _ (bracket-unbroken r l (has_elements es) i (last_after comma es) t flat last))
-        (apart punctuation (codes "]") refl))))
-    value-flat i room (inline_table ps comma t) h f =
-        let l = inline_layout r ps t in
-        let all = back (placed punctuation (codes "{")) _ f in
-        let inside : Flat (pairs_texts ps) = front (pairs_texts ps) _ all in
-        let close = back (placed in_inline_tables (comma_text comma)) _ (back (pairs_texts ps) _ all) in
-        let last : is_broken t ≡ false = unbroken in_inline_tables t refl (front (placed in_inline_tables t) _ close) in
-        let flat : is_lines l ≡ false =
-        stays-flat r.inline_tables (has_pairs ps) (has_broken_pairs ps) t (close-trivia (has_pairs ps) comma t h.0) (pairs-unbroken ps inside) last in
-        both (apart punctuation (codes "{") refl)
-        (both (pairs-flat l flat i comma true ps h.1 inside)
-        (both (within in_inline_tables _ (comma-unbroken (laid_comma l (has_pairs ps) comma)))
-        (both (within in_inline_tables _ (bracket-unbroken r l (has_pairs ps) i (last_trailing comma ps) t flat last))
-        (apart punctuation (codes "}") refl))))
+      wide : (b : Bool) → b ≡ false → (b || is_too_wide r room (flat_width r (array es comma t))) ≡ false
+      wide b k = ap (λ x. x || is_too_wide r room (flat_width r (array es comma t))) k ∙ narrow room (flat_width r (array es comma t))
 
-    elements-flat : (l : Layout) → is_lines l ≡ false → (i : Text) (comma first : Bool) (es : Elements) → AreElements es
-        → Flat (elements_texts es) → Flat (elements_texts (laid_elements r l i comma first es))
-    elements-flat l e i comma first no_elements h f = f
-    elements-flat l e i comma first (element a v es) h f =
-        let inner = back (placed in_arrays a.before) _ f in
-        let after = back (value_texts v) _ inner in
-        let rest = back (placed punctuation (comma_text (has_elements es))) _ (back (placed in_arrays a.after) _ after) in
-        both (within in_arrays _ (before-unbroken r l first i (if first then [] else one_space) a.before e (default-unbroken first)
-        (unbroken in_arrays a.before refl (front (placed in_arrays a.before) _ f))))
-        (both (value-flat (inner_indent r l i) (inner_room r l i) v h.2 (front (value_texts v) _ inner))
-        (both (within in_arrays _ (after-unbroken r l (not (comma || has_elements es)) i [] a.after e refl
-        (unbroken in_arrays a.after refl (front (placed in_arrays a.after) _ after))))
-        (both (apart punctuation (comma_text (has_elements (laid_elements r l i comma false es))) refl)
-        (elements-flat l e i comma false es h.3 rest))))
+      by_kind : (a : Arrays) → is_lines (array_layout_as a r depth room es comma t) ≡ false
+      by_kind arrays_stay = refl
+      by_kind kept =
+          rows-lines (is_in_rows r depth comma es) _
+          (open-lines (has_elements es) _ t (wide (has_broken_elements es || is_broken t) (ap (λ b. b || is_broken t) e ∙ g)) no_comments)
+      by_kind collapsed =
+          rows-lines (is_in_rows r depth comma es) _
+          (open-lines (has_elements es) _ t
+          (wide (elements_have_comments es || has_comments t) (ap (λ b. b || has_comments t) (elements-plain es h e) ∙ no_comments)) no_comments)
 
-    pairs-flat : (l : Layout) → is_lines l ≡ false → (i : Text) (comma first : Bool) (ps : Pairs) → ArePairs ps
-        → Flat (pairs_texts ps) → Flat (pairs_texts (laid_pairs r l i comma first ps))
-    pairs-flat l e i comma first no_pairs h f = f
-    pairs-flat l e i comma first (pair g v ps) h f =
-        let frame = frame_texts in_inline_tables in_inline_tables g (value_texts v) in
-        let parts = frame-parts g (value_texts v) (front frame _ f) in
-        let rest = back (placed punctuation (comma_text (has_pairs ps))) _ (back frame _ f) in
-        let before : Text = before_part r l first i one_space g.leading in
-        let after : Text = after_part r l (not (comma || has_pairs ps)) i (if has_pairs ps then [] else one_space) g.trailing in
-        both (frame-flat in_inline_tables in_inline_tables (laid_frame r before after g) (value_texts (laid_value r (inner_indent r l i) None v))
-        (within in_inline_tables before (before-unbroken r l first i one_space g.leading e refl parts.0))
-        (value-flat (inner_indent r l i) None v h.1 parts.1)
-        (within in_inline_tables after (after-unbroken r l (not (comma || has_pairs ps)) i (if has_pairs ps then [] else one_space) g.trailing e
-        (default-unbroken (has_pairs ps)) parts.2)))
-        (both (apart punctuation (comma_text (has_pairs (laid_pairs r l i comma false ps))) refl)
-        (pairs-flat l e i comma false ps h.2 rest))
+  inline-flat : (ps : Pairs) (t : Text) → IsWholeTrivia t → has_broken_pairs ps ≡ false → is_broken t ≡ false
+      → is_lines (inline_layout r ps t) ≡ false
+  inline-flat ps t w e g = by_test r.inline_tables
+    where
+      by_test : (b : Bool) → is_lines (if b then open_if (has_pairs ps) (has_broken_pairs ps || is_broken t) t else untouched) ≡ false
+      by_test true = open-lines (has_pairs ps) _ t (ap (λ x. x || is_broken t) e ∙ g) (comments-unbroken t w g)
+      by_test false = refl
+
+  module _ (pad : Path → ℕ) where
+    mutual
+      value-flat : (p : Path) (depth : ℕ) (room : Option ℕ) (v : Value) → IsValue v → Flat (value_texts v)
+          → Flat (value_texts (laid_value r pad p depth room v))
+      value-flat p depth room (scalar s t) h f = f
+      value-flat p depth room (array es comma t) h f =
+          let x = in_array r pad p depth room es comma t in
+          let all = back (placed punctuation (codes "[")) _ f in
+          let within_it : Flat (elements_texts es) = front (elements_texts es) _ all in
+          let close = back (placed in_arrays (comma_text comma)) _ (back (elements_texts es) _ all) in
+          let end : is_broken t ≡ false = unbroken in_arrays t refl (front (placed in_arrays t) _ close) in
+          let flat : FlatInside x =
+          inside-flat r (array_layout r depth room es comma t) p depth (has_elements es) r.bracket_space (last_pad r pad p (elements_count es))
+          comma (last_after es) t
+          (array-flat depth room es comma t h.1 (close-trivia (has_elements es) comma t h.0) (elements-unbroken es within_it) end) end in
+          both (apart punctuation (codes "[") refl)
+          (both (elements-flat x flat 0 (usual_pad r.comments) es h.1 within_it)
+          (both (within in_arrays _ (comma-unbroken x.comma))
+          (both (within in_arrays x.close flat.close) (apart punctuation (codes "]") refl))))
+      value-flat p depth room (inline_table ps comma t) h f =
+          let x = in_inline r pad p depth ps comma t in
+          let all = back (placed punctuation (codes "{")) _ f in
+          let within_it : Flat (pairs_texts ps) = front (pairs_texts ps) _ all in
+          let close = back (placed in_inline_tables (comma_text comma)) _ (back (pairs_texts ps) _ all) in
+          let end : is_broken t ≡ false = unbroken in_inline_tables t refl (front (placed in_inline_tables t) _ close) in
+          let flat : FlatInside x =
+          inside-flat r (inline_layout r ps t) p depth (has_pairs ps) r.brace_space (last_pad r pad p (pairs_count ps))
+          comma (last_trailing ps) t
+          (inline-flat ps t (close-trivia (has_pairs ps) comma t h.0) (pairs-unbroken ps within_it) end) end in
+          both (apart punctuation (codes "{") refl)
+          (both (pairs-flat x flat 0 (usual_pad r.comments) ps h.1 within_it)
+          (both (within in_inline_tables _ (comma-unbroken x.comma))
+          (both (within in_inline_tables x.close flat.close) (apart punctuation (codes "}") refl))))
+
+      elements-flat : (x : Inside) → FlatInside x → (i n : ℕ) (es : Elements) → AreElements es
+          → Flat (elements_texts es) → Flat (elements_texts (laid_elements r pad x i n es))
+      elements-flat x e i n no_elements h f = f
+      elements-flat x e i n (element a v es) h f =
+          let inner = back (placed in_arrays a.before) _ f in
+          let after = back (value_texts v) _ inner in
+          let rest = back (placed punctuation (comma_text (has_elements es))) _ (back (placed in_arrays a.after) _ after) in
+          both (within in_arrays _ (before-unbroken r x.layout n (i == 0) x.depth x.edge a.before e.lines e.edge
+          (unbroken in_arrays a.before refl (front (placed in_arrays a.before) _ f))))
+          (both (value-flat (to_element x.path i) (inner_depth x.layout x.depth) (inner_room r x.layout x.depth) v h.2 (front (value_texts v) _ inner))
+          (both (within in_arrays _ (end-unbroken r x (has_elements es) a.after e
+          (unbroken in_arrays a.after refl (front (placed in_arrays a.after) _ after))))
+          (both (apart punctuation (comma_text (has_elements (laid_elements r pad x (suc i) (pad (to_element x.path i)) es))) refl)
+          (elements-flat x e (suc i) (pad (to_element x.path i)) es h.3 rest))))
+
+      pairs-flat : (x : Inside) → FlatInside x → (i n : ℕ) (ps : Pairs) → ArePairs ps
+          → Flat (pairs_texts ps) → Flat (pairs_texts (laid_pairs r pad x i n ps))
+      pairs-flat x e i n no_pairs h f = f
+      pairs-flat x e i n (pair g v ps) h f =
+          let frame = frame_texts in_inline_tables in_inline_tables g (value_texts v) in
+          let parts = frame-parts g (value_texts v) (front frame _ f) in
+          let rest = back (placed punctuation (comma_text (has_pairs ps))) _ (back frame _ f) in
+          let before : Text = before_part r x.layout n (i == 0) x.depth x.edge g.leading in
+          let after : Text = after_part r x.layout (x.had_comma || has_pairs ps) x.depth g.trailing ++ (if has_pairs ps then [] else x.last) in
+          both (frame-flat in_inline_tables in_inline_tables (laid_frame r before after g)
+          (value_texts (laid_value r pad (to_element x.path i) (inner_depth x.layout x.depth) None v))
+          (within in_inline_tables before (before-unbroken r x.layout n (i == 0) x.depth x.edge g.leading e.lines e.edge parts.0))
+          (value-flat (to_element x.path i) (inner_depth x.layout x.depth) None v h.1 parts.1)
+          (within in_inline_tables after (end-unbroken r x (has_pairs ps) g.trailing e parts.2)))
+          (both (apart punctuation (comma_text (has_pairs (laid_pairs r pad x (suc i) (pad (to_element x.path i)) ps))) refl)
+          (pairs-flat x e (suc i) (pad (to_element x.path i)) ps h.2 rest))
 
 pub stays_on_one_line : StaysOnOneLine
-stays_on_one_line r no_width i room v h e = (value-flat r no_width i room v h (record { is = e })).is
+stays_on_one_line r no_width pad p depth room v h e = (value-flat r no_width pad p depth room v h (record { is = e })).is

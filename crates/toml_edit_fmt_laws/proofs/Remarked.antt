@@ -1,34 +1,33 @@
--- The comments of a formatted document are those of the document, each with what it belongs to.
-use Rattle.std.proofs.Common.{◌≡◌, refl, sym, ap, ◌∙◌, ℕ, suc, Bool, true, false, List, [], ◌∷◌, ◌++◌, drop, Option, Some, None, append_assoc}
-use Rattle.std.specs.Prelude.{◌⊎◌, ◌+◌, ◌==◌, ◌||◌, not, if◌then◌else◌, length, take}
+-- The comments of a formatted document are those of the document, each with what it belongs to and on its side.
+use Rattle.std.proofs.Common.{◌≡◌, refl, sym, ap, ◌∙◌, ℕ, suc, Bool, true, false, List, [], ◌∷◌, ◌++◌, drop, Option, Some, None, append_assoc, append-nil, inl, inr}
+use Rattle.std.specs.Prelude.{◌⊎◌, ◌==◌, ◌||◌, not, if◌then◌else◌, length, take}
 use Rattle.std.specs.List.{AllByRecursion, cons_option, filter_map, flat_map}
-use Rattle.std.proofs.lemmas.List.Folds.{list_any-append}
 use Rattle.toml_edit_model.specs.Comments.{comments, first_comment, lines}
 use Rattle.toml_edit_model.specs.Paths.{Path, to_element}
 use Rattle.toml_edit_model.specs.Print.{one_space}
-use Rattle.toml_edit_model.specs.Syntax.{Around, Frame, Value, scalar, array, inline_table, Elements, no_elements, element, Pairs, no_pairs, pair}
-use Rattle.toml_edit_model.specs.Syntax.{Statement, key_line, header, has_elements, has_pairs, IsValue, AreElements, ArePairs, IsStatement, AreStatements}
-use Rattle.toml_edit_model.specs.Text.{Text, is_empty, line_feed}
-use Rattle.toml_edit_model.specs.Trivia.{IsWhiteSpace, IsWholeTrivia, IsNewline}
+use Rattle.toml_edit_model.specs.Syntax.{Value, scalar, array, inline_table, Elements, no_elements, element, Pairs, no_pairs, pair}
+use Rattle.toml_edit_model.specs.Syntax.{Statement, key_line, header, has_elements, has_pairs, IsClose, IsValue, AreElements, ArePairs, IsStatement, AreStatements}
+use Rattle.toml_edit_model.specs.Text.{Text, is_empty}
+use Rattle.toml_edit_model.specs.Trivia.{IsWhiteSpace, IsWholeTrivia, IsFinalTrivia, IsNewline}
 use Rattle.toml_edit_laws.proofs.accepted_prints.PrintedValues.{whole-append}
 use Rattle.toml_edit_laws.proofs.common.Tests.{or-true, or-left, or-right}
 use Rattle.toml_edit_laws.proofs.common.Trivia.{close-trivia}
-use Rattle.toml_edit_fmt_laws.specs.Rules.{Rules, deeper, line_indent, header_indent}
-use Rattle.toml_edit_fmt_laws.specs.Laying.{is_broken, gap, line_rest, final_text}
-use Rattle.toml_edit_fmt_laws.specs.Formatted.{Layout, untouched, on_one_line, line_by_line, layout_by, array_layout, inline_layout, laid_comma}
-use Rattle.toml_edit_fmt_laws.specs.Formatted.{before_part, after_part, before_bracket, inner_indent, inner_room, last_after, last_trailing}
-use Rattle.toml_edit_fmt_laws.specs.Formatted.{has_broken_elements, has_broken_pairs, is_too_wide, elements_width, laid_value, laid_elements}
-use Rattle.toml_edit_fmt_laws.specs.Formatted.{laid_pairs, used_before, keys_below, laid_statement, laid_statements}
-use Rattle.toml_edit_fmt_laws.specs.Remarks.{bodies_in, remarks_at, gap_remarks, value_remarks, element_remarks, pair_remarks}
+use Rattle.toml_edit_fmt_laws.specs.Rules.{Rules, Arrays, arrays_stay, kept, collapsed, Commas, commas_stay, always, never, line_depth, header_depth}
+use Rattle.toml_edit_fmt_laws.specs.Laying.{is_broken, leading, gap, before_comma, line_rest, final_text, usual_pad}
+use Rattle.toml_edit_fmt_laws.specs.Formatted.{Layout, untouched, on_one_line, line_by_line, in_rows, open_if, rows_if, is_in_rows, array_layout_as, array_layout, inline_layout}
+use Rattle.toml_edit_fmt_laws.specs.Formatted.{has_comments, elements_have_comments, has_broken_elements, has_broken_pairs, open_comma}
+use Rattle.toml_edit_fmt_laws.specs.Formatted.{before_part, after_part, inside, inner_depth, inner_room, last_after, last_trailing}
+use Rattle.toml_edit_fmt_laws.specs.Formatted.{elements_count, pairs_count, last_pad, laid_frame, laid_value, laid_elements, laid_pairs, used_before}
+use Rattle.toml_edit_fmt_laws.specs.Formatted.{State, start, stays, reached, leading_of, after, laid_statement, lay, laid_statements, state_after, laid_final}
+use Rattle.toml_edit_fmt_laws.specs.Remarks.{Remark, Spot, spot, ahead, behind, opening, closing, bodies_in, remarks_at, gap_remarks, value_remarks, element_remarks, pair_remarks}
 use Rattle.toml_edit_fmt_laws.specs.Remarks.{statement_remarks, remarks_from}
 use Rattle.toml_edit_fmt_laws.specs.Promises.{KeepsRemarks}
 use Rattle.toml_edit_fmt_laws.proofs.Ends.{final-comments}
-use Rattle.toml_edit_fmt_laws.proofs.Rows.{Row, IsRow, rows_text, row_text, Rows, view, broken-row}
+use Rattle.toml_edit_fmt_laws.proofs.Rows.{Row, IsRow, rows_text, row_text, Rows, view, broken-row, white-whole, white-unbroken}
 use Rattle.toml_edit_fmt_laws.proofs.GapLaws.{gap-first, gap-below, first-lines, below-lines, comma-comments}
 use Rattle.toml_edit_fmt_laws.proofs.LeadingLaws.{leading-comments}
 use Rattle.toml_edit_fmt_laws.proofs.HeaderLaws.{header-comments}
 use Rattle.toml_edit_fmt_laws.proofs.LineRests.{rest-comments}
-use Rattle.toml_edit_fmt_laws.proofs.Again.{not-split, white-deeper, white-inner, white-line}
 
 -- ---- trivia without a newline has no comments
 
@@ -36,8 +35,8 @@ pub record NoBodies (t : Text) : Type 0 where
   pub first : bodies_in (take 1 (lines t)) ≡ []
   pub below : bodies_in (drop 1 (lines t)) ≡ []
 
-pub no-bodies : (r : Rules) (t : Text) → IsWholeTrivia t → is_broken t ≡ false → NoBodies t
-no-bodies r t h e = by_rows (view t h)
+pub no-bodies : (t : Text) → IsWholeTrivia t → is_broken t ≡ false → NoBodies t
+no-bodies t h e = by_rows (view t h)
   where
     by_rows : Rows t → NoBodies t
     by_rows v = by_list v.rows v.last v.all v.white v.is
@@ -45,8 +44,8 @@ no-bodies r t h e = by_rows (view t h)
         by_list : (rs : List Row) (l : Text) → AllByRecursion IsRow rs → IsWhiteSpace l → t ≡ rows_text rs l → NoBodies t
         by_list [] l a w is =
             record {
-              first = ap (λ u. bodies_in (take 1 (lines u))) is ∙ first-lines r [] l a w;
-              below = ap (λ u. bodies_in (drop 1 (lines u))) is ∙ below-lines r [] l a w;
+              first = ap (λ u. bodies_in (take 1 (lines u))) is ∙ first-lines [] l a w;
+              below = ap (λ u. bodies_in (drop 1 (lines u))) is ∙ below-lines [] l a w;
             }
         by_list (x ∷ xs) l a w is =
             absurd (let clash : true ≡ false = sym (ap is_broken (is ∙ assoc x xs l) ∙ broken-row x (rows_text xs l)) ∙ e in cc)
@@ -66,7 +65,7 @@ split-bodies t = by_lines (lines t)
         by_first None = refl
         by_first (Some b) = refl
 
-no-comments : (t : Text) → NoBodies t → comments t ≡ []
+pub no-comments : (t : Text) → NoBodies t → comments t ≡ []
 no-comments t h = split-bodies t ∙ ap (λ bs. bs ++ bodies_in (drop 1 (lines t))) h.first ∙ h.below
 
 empty-both : (t : Text) → comments t ≡ [] → NoBodies t
@@ -87,285 +86,392 @@ empty-both t h =
     right [] ys k = k
     right (x ∷ xs) ys k = absurd (let clash : x ∷ (xs ++ ys) ≡ [] = k in cc)
 
+white-none : (t : Text) → IsWhiteSpace t → NoBodies t
+white-none t h = no-bodies t (white-whole t h) (white-unbroken t h)
+
+-- by the tests of layouts
+pub silent : (t : Text) → has_comments t ≡ false → NoBodies t
+silent t e = empty-both t (by_list (comments t) e)
+  where
+    by_list : (cs : List Text) → not (is_empty cs) ≡ false → cs ≡ []
+    by_list [] k = refl
+    by_list (c ∷ cs) k = cc
+
+-- ---- what a layout on one line says
+
+abbrev pub QuietElements : Elements → Type 0
+QuietElements no_elements = Unit {0}
+QuietElements (element a v es) = NoBodies a.before × NoBodies a.after × QuietElements es
+
+abbrev pub QuietPairs : Pairs → Type 0
+QuietPairs no_pairs = Unit {0}
+QuietPairs (pair f v ps) = NoBodies f.leading × NoBodies f.trailing × QuietPairs ps
+
+unbroken-quiet : (es : Elements) → AreElements es → has_broken_elements es ≡ false → QuietElements es
+unbroken-quiet no_elements h e = tt
+unbroken-quiet (element a v es) h e =
+    let both = or-left (is_broken a.before || is_broken a.after) (has_broken_elements es) e in (
+      no-bodies a.before h.0 (or-left (is_broken a.before) _ both),
+      no-bodies a.after h.1 (or-right (is_broken a.before) _ both),
+      unbroken-quiet es h.3 (or-right _ (has_broken_elements es) e),
+    )
+
+silent-quiet : (es : Elements) → elements_have_comments es ≡ false → QuietElements es
+silent-quiet no_elements e = tt
+silent-quiet (element a v es) e =
+    let both = or-left (has_comments a.before || has_comments a.after) (elements_have_comments es) e in (
+      silent a.before (or-left (has_comments a.before) _ both),
+      silent a.after (or-right (has_comments a.before) _ both),
+      silent-quiet es (or-right _ (elements_have_comments es) e),
+    )
+
+pairs-quiet : (ps : Pairs) → ArePairs ps → has_broken_pairs ps ≡ false → QuietPairs ps
+pairs-quiet no_pairs h e = tt
+pairs-quiet (pair f v ps) h e =
+    let both = or-left (is_broken f.leading || is_broken f.trailing) (has_broken_pairs ps) e in (
+      no-bodies f.leading h.0.0.leading (or-left (is_broken f.leading) _ both),
+      no-bodies f.trailing h.0.0.trailing (or-right (is_broken f.leading) _ both),
+      pairs-quiet ps h.2 (or-right _ (has_broken_pairs ps) e),
+    )
+
+rows-one : (asked : Bool) (l : Layout) → rows_if asked l ≡ on_one_line → l ≡ on_one_line
+rows-one true line_by_line e = cc
+rows-one false line_by_line e = cc
+rows-one asked in_rows e = e
+rows-one asked untouched e = e
+rows-one asked on_one_line e = e
+
+open-one : (has asked : Bool) (t : Text) → open_if has asked t ≡ on_one_line → (if has then asked else has_comments t) ≡ false
+open-one has asked t e = by_test (if has then asked else has_comments t) e
+  where
+    by_test : (b : Bool) → (if b then line_by_line else on_one_line) ≡ on_one_line → b ≡ false
+    by_test true k = cc
+    by_test false k = refl
+
+none-one : (t : Text) → (if has_comments t then line_by_line else on_one_line) ≡ on_one_line → has_comments t ≡ false
+none-one t e = open-one false false t e
+
+module _ (r : Rules) where
+  array-quiet : (depth : ℕ) (room : Option ℕ) (es : Elements) (comma : Bool) (t : Text) → AreElements es → IsWholeTrivia t
+      → array_layout r depth room es comma t ≡ on_one_line → QuietElements es × NoBodies t
+  array-quiet depth room no_elements comma t h w e = (tt, by_kind r.arrays e)
+    where
+      by_kind : (a : Arrays) → array_layout_as a r depth room no_elements comma t ≡ on_one_line → NoBodies t
+      by_kind arrays_stay k = absurd (let clash : untouched ≡ on_one_line = k in cc)
+      by_kind kept k = silent t (none-one t (rows-one (is_in_rows r depth comma no_elements) _ k))
+      by_kind collapsed k = silent t (none-one t (rows-one (is_in_rows r depth comma no_elements) _ k))
+  array-quiet depth room (element a v es) comma t h w e = by_kind r.arrays e
+    where
+      xs : Elements
+      xs = element a v es
+
+      by_kind : (k : Arrays) → array_layout_as k r depth room xs comma t ≡ on_one_line → QuietElements xs × NoBodies t
+      by_kind arrays_stay k = absurd (let clash : untouched ≡ on_one_line = k in cc)
+      by_kind kept k =
+          let none = or-left (has_broken_elements xs || is_broken t) _ (open-one true _ t (rows-one _ _ k)) in
+          (unbroken-quiet xs h (or-left (has_broken_elements xs) _ none), no-bodies t w (or-right (has_broken_elements xs) _ none))
+      by_kind collapsed k =
+          let none = or-left (elements_have_comments xs || has_comments t) _ (open-one true _ t (rows-one _ _ k)) in
+          (silent-quiet xs (or-left (elements_have_comments xs) _ none), silent t (or-right (elements_have_comments xs) _ none))
+
+  inline-quiet : (ps : Pairs) (t : Text) → ArePairs ps → IsWholeTrivia t → inline_layout r ps t ≡ on_one_line → QuietPairs ps × NoBodies t
+  inline-quiet no_pairs t h w e = (tt, by_test r.inline_tables e)
+    where
+      by_test : (b : Bool) → (if b then open_if false (false || is_broken t) t else untouched) ≡ on_one_line → NoBodies t
+      by_test true k = silent t (none-one t k)
+      by_test false k = absurd (let clash : untouched ≡ on_one_line = k in cc)
+  inline-quiet (pair f v ps) t h w e = by_test r.inline_tables e
+    where
+      xs : Pairs
+      xs = pair f v ps
+
+      by_test : (b : Bool) → (if b then open_if true (has_broken_pairs xs || is_broken t) t else untouched) ≡ on_one_line
+          → QuietPairs xs × NoBodies t
+      by_test true k =
+          let none = open-one true _ t k in
+          (pairs-quiet xs h (or-left (has_broken_pairs xs) _ none), no-bodies t w (or-right (has_broken_pairs xs) _ none))
+      by_test false k = absurd (let clash : untouched ≡ on_one_line = k in cc)
+
+-- a comma goes only where no comment is before it
+pub comma-none : (c : Commas) (after : Text) → open_comma c true true after ≡ false → NoBodies after
+comma-none commas_stay after e = cc
+comma-none always after e = cc
+comma-none never after e = silent after e
+
 module _ (r : Rules) (n : ℕ) where
-  at-none : (p : Path) (t : Text) → NoBodies t → remarks_at n p (comments t) ≡ []
+  at-none : (p : Spot) (t : Text) → NoBodies t → remarks_at n p (comments t) ≡ []
   at-none p t h = ap (remarks_at n p) (no-comments t h)
 
-  gap-none : (p q : Path) (t : Text) → NoBodies t → gap_remarks n p q t ≡ []
+  gap-none : (p q : Spot) (t : Text) → NoBodies t → gap_remarks n p q t ≡ []
   gap-none p q t h =
       ap (λ bs. remarks_at n p bs ++ remarks_at n q (bodies_in (drop 1 (lines t)))) h.first ∙ ap (remarks_at n q) h.below
 
-  gap-laid : (s e : Bool) (i last t : Text) (p q : Path) → IsWhiteSpace i → IsWhiteSpace last → IsWholeTrivia t
-      → gap_remarks n p q (gap r s e i last t) ≡ gap_remarks n p q t
-  gap-laid s e i last t p q w v h =
-      ap (λ bs. remarks_at n p bs ++ remarks_at n q (bodies_in (drop 1 (lines (gap r s e i last t))))) (gap-first r s e i last t w v h)
-      ∙ ap (λ bs. remarks_at n p (bodies_in (take 1 (lines t))) ++ remarks_at n q bs) (gap-below r s e i last t w v h)
+  gap-laid : (k : ℕ) (s e : Bool) (depth last : ℕ) (t : Text) (p q : Spot) → IsWholeTrivia t
+      → gap_remarks n p q (gap r k s e depth last t) ≡ gap_remarks n p q t
+  gap-laid k s e depth last t p q h =
+      ap (λ bs. remarks_at n p bs ++ remarks_at n q (bodies_in (drop 1 (lines (gap r k s e depth last t))))) (gap-first r k s e depth last t h)
+      ∙ ap (λ bs. remarks_at n p (bodies_in (take 1 (lines t))) ++ remarks_at n q bs) (gap-below r k s e depth last t h)
 
   -- ---- parts
 
-  default-none : (b : Bool) (p q : Path) → gap_remarks n p q (if b then [] else one_space) ≡ []
-  default-none true p q = refl
-  default-none false p q = refl
+  if-none : (b : Bool) (s t : Text) → NoBodies s → NoBodies t → NoBodies (if b then s else t)
+  if-none true s t h g = h
+  if-none false s t h g = g
 
-  default-gap : (b : Bool) (p q : Path) → gap_remarks n p q ((if b then [] else one_space) ++ []) ≡ []
-  default-gap true p q = refl
-  default-gap false p q = refl
-
-  default-at : (b : Bool) (p : Path) → remarks_at n p (comments (if b then [] else one_space)) ≡ []
-  default-at true p = refl
-  default-at false p = refl
-
-  -- on one line there is no newline
-  abbrev pub FlatText : Layout → Text → Type 0
-  FlatText untouched t = Unit {0}
-  FlatText on_one_line t = is_broken t ≡ false
-  FlatText line_by_line t = Unit {0}
-
-  before-kept : (l : Layout) (first b : Bool) (i t : Text) (p q : Path) → IsWhiteSpace i → IsWholeTrivia t → FlatText l t
-      → gap_remarks n p q (before_part r l first i (if b then [] else one_space) t) ≡ gap_remarks n p q t
-  before-kept untouched first b i t p q w h f = refl
-  before-kept on_one_line first b i t p q w h f = default-none b p q ∙ sym (gap-none p q t (no-bodies r t h f))
-  before-kept line_by_line first b i t p q w h f =
-      gap-laid first false (deeper r i) (deeper r i) t p q (white-deeper r i w) (white-deeper r i w) h
-
-  after-kept : (l : Layout) (b : Bool) (i t : Text) (p : Path) → IsWhiteSpace i → IsWholeTrivia t → FlatText l t
-      → remarks_at n p (comments (after_part r l false i (if b then [] else one_space) t)) ≡ remarks_at n p (comments t)
-  after-kept untouched b i t p w h f = refl
-  after-kept on_one_line b i t p w h f = default-at b p ∙ sym (at-none p t (no-bodies r t h f))
-  after-kept line_by_line b i t p w h f = ap (remarks_at n p) (comma-comments r (deeper r i) t (white-deeper r i w) h)
-
-  unbroken-both : (x t : Text) → is_broken x ≡ false → is_broken t ≡ false → is_broken (x ++ t) ≡ false
-  unbroken-both x t e g = list_any-append (λ c. c == line_feed) x t ∙ ap (λ b. b || is_broken t) e ∙ g
-
-  -- what is after the last and before the bracket
-  end-kept : (l : Layout) (comma b : Bool) (i x t : Text) (here p : Path) → IsWhiteSpace i → IsWholeTrivia x → IsWholeTrivia t
-      → FlatText l x → FlatText l t
-      → (if laid_comma l true comma || false
-      then remarks_at n here (comments (after_part r l (not (comma || false)) i (if b then [] else one_space) x))
-      ++ gap_remarks n here p (before_bracket r l true i (if comma then [] else x) t)
-      else gap_remarks n here p (after_part r l (not (comma || false)) i (if b then [] else one_space) x
-      ++ before_bracket r l true i (if comma then [] else x) t))
-      ≡ (if comma || false then remarks_at n here (comments x) ++ gap_remarks n here p t else gap_remarks n here p (x ++ t))
-  end-kept untouched true b i x t here p w h g e f = refl
-  end-kept untouched false b i x t here p w h g e f = refl
-  end-kept on_one_line true b i x t here p w h g e f =
-      default-gap b here p
-      ∙ sym (ap (λ xs. xs ++ gap_remarks n here p t) (at-none here x (no-bodies r x h e)) ∙ gap-none here p t (no-bodies r t g f))
-  end-kept on_one_line false b i x t here p w h g e f =
-      default-gap b here p
-      ∙ sym (gap-none here p (x ++ t) (no-bodies r (x ++ t) (whole-append x t h g) (unbroken-both x t e f)))
-  end-kept line_by_line true b i x t here p w h g e f =
-      ap (λ cs. remarks_at n here cs ++ gap_remarks n here p (gap r false true (deeper r i) i t))
-      (comma-comments r (deeper r i) x (white-deeper r i w) h)
-      ∙ ap (λ xs. remarks_at n here (comments x) ++ xs) (gap-laid false true (deeper r i) i t here p (white-deeper r i w) w g)
-  end-kept line_by_line false b i x t here p w h g e f =
-      gap-laid false true (deeper r i) i (x ++ t) here p (white-deeper r i w) w (whole-append x t h g)
-
-  -- ---- what is flat
-
-  abbrev pub FlatElements : Layout → Elements → Text → Type 0
-  FlatElements untouched es t = Unit {0}
-  FlatElements on_one_line es t = (has_broken_elements es ≡ false) × (is_broken t ≡ false)
-  FlatElements line_by_line es t = Unit {0}
-
-  abbrev pub FlatPairs : Layout → Pairs → Text → Type 0
-  FlatPairs untouched ps t = Unit {0}
-  FlatPairs on_one_line ps t = (has_broken_pairs ps ≡ false) × (is_broken t ≡ false)
-  FlatPairs line_by_line ps t = Unit {0}
-
-  flat-array : (room : Option ℕ) (es : Elements) (t : Text) → has_elements es ≡ true → FlatElements (array_layout r room es t) es t
-  flat-array room es t some = by_layout (array_layout r room es t) refl
+  before-kept : (l : Layout) (k : ℕ) (first : Bool) (depth : ℕ) (edge t : Text) (p q : Spot) → NoBodies edge → IsWholeTrivia t
+      → (l ≡ on_one_line → NoBodies t)
+      → gap_remarks n p q (before_part r l k first depth edge t) ≡ gap_remarks n p q t
+  before-kept untouched k first depth edge t p q w h f = refl
+  before-kept on_one_line k first depth edge t p q w h f =
+      gap-none p q _ (if-none first edge one_space w (white-none one_space refl)) ∙ sym (gap-none p q t (f refl))
+  before-kept line_by_line k first depth edge t p q w h f = gap-laid k first false (suc depth) (suc depth) t p q h
+  before-kept in_rows k first depth edge t p q w h f = by_test (first || is_broken t) refl
     where
-      by_layout : (m : Layout) → array_layout r room es t ≡ m → FlatElements m es t
-      by_layout untouched e = tt
-      by_layout line_by_line e = tt
-      by_layout on_one_line e =
-          let none = not-split r.arrays (has_broken_elements es || is_too_wide r room (2 + elements_width es)) t
-          (sym (ap (λ b. layout_by r.arrays b (has_broken_elements es || is_too_wide r room (2 + elements_width es)) t) some) ∙ e) in
-          (or-left (has_broken_elements es) _ (or-left _ (is_broken t) none), or-right _ (is_broken t) none)
+      by_test : (b : Bool) → (first || is_broken t) ≡ b
+          → gap_remarks n p q (if b then gap r k first false (suc depth) (suc depth) t else one_space) ≡ gap_remarks n p q t
+      by_test true e = gap-laid k first false (suc depth) (suc depth) t p q h
+      by_test false e =
+          gap-none p q one_space (white-none one_space refl) ∙ sym (gap-none p q t (no-bodies t h (or-right first (is_broken t) e)))
 
-  flat-inline : (ps : Pairs) (t : Text) → has_pairs ps ≡ true → FlatPairs (inline_layout r ps t) ps t
-  flat-inline ps t some = by_layout (inline_layout r ps t) refl
+  -- where a comma follows
+  after-kept : (l : Layout) (depth : ℕ) (t : Text) (p : Spot) → IsWholeTrivia t → (l ≡ on_one_line → NoBodies t)
+      → remarks_at n p (comments (after_part r l true depth t)) ≡ remarks_at n p (comments t)
+  after-kept untouched depth t p h f = refl
+  after-kept on_one_line depth t p h f = sym (at-none p t (f refl))
+  after-kept line_by_line depth t p h f = ap (remarks_at n p) (comma-comments r (suc depth) t h)
+  after-kept in_rows depth t p h f = ap (remarks_at n p) (comma-comments r (suc depth) t h)
+
+  -- what is after the last member and before the bracket, with a comma between both or none
+  abbrev end_remarks : Spot → Spot → Bool → Text → Text → List Remark
+  end_remarks p q comma s t =
+      if comma || false then remarks_at n p (comments s) ++ gap_remarks n p q t else gap_remarks n p q (s ++ t)
+
+  open-kept : (k depth : ℕ) (p q : Spot) (c d : Bool) (s t : Text) → IsWholeTrivia s → IsWholeTrivia t
+      → (c ≡ true → d ≡ false → NoBodies s)
+      → let u = gap r k false true (suc depth) depth (if c || false then t else s ++ t) in
+      end_remarks p q d ((if c || false then before_comma r (suc depth) s else []) ++ (if d || false then [] else u)) (if d || false then u else [])
+      ≡ end_remarks p q c s t
+  open-kept k depth p q true true s t h g f =
+      ap (λ u. remarks_at n p (comments u) ++ gap_remarks n p q (gap r k false true (suc depth) depth t)) (append-nil (before_comma r (suc depth) s))
+      ∙ ap (λ cs. remarks_at n p cs ++ gap_remarks n p q (gap r k false true (suc depth) depth t)) (comma-comments r (suc depth) s h)
+      ∙ ap (λ xs. remarks_at n p (comments s) ++ xs) (gap-laid k false true (suc depth) depth t p q g)
+  open-kept k depth p q true false s t h g f =
+      let none = f refl refl in
+      let u = gap r k false true (suc depth) depth t in
+      ap (λ cs. gap_remarks n p q (((if is_empty cs then [] else gap r (usual_pad r.comments) false false (suc depth) (suc depth) s) ++ u) ++ [])) (no-comments s none)
+      ∙ ap (gap_remarks n p q) (append-nil u)
+      ∙ gap-laid k false true (suc depth) depth t p q g
+      ∙ sym (ap (λ xs. xs ++ gap_remarks n p q t) (at-none p s none))
+  open-kept k depth p q false true s t h g f = gap-laid k false true (suc depth) depth (s ++ t) p q (whole-append s t h g)
+  open-kept k depth p q false false s t h g f =
+      ap (gap_remarks n p q) (append-nil (gap r k false true (suc depth) depth (s ++ t)))
+      ∙ gap-laid k false true (suc depth) depth (s ++ t) p q (whole-append s t h g)
+
+  end-kept : (l : Layout) (o : Path) (depth : ℕ) (space : Bool) (k : ℕ) (comma : Bool) (s t : Text) (p q : Spot) → IsWholeTrivia s
+      → IsClose true comma t → (l ≡ on_one_line → NoBodies s × NoBodies t)
+      → let x = inside r l o depth true space k comma s t in
+      end_remarks p q x.comma (after_part r l (comma || false) depth s ++ x.last) x.close ≡ end_remarks p q comma s t
+  end-kept untouched o depth space k comma s t p q h g f = ap (λ u. end_remarks p q comma u t) (append-nil s)
+  end-kept on_one_line o depth space k comma s t p q h g f =
+      gap-none p q _ (edge-none space) ∙ sym (by_comma comma g (f refl))
     where
-      by_layout : (m : Layout) → inline_layout r ps t ≡ m → FlatPairs m ps t
-      by_layout untouched e = tt
-      by_layout line_by_line e = tt
-      by_layout on_one_line e =
-          let none = not-split r.inline_tables (has_broken_pairs ps) t
-          (sym (ap (λ b. layout_by r.inline_tables b (has_broken_pairs ps) t) some) ∙ e) in
-          (or-left (has_broken_pairs ps) (is_broken t) none, or-right (has_broken_pairs ps) (is_broken t) none)
+      edge-none : (b : Bool) → NoBodies ((if b then one_space else []) ++ [])
+      edge-none true = white-none one_space refl
+      edge-none false = white-none [] refl
 
-  flat-before : (l : Layout) (a : Around) (v : Value) (es : Elements) (t : Text) → FlatElements l (element a v es) t
-      → FlatText l a.before × FlatText l a.after × FlatText l t × FlatElements l es t
-  flat-before untouched a v es t h = (tt, tt, tt, tt)
-  flat-before line_by_line a v es t h = (tt, tt, tt, tt)
-  flat-before on_one_line a v es t h =
-      let both = or-left (is_broken a.before || is_broken a.after) (has_broken_elements es) h.0 in
-      (or-left (is_broken a.before) _ both, or-right (is_broken a.before) _ both, h.1, (or-right _ (has_broken_elements es) h.0, h.1))
+      by_comma : (c : Bool) → IsClose true c t → NoBodies s × NoBodies t → end_remarks p q c s t ≡ []
+      by_comma true i e = ap (λ xs. xs ++ gap_remarks n p q t) (at-none p s e.0) ∙ gap-none p q t e.1
+      by_comma false (w, inl i) e = absurd (let clash : true ≡ false = i in cc)
+      by_comma false (w, inr i) e =
+          ap (λ u. gap_remarks n p q (s ++ u)) i ∙ ap (gap_remarks n p q) (append-nil s) ∙ gap-none p q s e.0
+  end-kept line_by_line o depth space k comma s t p q h g f =
+      open-kept k depth p q comma (open_comma r.commas true comma s) s t h (close-trivia true comma t g)
+      (λ e i. comma-none r.commas s (sym (ap (λ c. open_comma r.commas true c s) e) ∙ i))
+  end-kept in_rows o depth space k comma s t p q h g f =
+      open-kept k depth p q comma (open_comma r.commas true comma s) s t h (close-trivia true comma t g)
+      (λ e i. comma-none r.commas s (sym (ap (λ c. open_comma r.commas true c s) e) ∙ i))
 
-  flat-pair : (l : Layout) (f : Frame) (v : Value) (ps : Pairs) (t : Text) → FlatPairs l (pair f v ps) t
-      → FlatText l f.leading × FlatText l f.trailing × FlatText l t × FlatPairs l ps t
-  flat-pair untouched f v ps t h = (tt, tt, tt, tt)
-  flat-pair line_by_line f v ps t h = (tt, tt, tt, tt)
-  flat-pair on_one_line f v ps t h =
-      let both = or-left (is_broken f.leading || is_broken f.trailing) (has_broken_pairs ps) h.0 in
-      (or-left (is_broken f.leading) _ both, or-right (is_broken f.leading) _ both, h.1, (or-right _ (has_broken_pairs ps) h.0, h.1))
+  -- nothing is between the brackets
+  none-kept : (l : Layout) (o : Path) (depth : ℕ) (space : Bool) (k : ℕ) (comma : Bool) (t : Text) (p q : Spot) → IsClose false comma t
+      → (l ≡ on_one_line → NoBodies t) → gap_remarks n p q (inside r l o depth false space k comma [] t).close ≡ gap_remarks n p q t
+  none-kept untouched o depth space k comma t p q h f = refl
+  none-kept on_one_line o depth space k comma t p q h f = gap-none p q [] (white-none [] refl) ∙ sym (gap-none p q t (f refl))
+  none-kept line_by_line o depth space k comma t p q h f =
+      ap (λ b. gap_remarks n p q (if b then gap r k true true (suc depth) depth (if comma || true then t else [] ++ t) else []))
+      (or-true (open_comma r.commas false comma []))
+      ∙ ap (λ b. gap_remarks n p q (gap r k true true (suc depth) depth (if b then t else [] ++ t))) (or-true comma)
+      ∙ gap-laid k true true (suc depth) depth t p q (close-trivia false comma t h)
+  none-kept in_rows o depth space k comma t p q h f =
+      ap (λ b. gap_remarks n p q (if b then gap r k true true (suc depth) depth (if comma || true then t else [] ++ t) else []))
+      (or-true (open_comma r.commas false comma []))
+      ∙ ap (λ b. gap_remarks n p q (gap r k true true (suc depth) depth (if b then t else [] ++ t))) (or-true comma)
+      ∙ gap-laid k true true (suc depth) depth t p q (close-trivia false comma t h)
 
-  -- nothing between the brackets
-  none-kept : (asked split : Bool) (i t : Text) (p : Path) → IsWhiteSpace i → IsWholeTrivia t
-      → gap_remarks n p p (before_bracket r (layout_by asked false split t) false i [] t) ≡ gap_remarks n p p t
-  none-kept false split i t p w h = refl
-  none-kept true split i t p w h = by_comments (comments t) refl
-    where
-      by_comments : (cs : List Text) → comments t ≡ cs
-          → gap_remarks n p p (before_bracket r (if not (is_empty cs) then line_by_line else on_one_line) false i [] t) ≡ gap_remarks n p p t
-      by_comments [] e = sym (gap-none p p t (empty-both t e))
-      by_comments (c ∷ cs) e = gap-laid true true (deeper r i) i t p p (white-deeper r i w) w h
+  edge-none : (b : Bool) → NoBodies (if b then one_space else [])
+  edge-none true = white-none one_space refl
+  edge-none false = white-none [] refl
 
   -- ---- values
 
-  mutual
-    value-kept : (i : Text) (room : Option ℕ) (v : Value) (p : Path) → IsWhiteSpace i → IsValue v
-        → value_remarks n (laid_value r i room v) p ≡ value_remarks n v p
-    value-kept i room (scalar s t) p w h = refl
-    value-kept i room (array no_elements comma t) p w h =
-        none-kept r.arrays (is_too_wide r room 2) i t p w (close-trivia false comma t h.0)
-    value-kept i room (array (element a v es) comma t) p w h =
-        elements-kept (array_layout r room (element a v es) t) i comma true p p 0 t (element a v es) w h.1 (close-trivia true comma t h.0)
-        (flat-array room (element a v es) t refl) refl
-    value-kept i room (inline_table no_pairs comma t) p w h =
-        none-kept r.inline_tables false i t p w (close-trivia false comma t h.0)
-    value-kept i room (inline_table (pair f v ps) comma t) p w h =
-        pairs-kept (inline_layout r (pair f v ps) t) i comma true p p 0 t (pair f v ps) w h.1 (close-trivia true comma t h.0)
-        (flat-inline (pair f v ps) t refl) refl
+  module _ (pad : Path → ℕ) where
+    mutual
+      value-kept : (p : Path) (depth : ℕ) (room : Option ℕ) (v : Value) → IsValue v
+          → value_remarks n (laid_value r pad p depth room v) p ≡ value_remarks n v p
+      value-kept p depth room (scalar s t) h = refl
+      value-kept p depth room (array no_elements comma t) h =
+          none-kept (array_layout r depth room no_elements comma t) p depth r.bracket_space (last_pad r pad p 0) comma t _ _ h.0
+          (λ e. (array-quiet r depth room no_elements comma t h.1 (close-trivia false comma t h.0) e).1)
+      value-kept p depth room (array (element a v es) comma t) h =
+          elements-kept (array_layout r depth room (element a v es) comma t) p depth r.bracket_space (last_pad r pad p (suc (elements_count es)))
+          comma t (spot opening p) 0 (usual_pad r.comments) (element a v es) h.1 h.0
+          (array-quiet r depth room (element a v es) comma t h.1 (close-trivia true comma t h.0)) refl
+      value-kept p depth room (inline_table no_pairs comma t) h =
+          none-kept (inline_layout r no_pairs t) p depth r.brace_space (last_pad r pad p 0) comma t _ _ h.0
+          (λ e. (inline-quiet r no_pairs t h.1 (close-trivia false comma t h.0) e).1)
+      value-kept p depth room (inline_table (pair f v ps) comma t) h =
+          pairs-kept (inline_layout r (pair f v ps) t) p depth r.brace_space (last_pad r pad p (suc (pairs_count ps)))
+          comma t (spot opening p) 0 (usual_pad r.comments) (pair f v ps) h.1 h.0
+          (inline-quiet r (pair f v ps) t h.1 (close-trivia true comma t h.0)) refl
 
-    elements-kept : (l : Layout) (i : Text) (comma first : Bool) (p b : Path) (k : ℕ) (t : Text) (es : Elements) → IsWhiteSpace i
-        → AreElements es → IsWholeTrivia t → FlatElements l es t → has_elements es ≡ true
-        → element_remarks n p b k (laid_comma l true comma) (before_bracket r l true i (last_after comma es) t)
-        (laid_elements r l i comma first es)
-        ≡ element_remarks n p b k comma t es
-    elements-kept l i comma first p b k t no_elements w h g f some = absurd (let clash : false ≡ true = some in cc)
-    elements-kept l i comma first p b k t (element a v no_elements) w h g f some =
-        let here = to_element p k in
-        let flat = flat-before l a v no_elements t f in
-        let v' = laid_value r (inner_indent r l i) (inner_room r l i) v in
-        let end = after_part r l (not (comma || false)) i [] a.after in
-        let u = before_bracket r l true i (if comma then [] else a.after) t in
-        let last = if laid_comma l true comma || false then remarks_at n here (comments end) ++ gap_remarks n here p u
-        else gap_remarks n here p (end ++ u) in
-        ap (λ xs. xs ++ (value_remarks n v' here ++ last)) (before-kept l first first i a.before b here w h.0 flat.0)
-        ∙ ap (λ xs. gap_remarks n b here a.before ++ (xs ++ last))
-        (value-kept (inner_indent r l i) (inner_room r l i) v here (white-inner r l i w) h.2)
-        ∙ ap (λ xs. gap_remarks n b here a.before ++ (value_remarks n v here ++ xs))
-        (end-kept l comma true i a.after t here p w h.1 g flat.1 flat.2)
-    elements-kept l i comma first p b k t (element a v (element c x es)) w h g f some =
-        let here = to_element p k in
-        let rest = element c x es in
-        let flat = flat-before l a v rest t f in
-        let v' = laid_value r (inner_indent r l i) (inner_room r l i) v in
-        let cc' = laid_comma l true comma in
-        let u = before_bracket r l true i (last_after comma rest) t in
-        let more = element_remarks n p here (suc k) cc' u (laid_elements r l i comma false rest) in
-        let other = gap_remarks n here p (after_part r l (not (comma || true)) i [] a.after ++ u) in
-        ap (λ z. gap_remarks n b here (before_part r l first i (if first then [] else one_space) a.before)
-        ++ (value_remarks n v' here ++ (if z
-        then remarks_at n here (comments (after_part r l (not (comma || true)) i [] a.after)) ++ more else other))) (or-true cc')
-        ∙ ap (λ z. gap_remarks n b here (before_part r l first i (if first then [] else one_space) a.before)
-        ++ (value_remarks n v' here ++ (remarks_at n here (comments (after_part r l (not z) i [] a.after)) ++ more))) (or-true comma)
-        ∙ ap (λ xs. xs ++ (value_remarks n v' here ++ (remarks_at n here (comments (after_part r l false i [] a.after)) ++ more)))
-        (before-kept l first first i a.before b here w h.0 flat.0)
-        ∙ ap (λ xs. gap_remarks n b here a.before ++ (xs ++ (remarks_at n here (comments (after_part r l false i [] a.after)) ++ more)))
-        (value-kept (inner_indent r l i) (inner_room r l i) v here (white-inner r l i w) h.2)
-        ∙ ap (λ xs. gap_remarks n b here a.before ++ (value_remarks n v here ++ (xs ++ more)))
-        (after-kept l true i a.after here w h.1 flat.1)
-        ∙ ap (λ xs. gap_remarks n b here a.before ++ (value_remarks n v here ++ (remarks_at n here (comments a.after) ++ xs)))
-        (elements-kept l i comma false p here (suc k) t (element c x es) w h.3 g flat.3 refl)
-        ∙ ap (λ z. gap_remarks n b here a.before ++ (value_remarks n v here ++ (if z
-        then remarks_at n here (comments a.after) ++ element_remarks n p here (suc k) comma t rest
-        else gap_remarks n here p (a.after ++ t)))) (sym (or-true comma))
+      elements-kept : (l : Layout) (p : Path) (depth : ℕ) (space : Bool) (k : ℕ) (comma : Bool) (t : Text) (b : Spot) (i m : ℕ) (es : Elements)
+          → AreElements es → IsClose true comma t → (l ≡ on_one_line → QuietElements es × NoBodies t) → has_elements es ≡ true
+          → let x = inside r l p depth true space k comma (last_after es) t in
+          element_remarks n p b i x.comma x.close (laid_elements r pad x i m es) ≡ element_remarks n p b i comma t es
+      elements-kept l p depth space k comma t b i m no_elements h g f some = absurd (let clash : false ≡ true = some in cc)
+      elements-kept l p depth space k comma t b i m (element a v no_elements) h g f some =
+          let here = to_element p i in
+          let x = inside r l p depth true space k comma a.after t in
+          let w = laid_value r pad here (inner_depth l depth) (inner_room r l depth) v in
+          let end = end_remarks (spot behind here) (spot closing p) x.comma (after_part r l (comma || false) depth a.after ++ x.last) x.close in
+          ap (λ xs. xs ++ (value_remarks n w here ++ end))
+          (before-kept l m (i == 0) depth x.edge a.before b (spot ahead here) (edge-none space) h.0 (λ e. (f e).0.0))
+          ∙ ap (λ xs. gap_remarks n b (spot ahead here) a.before ++ (xs ++ end)) (value-kept here (inner_depth l depth) (inner_room r l depth) v h.2)
+          ∙ ap (λ xs. gap_remarks n b (spot ahead here) a.before ++ (value_remarks n v here ++ xs))
+          (end-kept l p depth space k comma a.after t (spot behind here) (spot closing p) h.1 g (λ e. ((f e).0.1, (f e).1)))
+      elements-kept l p depth space k comma t b i m (element a v (element c u es)) h g f some =
+          let here = to_element p i in
+          let rest = element c u es in
+          let x = inside r l p depth true space k comma (last_after rest) t in
+          let w = laid_value r pad here (inner_depth l depth) (inner_room r l depth) v in
+          let before = before_part r l m (i == 0) depth x.edge a.before in
+          let after_it = λ (z : Bool). after_part r l z depth a.after ++ [] in
+          let more = element_remarks n p (spot behind here) (suc i) x.comma x.close (laid_elements r pad x (suc i) (pad here) rest) in
+          let other = gap_remarks n (spot behind here) (spot closing p) (after_it (comma || true) ++ x.close) in
+          ap (λ z. gap_remarks n b (spot ahead here) before ++ (value_remarks n w here ++ (if z
+          then remarks_at n (spot behind here) (comments (after_it (comma || true))) ++ more else other))) (or-true x.comma)
+          ∙ ap (λ z. gap_remarks n b (spot ahead here) before ++ (value_remarks n w here
+          ++ (remarks_at n (spot behind here) (comments (after_it z)) ++ more))) (or-true comma)
+          ∙ ap (λ y. gap_remarks n b (spot ahead here) before ++ (value_remarks n w here
+          ++ (remarks_at n (spot behind here) (comments y) ++ more))) (append-nil (after_part r l true depth a.after))
+          ∙ ap (λ xs. xs ++ (value_remarks n w here ++ (remarks_at n (spot behind here) (comments (after_part r l true depth a.after)) ++ more)))
+          (before-kept l m (i == 0) depth x.edge a.before b (spot ahead here) (edge-none space) h.0 (λ e. (f e).0.0))
+          ∙ ap (λ xs. gap_remarks n b (spot ahead here) a.before
+          ++ (xs ++ (remarks_at n (spot behind here) (comments (after_part r l true depth a.after)) ++ more)))
+          (value-kept here (inner_depth l depth) (inner_room r l depth) v h.2)
+          ∙ ap (λ xs. gap_remarks n b (spot ahead here) a.before ++ (value_remarks n v here ++ (xs ++ more)))
+          (after-kept l depth a.after (spot behind here) h.1 (λ e. (f e).0.1))
+          ∙ ap (λ xs. gap_remarks n b (spot ahead here) a.before ++ (value_remarks n v here ++ (remarks_at n (spot behind here) (comments a.after) ++ xs)))
+          (elements-kept l p depth space k comma t (spot behind here) (suc i) (pad here) (element c u es) h.3 g (λ e. ((f e).0.2, (f e).1)) refl)
+          ∙ ap (λ z. gap_remarks n b (spot ahead here) a.before ++ (value_remarks n v here ++ (if z
+          then remarks_at n (spot behind here) (comments a.after) ++ element_remarks n p (spot behind here) (suc i) comma t rest
+          else gap_remarks n (spot behind here) (spot closing p) (a.after ++ t)))) (sym (or-true comma))
 
-    pairs-kept : (l : Layout) (i : Text) (comma first : Bool) (p b : Path) (k : ℕ) (t : Text) (ps : Pairs) → IsWhiteSpace i
-        → ArePairs ps → IsWholeTrivia t → FlatPairs l ps t → has_pairs ps ≡ true
-        → pair_remarks n p b k (laid_comma l true comma) (before_bracket r l true i (last_trailing comma ps) t)
-        (laid_pairs r l i comma first ps)
-        ≡ pair_remarks n p b k comma t ps
-    pairs-kept l i comma first p b k t no_pairs w h g f some = absurd (let clash : false ≡ true = some in cc)
-    pairs-kept l i comma first p b k t (pair a v no_pairs) w h g f some =
-        let here = to_element p k in
-        let flat = flat-pair l a v no_pairs t f in
-        let v' = laid_value r (inner_indent r l i) None v in
-        let end = after_part r l (not (comma || false)) i one_space a.trailing in
-        let u = before_bracket r l true i (if comma then [] else a.trailing) t in
-        let last = if laid_comma l true comma || false then remarks_at n here (comments end) ++ gap_remarks n here p u
-        else gap_remarks n here p (end ++ u) in
-        ap (λ xs. xs ++ (value_remarks n v' here ++ last)) (before-kept l first false i a.leading b here w h.0.0.leading flat.0)
-        ∙ ap (λ xs. gap_remarks n b here a.leading ++ (xs ++ last))
-        (value-kept (inner_indent r l i) None v here (white-inner r l i w) h.1)
-        ∙ ap (λ xs. gap_remarks n b here a.leading ++ (value_remarks n v here ++ xs))
-        (end-kept l comma false i a.trailing t here p w h.0.0.trailing g flat.1 flat.2)
-    pairs-kept l i comma first p b k t (pair a v (pair c x ps)) w h g f some =
-        let here = to_element p k in
-        let rest = pair c x ps in
-        let flat = flat-pair l a v rest t f in
-        let v' = laid_value r (inner_indent r l i) None v in
-        let cc' = laid_comma l true comma in
-        let u = before_bracket r l true i (last_trailing comma rest) t in
-        let more = pair_remarks n p here (suc k) cc' u (laid_pairs r l i comma false rest) in
-        let other = gap_remarks n here p (after_part r l (not (comma || true)) i [] a.trailing ++ u) in
-        ap (λ z. gap_remarks n b here (before_part r l first i one_space a.leading)
-        ++ (value_remarks n v' here ++ (if z
-        then remarks_at n here (comments (after_part r l (not (comma || true)) i [] a.trailing)) ++ more else other))) (or-true cc')
-        ∙ ap (λ z. gap_remarks n b here (before_part r l first i one_space a.leading)
-        ++ (value_remarks n v' here ++ (remarks_at n here (comments (after_part r l (not z) i [] a.trailing)) ++ more))) (or-true comma)
-        ∙ ap (λ xs. xs ++ (value_remarks n v' here ++ (remarks_at n here (comments (after_part r l false i [] a.trailing)) ++ more)))
-        (before-kept l first false i a.leading b here w h.0.0.leading flat.0)
-        ∙ ap (λ xs. gap_remarks n b here a.leading ++ (xs ++ (remarks_at n here (comments (after_part r l false i [] a.trailing)) ++ more)))
-        (value-kept (inner_indent r l i) None v here (white-inner r l i w) h.1)
-        ∙ ap (λ xs. gap_remarks n b here a.leading ++ (value_remarks n v here ++ (xs ++ more)))
-        (after-kept l true i a.trailing here w h.0.0.trailing flat.1)
-        ∙ ap (λ xs. gap_remarks n b here a.leading ++ (value_remarks n v here ++ (remarks_at n here (comments a.trailing) ++ xs)))
-        (pairs-kept l i comma false p here (suc k) t (pair c x ps) w h.2 g flat.3 refl)
-        ∙ ap (λ z. gap_remarks n b here a.leading ++ (value_remarks n v here ++ (if z
-        then remarks_at n here (comments a.trailing) ++ pair_remarks n p here (suc k) comma t rest
-        else gap_remarks n here p (a.trailing ++ t)))) (sym (or-true comma))
+      pairs-kept : (l : Layout) (p : Path) (depth : ℕ) (space : Bool) (k : ℕ) (comma : Bool) (t : Text) (b : Spot) (i m : ℕ) (ps : Pairs)
+          → ArePairs ps → IsClose true comma t → (l ≡ on_one_line → QuietPairs ps × NoBodies t) → has_pairs ps ≡ true
+          → let x = inside r l p depth true space k comma (last_trailing ps) t in
+          pair_remarks n p b i x.comma x.close (laid_pairs r pad x i m ps) ≡ pair_remarks n p b i comma t ps
+      pairs-kept l p depth space k comma t b i m no_pairs h g f some = absurd (let clash : false ≡ true = some in cc)
+      pairs-kept l p depth space k comma t b i m (pair a v no_pairs) h g f some =
+          let here = to_element p i in
+          let x = inside r l p depth true space k comma a.trailing t in
+          let w = laid_value r pad here (inner_depth l depth) None v in
+          let end = end_remarks (spot behind here) (spot closing p) x.comma (after_part r l (comma || false) depth a.trailing ++ x.last) x.close in
+          ap (λ xs. xs ++ (value_remarks n w here ++ end))
+          (before-kept l m (i == 0) depth x.edge a.leading b (spot ahead here) (edge-none space) h.0.0.leading (λ e. (f e).0.0))
+          ∙ ap (λ xs. gap_remarks n b (spot ahead here) a.leading ++ (xs ++ end)) (value-kept here (inner_depth l depth) None v h.1)
+          ∙ ap (λ xs. gap_remarks n b (spot ahead here) a.leading ++ (value_remarks n v here ++ xs))
+          (end-kept l p depth space k comma a.trailing t (spot behind here) (spot closing p) h.0.0.trailing g (λ e. ((f e).0.1, (f e).1)))
+      pairs-kept l p depth space k comma t b i m (pair a v (pair c u ps)) h g f some =
+          let here = to_element p i in
+          let rest = pair c u ps in
+          let x = inside r l p depth true space k comma (last_trailing rest) t in
+          let w = laid_value r pad here (inner_depth l depth) None v in
+          let before = before_part r l m (i == 0) depth x.edge a.leading in
+          let after_it = λ (z : Bool). after_part r l z depth a.trailing ++ [] in
+          let more = pair_remarks n p (spot behind here) (suc i) x.comma x.close (laid_pairs r pad x (suc i) (pad here) rest) in
+          let other = gap_remarks n (spot behind here) (spot closing p) (after_it (comma || true) ++ x.close) in
+          ap (λ z. gap_remarks n b (spot ahead here) before ++ (value_remarks n w here ++ (if z
+          then remarks_at n (spot behind here) (comments (after_it (comma || true))) ++ more else other))) (or-true x.comma)
+          ∙ ap (λ z. gap_remarks n b (spot ahead here) before ++ (value_remarks n w here
+          ++ (remarks_at n (spot behind here) (comments (after_it z)) ++ more))) (or-true comma)
+          ∙ ap (λ y. gap_remarks n b (spot ahead here) before ++ (value_remarks n w here
+          ++ (remarks_at n (spot behind here) (comments y) ++ more))) (append-nil (after_part r l true depth a.trailing))
+          ∙ ap (λ xs. xs ++ (value_remarks n w here ++ (remarks_at n (spot behind here) (comments (after_part r l true depth a.trailing)) ++ more)))
+          (before-kept l m (i == 0) depth x.edge a.leading b (spot ahead here) (edge-none space) h.0.0.leading (λ e. (f e).0.0))
+          ∙ ap (λ xs. gap_remarks n b (spot ahead here) a.leading
+          ++ (xs ++ (remarks_at n (spot behind here) (comments (after_part r l true depth a.trailing)) ++ more)))
+          (value-kept here (inner_depth l depth) None v h.1)
+          ∙ ap (λ xs. gap_remarks n b (spot ahead here) a.leading ++ (value_remarks n v here ++ (xs ++ more)))
+          (after-kept l depth a.trailing (spot behind here) h.0.0.trailing (λ e. (f e).0.1))
+          ∙ ap (λ xs. gap_remarks n b (spot ahead here) a.leading ++ (value_remarks n v here ++ (remarks_at n (spot behind here) (comments a.trailing) ++ xs)))
+          (pairs-kept l p depth space k comma t (spot behind here) (suc i) (pad here) (pair c u ps) h.2 g (λ e. ((f e).0.2, (f e).1)) refl)
+          ∙ ap (λ z. gap_remarks n b (spot ahead here) a.leading ++ (value_remarks n v here ++ (if z
+          then remarks_at n (spot behind here) (comments a.trailing) ++ pair_remarks n p (spot behind here) (suc i) comma t rest
+          else gap_remarks n (spot behind here) (spot closing p) (a.trailing ++ t)))) (sym (or-true comma))
 
-  -- ---- statements
+    -- ---- statements
 
-  statement-kept : (End : Text → Type 0) (s : Bool) (keys : ℕ) (st : Statement) → IsStatement End st
-      → statement_remarks n (laid_statement r s keys st) ≡ statement_remarks n st
-  statement-kept End s keys (key_line f v end) h =
-      let i = line_indent r keys in
-      let room = Some (used_before i f) in
-      ap (λ cs. remarks_at n [] cs ++ (value_remarks n (laid_value r i room v) [] ++ remarks_at n [] (comments (line_rest r f.trailing))))
-      (leading-comments r s i f.leading (white-line r keys) h.0.0.leading)
-      ∙ ap (λ xs. remarks_at n [] (comments f.leading) ++ (xs ++ remarks_at n [] (comments (line_rest r f.trailing))))
-      (value-kept i room v [] (white-line r keys) h.1)
-      ∙ ap (λ cs. remarks_at n [] (comments f.leading) ++ (value_remarks n v [] ++ remarks_at n [] cs))
-      (rest-comments r f.trailing h.0.0.trailing)
-  statement-kept End s keys (header x end) h =
-      let i = header_indent r (length x.path) in
-      ap (λ cs. remarks_at n [] cs ++ remarks_at n [] (comments (line_rest r x.trailing)))
-      (header-comments r s i x.leading (white-line r _) h.0.0.leading)
-      ∙ ap (λ cs. remarks_at n [] (comments x.leading) ++ remarks_at n [] cs) (rest-comments r x.trailing h.0.0.trailing)
+    statement-kept : (End : Text → Type 0) (st : State) (s : Statement) → IsStatement End s
+        → statement_remarks n (lay r pad st s) ≡ statement_remarks n s
+    statement-kept End st s h = by_test (stays (reached r st (leading_of s))) s h
+      where
+        by_test : (b : Bool) (s : Statement) → IsStatement End s
+            → statement_remarks n (if b then s else laid_statement r pad st s) ≡ statement_remarks n s
+        by_test true s h = refl
+        by_test false (key_line f v end) h =
+            let depth = line_depth r st.keys in
+            let frame = laid_frame r (leading r st.is_start depth f.leading) (line_rest r (pad []) f.trailing) f in
+            let room = Some (used_before frame) in
+            let w = laid_value r pad [] depth room v in
+            ap (λ cs. remarks_at n (spot ahead []) cs ++ (value_remarks n w [] ++ remarks_at n (spot behind []) (comments (line_rest r (pad []) f.trailing))))
+            (leading-comments r st.is_start depth f.leading h.0.0.leading)
+            ∙ ap (λ xs. remarks_at n (spot ahead []) (comments f.leading) ++ (xs ++ remarks_at n (spot behind []) (comments (line_rest r (pad []) f.trailing))))
+            (value-kept [] depth room v h.1)
+            ∙ ap (λ cs. remarks_at n (spot ahead []) (comments f.leading) ++ (value_remarks n v [] ++ remarks_at n (spot behind []) cs))
+            (rest-comments r (pad []) f.trailing h.0.0.trailing)
+        by_test false (header x end) h =
+            ap (λ cs. remarks_at n (spot ahead []) cs ++ remarks_at n (spot behind []) (comments (line_rest r (usual_pad r.comments) x.trailing)))
+            (header-comments r st.is_start (header_depth r (length x.path)) x.leading h.0.0.leading)
+            ∙ ap (λ cs. remarks_at n (spot ahead []) (comments x.leading) ++ remarks_at n (spot behind []) cs)
+            (rest-comments r (usual_pad r.comments) x.trailing h.0.0.trailing)
 
-statements-kept : (r : Rules) (final : Text) (n : ℕ) (s : Bool) (keys : ℕ) (ss : List Statement) → AreStatements final ss
-    → remarks_from n (laid_statements r s keys ss) ≡ remarks_from n ss
-statements-kept r final n s keys [] h = refl
-statements-kept r final n s keys (st ∷ []) h =
-    ap (λ xs. xs ++ []) (statement-kept r n (λ end. IsNewline end ⊎ ((end ≡ []) × (final ≡ []))) s keys st h)
-statements-kept r final n s keys (st ∷ next ∷ rest) h =
-    ap (λ xs. xs ++ remarks_from (suc n) (laid_statements r false (keys_below keys st) (next ∷ rest)))
-    (statement-kept r n IsNewline s keys st h.0)
-    ∙ ap (λ xs. statement_remarks n st ++ xs) (statements-kept r final (suc n) false (keys_below keys st) (next ∷ rest) h.1)
+module _ (r : Rules) (pad : ℕ → Path → ℕ) where
+  statements-kept : (final : Text) (n : ℕ) (st : State) (ss : List Statement) → AreStatements final ss
+      → remarks_from n (laid_statements r pad n st ss) ≡ remarks_from n ss
+  statements-kept final n st [] h = refl
+  statements-kept final n st (s ∷ []) h =
+      ap (λ xs. xs ++ []) (statement-kept r n (pad n) (λ end. IsNewline end ⊎ ((end ≡ []) × (final ≡ []))) st s h)
+  statements-kept final n st (s ∷ next ∷ rest) h =
+      ap (λ xs. xs ++ remarks_from (suc n) (laid_statements r pad (suc n) (after r st s) (next ∷ rest)))
+      (statement-kept r n (pad n) IsNewline st s h.0)
+      ∙ ap (λ xs. statement_remarks n s ++ xs) (statements-kept final (suc n) (after r st s) (next ∷ rest) h.1)
 
-count-laid : (r : Rules) (s : Bool) (keys : ℕ) (ss : List Statement) → length (laid_statements r s keys ss) ≡ length ss
-count-laid r s keys [] = refl
-count-laid r s keys (st ∷ rest) = ap suc (count-laid r false (keys_below keys st) rest)
+  count-laid : (n : ℕ) (st : State) (ss : List Statement) → length (laid_statements r pad n st ss) ≡ length ss
+  count-laid n st [] = refl
+  count-laid n st (s ∷ rest) = ap suc (count-laid (suc n) (after r st s) rest)
+
+final-kept : (r : Rules) (st : State) (t : Text) → IsFinalTrivia t → comments (laid_final r st t) ≡ comments t
+final-kept r st t h = by_test (stays (reached r st t))
+  where
+    by_test : (b : Bool) → comments (if b then t else final_text r st.is_start t) ≡ comments t
+    by_test true = refl
+    by_test false = final-comments r st.is_start t h
 
 pub keeps_remarks : KeepsRemarks
-keeps_remarks r d h =
-    let end = final_text r (is_empty d.statements) d.final in
-    ap (λ xs. xs ++ remarks_at (length (laid_statements r true 0 d.statements)) [] (comments end))
-    (statements-kept r d.final 0 true 0 d.statements h.0)
-    ∙ ap (λ n. remarks_from 0 d.statements ++ remarks_at n [] (comments end)) (count-laid r true 0 d.statements)
-    ∙ ap (λ cs. remarks_from 0 d.statements ++ remarks_at (length d.statements) [] cs) (final-comments r (is_empty d.statements) d.final h.1)
+keeps_remarks r pad d h =
+    let st = state_after r start d.statements in
+    let end = laid_final r st d.final in
+    ap (λ xs. xs ++ remarks_at (length (laid_statements r pad 0 start d.statements)) (spot ahead []) (comments end))
+    (statements-kept r pad d.final 0 start d.statements h.0)
+    ∙ ap (λ n. remarks_from 0 d.statements ++ remarks_at n (spot ahead []) (comments end)) (count-laid r pad 0 start d.statements)
+    ∙ ap (λ cs. remarks_from 0 d.statements ++ remarks_at (length d.statements) (spot ahead []) cs) (final-kept r st d.final h.1)

@@ -3,21 +3,20 @@ use Rattle.std.proofs.Common.{◌≡◌, refl, sym, ap, subst, ◌∙◌, ℕ, s
 use Rattle.std.proofs.Common.{Option, Some, None, append_assoc, append-nil}
 use Rattle.std.specs.Prelude.{◌&&◌, ◌||◌, if◌then◌else◌, map, take_while, cond, is_none}
 use Rattle.std.specs.List.{AllByRecursion, before_first, flat_map, list_all, prefix_len, filter_map, cons_option}
+use Rattle.std.proofs.lemmas.Bool.{cases_Bool}
 use Rattle.std.proofs.lemmas.List.Elements.{filter_map-append}
 use Rattle.std.proofs.lemmas.List.Sums.{take_while-cons}
 use Rattle.toml_edit_model.specs.Comments.{begun_with, lines, first_line, words, body_in, first_comment, comments}
 use Rattle.toml_edit_model.specs.Mode.{exact, but_last, line_end, line_newline}
 use Rattle.toml_edit_model.specs.Normal.{normal_end}
-use Rattle.toml_edit_model.specs.Text.{Text, carriage_return, line_feed, hash, newline, one, has_byte, is_empty, without_returns}
+use Rattle.toml_edit_model.specs.Text.{Text, line_feed, hash, newline, one, has_byte, is_empty, joined}
 use Rattle.toml_edit_model.specs.Trivia.{is_blank, is_visible, Each, IsWhiteSpace, Newline, lf, crlf, newline_text, comment, Piece, blank}
 use Rattle.toml_edit_model.specs.Trivia.{break, remark, piece_text, IsPiece, IsWholeTrivia, IsLineEnd, IsOpenComment}
 use Rattle.toml_edit_laws.proofs.accepted_prints.PrintedValues.{whole-append}
 use Rattle.toml_edit_laws.proofs.common.Each.{each-append}
 use Rattle.toml_edit_laws.proofs.common.LineEnds.{ended}
 use Rattle.toml_edit_laws.proofs.common.Tests.{and_left, and_right, not-true, or-true}
-use Rattle.toml_edit_laws.proofs.common.Trivia.{no-byte, returns-append, visible-returns}
-use Rattle.toml_edit_laws.proofs.common.WhiteSpace.{white-returns}
-use Rattle.std.proofs.lemmas.Bool.Decides.{Decides-eqb}
+use Rattle.toml_edit_laws.proofs.common.Trivia.{no-byte}
 use Rattle.toml_edit_fmt_laws.specs.Laying.{is_broken, line_words, is_empty_line, is_whole_line, whole_lines, indented}
 
 pub record Row : Type 0 where
@@ -212,6 +211,20 @@ lines-any [] y h g some = lines-unbroken y g ∙ by_text y some
 lines-any (r ∷ rs) y h g some =
     ap lines (append_assoc (row_text r) (flat_map row_text rs) y) ∙ lines-row r (rows_text rs y) h.0
     ∙ ap (λ ls. row_text r ∷ ls) (lines-any rs y h.1 g some)
+
+-- the lines of a text are the text
+begun-joined : (c : ℕ) (ls : List Text) → joined (begun_with c ls) ≡ c ∷ joined ls
+begun-joined c [] = refl
+begun-joined c (l ∷ ls) = refl
+
+pub joined-lines : (t : Text) → joined (lines t) ≡ t
+joined-lines [] = refl
+joined-lines (c ∷ t) =
+    elim (cases_Bool (c == line_feed)) [
+      | inl e ↦ ap (λ b. joined (if b then one c ∷ lines t else begun_with c (lines t))) e ∙ ap (λ u. c ∷ u) (joined-lines t)
+      | inr e ↦ ap (λ b. joined (if b then one c ∷ lines t else begun_with c (lines t))) e ∙ begun-joined c (lines t)
+          ∙ ap (λ u. c ∷ u) (joined-lines t)
+    ]
 
 -- ---- the first line
 
@@ -468,65 +481,3 @@ moved-again indent (r ∷ rs) = ap (λ xs. moved indent r ∷ xs) (moved-again i
 pub bodies-moved : (indent : Text) (rs : List Row) → row_bodies (map (moved indent) rs) ≡ row_bodies rs
 bodies-moved indent [] = refl
 bodies-moved indent (r ∷ rs) = ap (λ bs. cons_option r.body bs) (bodies-moved indent rs)
-
--- ---- rows with LF for each newline
-
-abbrev pub lean_row : Row → Row
-lean_row x = record x { end = lf }
-
-newline-lean : (n : Newline) → without_returns (newline_text n) ≡ newline_text lf
-newline-lean lf = refl
-newline-lean crlf = refl
-
-body-lean : (o : Option Text) (n : Newline) → IsBody o → without_returns (ended_body o n) ≡ ended_body o lf
-body-lean (Some b) n h =
-    returns-append (comment b) (newline_text n)
-    ∙ ap (λ u. (hash ∷ u) ++ without_returns (newline_text n)) (visible-returns b h)
-    ∙ ap (λ u. comment b ++ u) (newline-lean n)
-body-lean None n h = newline-lean n
-
-row-lean : (x : Row) → IsRow x → without_returns (row_text x) ≡ row_text (lean_row x)
-row-lean x h =
-    returns-append x.white (ended_body x.body x.end)
-    ∙ ap (λ u. u ++ without_returns (ended_body x.body x.end)) (white-returns x.white h.0)
-    ∙ ap (λ u. x.white ++ u) (body-lean x.body x.end h.1)
-
-pub lean-rows : (rs : List Row) (l : Text) → AllByRecursion IsRow rs → without_returns l ≡ l
-    → without_returns (rows_text rs l) ≡ rows_text (map lean_row rs) l
-lean-rows [] l h g = g
-lean-rows (x ∷ xs) l h g =
-    ap without_returns (append_assoc (row_text x) (flat_map row_text xs) l)
-    ∙ returns-append (row_text x) (rows_text xs l)
-    ∙ ap (λ u. u ++ without_returns (rows_text xs l)) (row-lean x h.0)
-    ∙ ap (λ u. row_text (lean_row x) ++ u) (lean-rows xs l h.1 g)
-    ∙ sym (append_assoc (row_text (lean_row x)) (flat_map row_text (map lean_row xs)) l)
-
-pub all-lean : (rs : List Row) → AllByRecursion IsRow rs → AllByRecursion IsRow (map lean_row rs)
-all-lean [] h = tt
-all-lean (x ∷ xs) h = (h.0, all-lean xs h.1)
-
-pub bodies-lean : (rs : List Row) → row_bodies (map lean_row rs) ≡ row_bodies rs
-bodies-lean [] = refl
-bodies-lean (x ∷ xs) = ap (λ bs. cons_option x.body bs) (bodies-lean xs)
-
-pub moved-lean : (indent : Text) (rs : List Row) → map (moved indent) (map lean_row rs) ≡ map lean_row (map (moved indent) rs)
-moved-lean indent [] = refl
-moved-lean indent (x ∷ xs) = ap (λ ys. lean_row (moved indent x) ∷ ys) (moved-lean indent xs)
-
-pub comments-returns : (t : Text) → IsWholeTrivia t → comments (without_returns t) ≡ comments t
-comments-returns t h =
-    let rows = view t h in
-    ap (λ u. comments (without_returns u)) rows.is
-    ∙ ap comments (lean-rows rows.rows rows.last rows.all (white-returns rows.last rows.white))
-    ∙ comments-rows (map lean_row rows.rows) rows.last (all-lean rows.rows rows.all) rows.white
-    ∙ bodies-lean rows.rows
-    ∙ sym (ap comments rows.is ∙ comments-rows rows.rows rows.last rows.all rows.white)
-
-pub broken-returns : (t : Text) → is_broken (without_returns t) ≡ is_broken t
-broken-returns [] = refl
-broken-returns (c ∷ t) = by_test (c == carriage_return) refl (broken-returns t)
-  where
-    by_test : (b : Bool) → (c == carriage_return) ≡ b → is_broken (without_returns t) ≡ is_broken t
-        → is_broken (if not b then c ∷ without_returns t else without_returns t) ≡ ((c == line_feed) || is_broken t)
-    by_test true e ih = ih ∙ sym (ap (λ x. (x == line_feed) || is_broken t) ((Decides-eqb c carriage_return).0 e))
-    by_test false e ih = ap (λ b. (c == line_feed) || b) ih

@@ -1,6 +1,6 @@
 -- A formatted document is settled where the document is.
-use Rattle.std.proofs.Common.{◌≡◌, refl, sym, ap, ◌∙◌, ℕ, Bool, true, false, List, [], ◌∷◌, ◌++◌, length, Option, Some, None}
-use Rattle.std.specs.Prelude.{◌&&◌, ◌||◌, ◌+◌, not, if◌then◌else◌, flat_map, map, option_map, unwrap_or}
+use Rattle.std.proofs.Common.{◌≡◌, refl, sym, ap, ◌∙◌, ℕ, suc, Bool, true, false, List, [], ◌∷◌, ◌++◌, length, Option, Some, None}
+use Rattle.std.specs.Prelude.{◌&&◌, ◌||◌, ◌==◌, ◌+◌, not, if◌then◌else◌, flat_map, map, option_map, unwrap_or}
 use Rattle.std.specs.List.{list_all}
 use Rattle.std.proofs.lemmas.List.{map-append}
 use Rattle.std.proofs.lemmas.Simd.{map-map}
@@ -9,30 +9,31 @@ use Rattle.toml_edit_model.specs.Mode.{Mode, plain, exact}
 use Rattle.toml_edit_model.specs.Normal.{pair_before, is_line, line_before, opening_of, closing_of, kept_statement}
 use Rattle.toml_edit_model.specs.Order.{is_sorted_by}
 use Rattle.toml_edit_model.specs.Paths.{Path, Mention, Source, PairSource, Placed, Context, start_context, context_after, placed_from, mentions_of}
-use Rattle.toml_edit_model.specs.Paths.{to_key, next_start, in_last, elements_at, passing_role, source_of, pair_mentions, line_mentions, header_mentions, header_path, header_role_of, path_start}
+use Rattle.toml_edit_model.specs.Paths.{to_key, to_element, next_start, in_last, elements_at, passing_role, source_of, pair_mentions, line_mentions, header_mentions, header_path, header_role_of, path_start}
 use Rattle.toml_edit_model.specs.Print.{one_space}
 use Rattle.toml_edit_model.specs.Settled.{is_kept, are_settled_pairs, has_ordered_lines, is_shown_text, is_settled_end, is_shown_frame}
 use Rattle.toml_edit_model.specs.Settled.{is_settled_value, are_settled_elements, have_settled_values, is_settled_statement, is_settled_in}
-use Rattle.toml_edit_model.specs.Syntax.{Segment, Value, scalar, array, inline_table, Elements, no_elements, element, Pairs, no_pairs, pair}
+use Rattle.toml_edit_model.specs.Syntax.{Segment, Frame, Header, Value, scalar, array, inline_table, Elements, no_elements, element, Pairs, no_pairs, pair}
 use Rattle.toml_edit_model.specs.Syntax.{Statement, key_line, header, Document, has_elements, has_pairs, frame_text, value_text}
-use Rattle.toml_edit_model.specs.Text.{Text, same_text, is_empty}
+use Rattle.toml_edit_model.specs.Text.{Text, same_text}
 use Rattle.toml_edit_laws.proofs.common.Cores.{cores}
 use Rattle.toml_edit_laws.proofs.common.Tests.{and_left, and_right, and_both, not-true, same_text-is, same_text-refl}
 use Rattle.toml_edit_laws.proofs.mentions.Placed.{placed_at, source-statement}
 use Rattle.toml_edit_laws.proofs.normal_texts.LinePaths.{stands}
-use Rattle.toml_edit_model.specs.Roles.{Role, dotted_role}
+use Rattle.toml_edit_model.specs.Roles.{Role, dotted_role, array_role, header_role}
 use Rattle.toml_edit_laws.proofs.normal_texts.SettledValues.{paths, place_of, rank-is, stands-is, sorted-map}
-use Rattle.toml_edit_fmt_laws.specs.Promises.{StaysSettled}
-use Rattle.toml_edit_fmt_laws.specs.Rules.{Rules, line_indent, header_indent}
-use Rattle.toml_edit_fmt_laws.specs.Laying.{leading, header_leading, line_rest, final_text}
-use Rattle.toml_edit_fmt_laws.specs.Formatted.{Layout, untouched, on_one_line, line_by_line, array_layout, inline_layout, before_part, after_part}
-use Rattle.toml_edit_fmt_laws.specs.Formatted.{before_bracket, inner_indent, inner_room, last_after, last_trailing, laid_segment, laid_path}
-use Rattle.toml_edit_fmt_laws.specs.Formatted.{laid_value, laid_elements, laid_pairs, used_before, keys_below, laid_statement, laid_statements}
-use Rattle.toml_edit_fmt_laws.specs.Formatted.{laid_document}
-use Rattle.toml_edit_fmt_laws.proofs.Means.{SameContext, context-laid, path-laid}
-use Rattle.toml_edit_fmt_laws.proofs.Accepts.{pair_frame, pair-cores, statement-cores, all-cores}
-use Rattle.toml_edit_fmt_laws.proofs.Shown.{NoReturn, none-append, leading-none, header-none, final-none-return, line-rest-none}
-use Rattle.toml_edit_fmt_laws.proofs.Shown.{spaces-none, indent-none, before-none, after-none-return, bracket-none-return}
+use Rattle.toml_edit_fmt_laws.specs.Promises.{keys_laid, KeysAreLaid, StaysSettled}
+use Rattle.toml_edit_fmt_laws.specs.Rules.{Rules, line_depth, header_depth}
+use Rattle.toml_edit_fmt_laws.specs.Laying.{leading, header_leading, line_rest, final_text, usual_pad}
+use Rattle.toml_edit_fmt_laws.specs.Formatted.{Layout, array_layout, inline_layout, before_part, after_part, Inside, inside, in_array, in_inline, inner_depth, inner_room}
+use Rattle.toml_edit_fmt_laws.specs.Formatted.{last_after, last_trailing, last_pad, elements_count, pairs_count, laid_segment, laid_path, laid_frame, used_before}
+use Rattle.toml_edit_fmt_laws.specs.Formatted.{laid_value, laid_elements, laid_pairs, State, start, stays, reached, leading_of, after, laid_statement, lay}
+use Rattle.toml_edit_fmt_laws.specs.Formatted.{laid_statements, state_after, laid_final, laid_document}
+use Rattle.toml_edit_fmt_laws.proofs.Bones.{skeleton, pairs-bones, statement-bones, statements-bones}
+use Rattle.toml_edit_fmt_laws.proofs.Means.{SameContext, context-bones, path-bones-at}
+use Rattle.toml_edit_fmt_laws.proofs.Accepts.{pair-cores, statement-cores, all-cores}
+use Rattle.toml_edit_fmt_laws.proofs.Shown.{NoReturn, none-append, if-none, leading-none, header-none, final-none-return, line-rest-none}
+use Rattle.toml_edit_fmt_laws.proofs.Shown.{before-none, after-none-return, inside-none}
 use Rattle.toml_edit_fmt_laws.proofs.Tags.{Tag, tag, tags, on_tag, kept_at, kept-tags, kept-on, unwrap-on, segs, kept-laid, line-segs, header-segs}
 
 -- ---- shown texts
@@ -88,152 +89,168 @@ line-order mss xs =
 segs-append : {S : Type 0} (ms ns : List (Mention S)) → segs (ms ++ ns) ≡ segs ms ++ segs ns
 segs-append ms ns = map-append (tag (λ m. m.segment)) ms ns
 
+abbrev path_of : Statement → List Segment
+path_of (key_line f v end) = f.path
+path_of (header x end) = x.path
+
+abbrev role_of : Bool → Role
+role_of b = if b then array_role else header_role
+
 module _ (mode : Mode) (r : Rules) (newlines : mode ≡ plain → r.returns ≡ false) where
   -- ---- parts
 
-  shown-default : (b : Bool) → NoReturn (if b then [] else one_space)
-  shown-default true = refl
-  shown-default false = refl
-
-  before-shown : (l : Layout) (first : Bool) (i d t : Text) → NoReturn i → NoReturn d → is_shown_text mode t ≡ true
-      → is_shown_text mode (before_part r l first i d t) ≡ true
-  before-shown l first i d t w v h = shown-by mode t (before_part r l first i d t) (λ e g. before-none r (newlines e) l first i d t w v g) h
-
-  after-shown : (l : Layout) (end : Bool) (i d t : Text) → NoReturn i → NoReturn d → is_shown_text mode t ≡ true
-      → is_shown_text mode (after_part r l end i d t) ≡ true
-  after-shown l end i d t w v h = shown-by mode t (after_part r l end i d t) (λ e g. after-none-return r (newlines e) l end i d t w v g) h
-
-  bracket-shown : (l : Layout) (has : Bool) (i last t : Text) → NoReturn i → is_shown_text mode last ≡ true → is_shown_text mode t ≡ true
-      → is_shown_text mode (before_bracket r l has i last t) ≡ true
-  bracket-shown l has i last t w v h =
-      shown-two mode last t (before_bracket r l has i last t) (λ e f g. bracket-none-return r (newlines e) l has i last t w f g) v h
-
-  inner-none : (l : Layout) (i : Text) → NoReturn i → NoReturn (inner_indent r l i)
-  inner-none untouched i h = h
-  inner-none on_one_line i h = h
-  inner-none line_by_line i h = none-append i _ h (spaces-none r.unit)
-
-  last-shown : (comma : Bool) (es : Elements) → are_settled_elements mode es ≡ true → is_shown_text mode (last_after comma es) ≡ true
-  last-shown comma no_elements h = shown-none mode [] (λ e. refl)
-  last-shown true (element a v no_elements) h = shown-none mode [] (λ e. refl)
-  last-shown false (element a v no_elements) h =
+  last-shown : (es : Elements) → are_settled_elements mode es ≡ true → is_shown_text mode (last_after es) ≡ true
+  last-shown no_elements h = shown-none mode [] (λ e. refl)
+  last-shown (element a v no_elements) h =
       and_right (is_shown_text mode a.before) (is_shown_text mode a.after) (and_left _ (is_settled_value mode v && true) h)
-  last-shown comma (element a v (element b w es)) h =
-      last-shown comma (element b w es)
+  last-shown (element a v (element b w es)) h =
+      last-shown (element b w es)
       (and_right (is_settled_value mode v) _ (and_right (is_shown_text mode a.before && is_shown_text mode a.after) _ h))
 
-  last-pair-shown : (comma : Bool) (ps : Pairs) → have_settled_values mode ps ≡ true → is_shown_text mode (last_trailing comma ps) ≡ true
-  last-pair-shown comma no_pairs h = shown-none mode [] (λ e. refl)
-  last-pair-shown true (pair f v no_pairs) h = shown-none mode [] (λ e. refl)
-  last-pair-shown false (pair f v no_pairs) h =
+  last-pair-shown : (ps : Pairs) → have_settled_values mode ps ≡ true → is_shown_text mode (last_trailing ps) ≡ true
+  last-pair-shown no_pairs h = shown-none mode [] (λ e. refl)
+  last-pair-shown (pair f v no_pairs) h =
       and_right (is_shown_text mode f.leading) (is_shown_text mode f.trailing) (and_left _ (is_settled_value mode v && true) h)
-  last-pair-shown comma (pair f v (pair g w ps)) h =
-      last-pair-shown comma (pair g w ps) (and_right (is_settled_value mode v) _ (and_right (is_shown_frame mode f) _ h))
+  last-pair-shown (pair f v (pair g w ps)) h =
+      last-pair-shown (pair g w ps) (and_right (is_settled_value mode v) _ (and_right (is_shown_frame mode f) _ h))
 
-  -- ---- pairs in order, with kept keys
+  -- the ends of what is between brackets
+  record InsideShown (x : Inside) : Type 0 where
+    edge : NoReturn x.edge
+    last : is_shown_text mode x.last ≡ true
+    close : is_shown_text mode x.close ≡ true
 
-  pairs-flat : (l : Layout) (i : Text) (comma first : Bool) (m n : ℕ) (ps : Pairs)
-      → segs (flat_map (λ ms. ms) (pair_mentions m (laid_pairs r l i comma first ps)))
-      ≡ map (on_tag (laid_segment r)) (segs (flat_map (λ ms. ms) (pair_mentions n ps)))
-  pairs-flat l i comma first m n no_pairs = refl
-  pairs-flat l i comma first m n (pair f v ps) =
-      let g = pair_frame r l i comma first f ps in
-      let w = laid_value r (inner_indent r l i) None v in
-      let here = line_mentions (record { frame = f; value = v }) (n + length f.leading) [] f.path in
-      let there = line_mentions (record { frame = g; value = w }) (m + length g.leading) [] (laid_path r f.path) in
-      let more = pair_mentions (n + length (frame_text f (value_text v)) + 1) ps in
-      let others = pair_mentions (m + length (frame_text g (value_text w)) + 1) (laid_pairs r l i comma false ps) in
-      segs-append there (flat_map (λ ms. ms) others)
-      ∙ ap (λ xs. xs ++ segs (flat_map (λ ms. ms) others))
-      (line-segs r (record { frame = f; value = v }) (record { frame = g; value = w }) (n + length f.leading) (m + length g.leading) [] f.path)
-      ∙ ap (λ xs. map (on_tag (laid_segment r)) (segs here) ++ xs) (pairs-flat l i comma false (m + length (frame_text g (value_text w)) + 1) (n + length (frame_text f (value_text v)) + 1) ps)
-      ∙ sym (ap (map (on_tag (laid_segment r))) (segs-append here (flat_map (λ ms. ms) more))
-      ∙ map-append (on_tag (laid_segment r)) (segs here) (segs (flat_map (λ ms. ms) more)))
+  inside-shown : (l : Layout) (p : Path) (depth : ℕ) (has space : Bool) (n : ℕ) (comma : Bool) (last t : Text)
+      → is_shown_text mode last ≡ true → is_shown_text mode t ≡ true → InsideShown (inside r l p depth has space n comma last t)
+  inside-shown l p depth has space n comma last t v h =
+      record {
+        edge = if-none (has && space) one_space [] refl refl;
+        last = shown-two mode last t _ (λ e f g. (inside-none r (newlines e) l p depth has space n comma last t f g).last) v h;
+        close = shown-two mode last t _ (λ e f g. (inside-none r (newlines e) l p depth has space n comma last t f g).close) v h;
+      }
 
-  pairs-kept : (ms ns : List (Mention PairSource)) → segs ns ≡ map (on_tag (laid_segment r)) (segs ms)
-      → (l : Layout) (i : Text) (comma first : Bool) (m n : ℕ) (ps : Pairs)
-      → list_all (is_kept ms) (pair_mentions n ps) ≡ true
-      → list_all (is_kept ns) (pair_mentions m (laid_pairs r l i comma first ps)) ≡ true
-  pairs-kept ms ns e l i comma first m n no_pairs h = refl
-  pairs-kept ms ns e l i comma first m n (pair f v ps) h =
-      let g = pair_frame r l i comma first f ps in
-      let w = laid_value r (inner_indent r l i) None v in
-      let here = line_mentions (record { frame = f; value = v }) (n + length f.leading) [] f.path in
-      let there = line_mentions (record { frame = g; value = w }) (m + length g.leading) [] (laid_path r f.path) in
-      and_both (is_kept ns there) _
-      (kept-laid r ms here ns there e
-      (line-segs r (record { frame = f; value = v }) (record { frame = g; value = w }) (n + length f.leading) (m + length g.leading) [] f.path)
-      (and_left (is_kept ms here) _ h))
-      (pairs-kept ms ns e l i comma false (m + length (frame_text g (value_text w)) + 1) (n + length (frame_text f (value_text v)) + 1) ps (and_right (is_kept ms here) _ h))
+  before-shown : (x : Inside) (n : ℕ) (first : Bool) (t : Text) → InsideShown x → is_shown_text mode t ≡ true
+      → is_shown_text mode (before_part r x.layout n first x.depth x.edge t) ≡ true
+  before-shown x n first t s h = shown-by mode t _ (λ e g. before-none r (newlines e) x.layout n first x.depth x.edge t s.edge g) h
 
-  pairs-settled-order : (l : Layout) (i : Text) (comma : Bool) (ps : Pairs) → are_settled_pairs (pair_mentions 0 ps) ≡ true
-      → are_settled_pairs (pair_mentions 0 (laid_pairs r l i comma true ps)) ≡ true
-  pairs-settled-order l i comma ps h =
-      let mss = pair_mentions 0 ps in
-      let nss = pair_mentions 0 (laid_pairs r l i comma true ps) in
-      and_both (is_sorted_by (pair_before nss) nss) _
-      (pair-order mss nss (same-paths mss nss (pair-cores r l i comma true 0 0 ps))
-      ∙ and_left (is_sorted_by (pair_before mss) mss) _ h)
-      (pairs-kept (flat_map (λ ms. ms) mss) (flat_map (λ ms. ms) nss) (pairs-flat l i comma true 0 0 ps) l i comma true 0 0 ps
-      (and_right (is_sorted_by (pair_before mss) mss) _ h))
+  end-shown : (x : Inside) (has : Bool) (t : Text) → InsideShown x → is_shown_text mode t ≡ true
+      → is_shown_text mode (after_part r x.layout (x.had_comma || has) x.depth t ++ (if has then [] else x.last)) ≡ true
+  end-shown x has t s h =
+      shown-two mode x.last t _
+      (λ e f g. none-append (after_part r x.layout (x.had_comma || has) x.depth t) (if has then [] else x.last)
+      (after-none-return r (newlines e) x.layout (x.had_comma || has) x.depth t g) (if-none has [] x.last refl f))
+      s.last h
 
-  -- ---- values
+  module _ (pad : Path → ℕ) where
+    -- ---- pairs in order, with kept keys
 
-  mutual
-    value-settled : (i : Text) (room : Option ℕ) (v : Value) → NoReturn i → is_settled_value mode v ≡ true
-        → is_settled_value mode (laid_value r i room v) ≡ true
-    value-settled i room (scalar s t) w h = refl
-    value-settled i room (array es comma t) w h =
-        let l = array_layout r room es t in
-        let settled = and_right (is_shown_text mode t) (are_settled_elements mode es) h in
-        and_both _ _
-        (bracket-shown l (has_elements es) i (last_after comma es) t w (last-shown comma es settled)
-        (and_left (is_shown_text mode t) (are_settled_elements mode es) h))
-        (elements-settled l i comma true es w settled)
-    value-settled i room (inline_table ps comma t) w h =
-        let l = inline_layout r ps t in
-        let first = is_shown_text mode t && are_settled_pairs (pair_mentions 0 ps) in
-        let both = and_left first (have_settled_values mode ps) h in
-        let settled = and_right first (have_settled_values mode ps) h in
-        and_both _ _
-        (and_both _ _
-        (bracket-shown l (has_pairs ps) i (last_trailing comma ps) t w (last-pair-shown comma ps settled)
-        (and_left (is_shown_text mode t) (are_settled_pairs (pair_mentions 0 ps)) both))
-        (pairs-settled-order l i comma ps (and_right (is_shown_text mode t) (are_settled_pairs (pair_mentions 0 ps)) both)))
-        (pairs-settled l i comma true ps w settled)
+    abbrev frame_in : Inside → ℕ → ℕ → Frame → Pairs → Frame
+    frame_in x i k f ps =
+        laid_frame r (before_part r x.layout k (i == 0) x.depth x.edge f.leading)
+        (after_part r x.layout (x.had_comma || has_pairs ps) x.depth f.trailing ++ (if has_pairs ps then [] else x.last)) f
 
-    elements-settled : (l : Layout) (i : Text) (comma first : Bool) (es : Elements) → NoReturn i → are_settled_elements mode es ≡ true
-        → are_settled_elements mode (laid_elements r l i comma first es) ≡ true
-    elements-settled l i comma first no_elements w h = refl
-    elements-settled l i comma first (element a v es) w h =
-        let around = is_shown_text mode a.before && is_shown_text mode a.after in
-        let both = and_left around (is_settled_value mode v && are_settled_elements mode es) h in
-        let rest = and_right around (is_settled_value mode v && are_settled_elements mode es) h in
-        and_both _ _
-        (and_both _ _
-        (before-shown l first i (if first then [] else one_space) a.before w (shown-default first)
-        (and_left (is_shown_text mode a.before) (is_shown_text mode a.after) both))
-        (after-shown l (not (comma || has_elements es)) i [] a.after w refl
-        (and_right (is_shown_text mode a.before) (is_shown_text mode a.after) both)))
-        (and_both _ _
-        (value-settled (inner_indent r l i) (inner_room r l i) v (inner-none l i w)
-        (and_left (is_settled_value mode v) (are_settled_elements mode es) rest))
-        (elements-settled l i comma false es w (and_right (is_settled_value mode v) (are_settled_elements mode es) rest)))
+    pairs-flat : (x : Inside) (i k m n : ℕ) (ps : Pairs)
+        → segs (flat_map (λ ms. ms) (pair_mentions m (laid_pairs r pad x i k ps)))
+        ≡ map (on_tag (laid_segment r)) (segs (flat_map (λ ms. ms) (pair_mentions n ps)))
+    pairs-flat x i k m n no_pairs = refl
+    pairs-flat x i k m n (pair f v ps) =
+        let g = frame_in x i k f ps in
+        let w = laid_value r pad (to_element x.path i) (inner_depth x.layout x.depth) None v in
+        let next = laid_pairs r pad x (suc i) (pad (to_element x.path i)) ps in
+        let here = line_mentions (record { frame = f; value = v }) (n + length f.leading) [] f.path in
+        let there = line_mentions (record { frame = g; value = w }) (m + length g.leading) [] (laid_path r f.path) in
+        let more = pair_mentions (n + length (frame_text f (value_text v)) + 1) ps in
+        let others = pair_mentions (m + length (frame_text g (value_text w)) + 1) next in
+        segs-append there (flat_map (λ ms. ms) others)
+        ∙ ap (λ xs. xs ++ segs (flat_map (λ ms. ms) others))
+        (line-segs r (record { frame = f; value = v }) (record { frame = g; value = w }) (n + length f.leading) (m + length g.leading) [] f.path)
+        ∙ ap (λ xs. map (on_tag (laid_segment r)) (segs here) ++ xs)
+        (pairs-flat x (suc i) (pad (to_element x.path i)) (m + length (frame_text g (value_text w)) + 1) (n + length (frame_text f (value_text v)) + 1) ps)
+        ∙ sym (ap (map (on_tag (laid_segment r))) (segs-append here (flat_map (λ ms. ms) more))
+        ∙ map-append (on_tag (laid_segment r)) (segs here) (segs (flat_map (λ ms. ms) more)))
 
-    pairs-settled : (l : Layout) (i : Text) (comma first : Bool) (ps : Pairs) → NoReturn i → have_settled_values mode ps ≡ true
-        → have_settled_values mode (laid_pairs r l i comma first ps) ≡ true
-    pairs-settled l i comma first no_pairs w h = refl
-    pairs-settled l i comma first (pair f v ps) w h =
-        let both = and_left (is_shown_frame mode f) (is_settled_value mode v && have_settled_values mode ps) h in
-        let rest = and_right (is_shown_frame mode f) (is_settled_value mode v && have_settled_values mode ps) h in
-        and_both _ _
-        (and_both _ _
-        (before-shown l first i one_space f.leading w refl (and_left (is_shown_text mode f.leading) (is_shown_text mode f.trailing) both))
-        (after-shown l (not (comma || has_pairs ps)) i (if has_pairs ps then [] else one_space) f.trailing w (shown-default (has_pairs ps))
-        (and_right (is_shown_text mode f.leading) (is_shown_text mode f.trailing) both)))
-        (and_both _ _
-        (value-settled (inner_indent r l i) None v (inner-none l i w) (and_left (is_settled_value mode v) (have_settled_values mode ps) rest))
-        (pairs-settled l i comma false ps w (and_right (is_settled_value mode v) (have_settled_values mode ps) rest)))
+    pairs-kept : (ms ns : List (Mention PairSource)) → segs ns ≡ map (on_tag (laid_segment r)) (segs ms)
+        → (x : Inside) (i k m n : ℕ) (ps : Pairs) → list_all (is_kept ms) (pair_mentions n ps) ≡ true
+        → list_all (is_kept ns) (pair_mentions m (laid_pairs r pad x i k ps)) ≡ true
+    pairs-kept ms ns e x i k m n no_pairs h = refl
+    pairs-kept ms ns e x i k m n (pair f v ps) h =
+        let g = frame_in x i k f ps in
+        let w = laid_value r pad (to_element x.path i) (inner_depth x.layout x.depth) None v in
+        let here = line_mentions (record { frame = f; value = v }) (n + length f.leading) [] f.path in
+        let there = line_mentions (record { frame = g; value = w }) (m + length g.leading) [] (laid_path r f.path) in
+        and_both (is_kept ns there) _
+        (kept-laid r ms here ns there e
+        (line-segs r (record { frame = f; value = v }) (record { frame = g; value = w }) (n + length f.leading) (m + length g.leading) [] f.path)
+        (and_left (is_kept ms here) _ h))
+        (pairs-kept ms ns e x (suc i) (pad (to_element x.path i)) (m + length (frame_text g (value_text w)) + 1)
+        (n + length (frame_text f (value_text v)) + 1) ps (and_right (is_kept ms here) _ h))
+
+    pairs-settled-order : (x : Inside) (k : ℕ) (ps : Pairs) → are_settled_pairs (pair_mentions 0 ps) ≡ true
+        → are_settled_pairs (pair_mentions 0 (laid_pairs r pad x 0 k ps)) ≡ true
+    pairs-settled-order x k ps h =
+        let qs = laid_pairs r pad x 0 k ps in
+        let mss = pair_mentions 0 ps in
+        let nss = pair_mentions 0 qs in
+        let same = sym (pair-cores 0 0 qs) ∙ ap (λ os. map cores (pair_mentions 0 os)) (pairs-bones r pad x 0 k ps) ∙ pair-cores 0 0 ps in
+        and_both (is_sorted_by (pair_before nss) nss) _
+        (pair-order mss nss (same-paths mss nss same) ∙ and_left (is_sorted_by (pair_before mss) mss) _ h)
+        (pairs-kept (flat_map (λ ms. ms) mss) (flat_map (λ ms. ms) nss) (pairs-flat x 0 k 0 0 ps) x 0 k 0 0 ps
+        (and_right (is_sorted_by (pair_before mss) mss) _ h))
+
+    -- ---- values
+
+    mutual
+      value-settled : (p : Path) (depth : ℕ) (room : Option ℕ) (v : Value) → is_settled_value mode v ≡ true
+          → is_settled_value mode (laid_value r pad p depth room v) ≡ true
+      value-settled p depth room (scalar s t) h = refl
+      value-settled p depth room (array es comma t) h =
+          let settled = and_right (is_shown_text mode t) (are_settled_elements mode es) h in
+          let s = inside-shown (array_layout r depth room es comma t) p depth (has_elements es) r.bracket_space
+          (last_pad r pad p (elements_count es)) comma (last_after es) t (last-shown es settled)
+          (and_left (is_shown_text mode t) (are_settled_elements mode es) h) in
+          and_both _ _ s.close (elements-settled (in_array r pad p depth room es comma t) 0 (usual_pad r.comments) es s settled)
+      value-settled p depth room (inline_table ps comma t) h =
+          let first = is_shown_text mode t && are_settled_pairs (pair_mentions 0 ps) in
+          let both = and_left first (have_settled_values mode ps) h in
+          let settled = and_right first (have_settled_values mode ps) h in
+          let s = inside-shown (inline_layout r ps t) p depth (has_pairs ps) r.brace_space
+          (last_pad r pad p (pairs_count ps)) comma (last_trailing ps) t (last-pair-shown ps settled)
+          (and_left (is_shown_text mode t) (are_settled_pairs (pair_mentions 0 ps)) both) in
+          and_both _ _
+          (and_both _ _ s.close
+          (pairs-settled-order (in_inline r pad p depth ps comma t) (usual_pad r.comments) ps
+          (and_right (is_shown_text mode t) (are_settled_pairs (pair_mentions 0 ps)) both)))
+          (pairs-settled (in_inline r pad p depth ps comma t) 0 (usual_pad r.comments) ps s settled)
+
+      elements-settled : (x : Inside) (i n : ℕ) (es : Elements) → InsideShown x → are_settled_elements mode es ≡ true
+          → are_settled_elements mode (laid_elements r pad x i n es) ≡ true
+      elements-settled x i n no_elements s h = refl
+      elements-settled x i n (element a v es) s h =
+          let around = is_shown_text mode a.before && is_shown_text mode a.after in
+          let both = and_left around (is_settled_value mode v && are_settled_elements mode es) h in
+          let rest = and_right around (is_settled_value mode v && are_settled_elements mode es) h in
+          and_both _ _
+          (and_both _ _
+          (before-shown x n (i == 0) a.before s (and_left (is_shown_text mode a.before) (is_shown_text mode a.after) both))
+          (end-shown x (has_elements es) a.after s (and_right (is_shown_text mode a.before) (is_shown_text mode a.after) both)))
+          (and_both _ _
+          (value-settled (to_element x.path i) (inner_depth x.layout x.depth) (inner_room r x.layout x.depth) v
+          (and_left (is_settled_value mode v) (are_settled_elements mode es) rest))
+          (elements-settled x (suc i) (pad (to_element x.path i)) es s (and_right (is_settled_value mode v) (are_settled_elements mode es) rest)))
+
+      pairs-settled : (x : Inside) (i n : ℕ) (ps : Pairs) → InsideShown x → have_settled_values mode ps ≡ true
+          → have_settled_values mode (laid_pairs r pad x i n ps) ≡ true
+      pairs-settled x i n no_pairs s h = refl
+      pairs-settled x i n (pair f v ps) s h =
+          let both = and_left (is_shown_frame mode f) (is_settled_value mode v && have_settled_values mode ps) h in
+          let rest = and_right (is_shown_frame mode f) (is_settled_value mode v && have_settled_values mode ps) h in
+          and_both _ _
+          (and_both _ _
+          (before-shown x n (i == 0) f.leading s (and_left (is_shown_text mode f.leading) (is_shown_text mode f.trailing) both))
+          (end-shown x (has_pairs ps) f.trailing s (and_right (is_shown_text mode f.leading) (is_shown_text mode f.trailing) both)))
+          (and_both _ _
+          (value-settled (to_element x.path i) (inner_depth x.layout x.depth) None v (and_left (is_settled_value mode v) (have_settled_values mode ps) rest))
+          (pairs-settled x (suc i) (pad (to_element x.path i)) ps s (and_right (is_settled_value mode v) (have_settled_values mode ps) rest)))
 
   -- ---- the mentions of statements
 
@@ -248,19 +265,91 @@ module _ (mode : Mode) (r : Rules) (newlines : mode ≡ plain → r.returns ≡ 
       by_test true x = refl
       by_test false x = refl
 
-  opening-laid : (s : Bool) (keys : ℕ) (st : Statement) → opening_of (laid_statement r s keys st) ≡ relay (opening_of st)
-  unfolding relay
-  opening-laid s keys (key_line f v end) = sym none-relayed
-  opening-laid s keys (header x end) = refl
+  -- the one statement has the keys of the other one, laid out
+  record Keyed (t s : Statement) : Type 0 where
+    line : is_line t ≡ is_line s
+    opened : opening_of t ≡ relay (opening_of s)
+    closed : closing_of t ≡ relay (closing_of s)
+    paths_are : (c e : Context) → SameContext c e → segs (mentions_of c t) ≡ map (on_tag (laid_segment r)) (segs (mentions_of e s))
+    bones_are : skeleton t ≡ skeleton s
 
-  closing-laid : (s : Bool) (keys : ℕ) (st : Statement) → closing_of (laid_statement r s keys st) ≡ relay (closing_of st)
+  line-keyed : (g f : Frame) (w v : Value) (end : Text) → g.path ≡ laid_path r f.path
+      → skeleton (key_line g w end) ≡ skeleton (key_line f v end) → Keyed (key_line g w end) (key_line f v end)
   unfolding relay
-  closing-laid s keys (key_line f v end) = sym none-relayed
-  closing-laid s keys (header x end) = refl
+  line-keyed g f w v end p b =
+      let s = key_line f v end in
+      let t = key_line g w end in
+      record {
+        line = refl;
+        opened = sym none-relayed;
+        closed = sym none-relayed;
+        paths_are = λ c e h.
+            ap (λ q. segs (line_mentions (source_of c t) (c.start + path_start t) c.block q)) p
+            ∙ ap (λ q. segs (line_mentions (source_of c t) (c.start + path_start t) q (laid_path r f.path))) h.1
+            ∙ line-segs r (source_of e s) (source_of c t) (e.start + path_start s) (c.start + path_start t) e.block f.path;
+        bones_are = b;
+      }
 
-  line-laid : (s : Bool) (keys : ℕ) (st : Statement) → is_line (laid_statement r s keys st) ≡ is_line st
-  line-laid s keys (key_line f v end) = refl
-  line-laid s keys (header x end) = refl
+  header-keyed : (y x : Header) (end : Text) → y.path ≡ laid_path r x.path → y.is_array ≡ x.is_array → y.opening ≡ relay x.opening
+      → y.closing ≡ relay x.closing → skeleton (header y end) ≡ skeleton (header x end) → Keyed (header y end) (header x end)
+  header-keyed y x end p a o c b =
+      let s = header x end in
+      let t = header y end in
+      record {
+        line = refl;
+        opened = o;
+        closed = c;
+        paths_are = λ d e h.
+            ap (λ q. segs (header_mentions (source_of d t) d.arrays (header_role_of y) (d.start + path_start t) [] q)) p
+            ∙ ap (λ z. segs (header_mentions (source_of d t) d.arrays z (d.start + path_start t) [] (laid_path r x.path))) (ap role_of a)
+            ∙ ap (λ q. segs (header_mentions (source_of d t) q (header_role_of x) (d.start + path_start t) [] (laid_path r x.path))) h.0
+            ∙ header-segs r (source_of e s) (source_of d t) e.arrays (header_role_of x) (e.start + path_start s) (d.start + path_start t) [] x.path;
+        bones_are = b;
+      }
+
+  keyed : (pad : Path → ℕ) (st : State) (s : Statement) → (stays (reached r st (leading_of s)) ≡ true → keys_laid r s ≡ s)
+      → Keyed (lay r pad st s) s
+  unfolding relay
+  keyed pad st s k = by_test (stays (reached r st (leading_of s))) s (statement-bones r pad st s) k
+    where
+      by_test : (b : Bool) (s : Statement) → skeleton (if b then s else laid_statement r pad st s) ≡ skeleton s → (b ≡ true → keys_laid r s ≡ s)
+          → Keyed (if b then s else laid_statement r pad st s) s
+      by_test true (key_line f v end) q k = line-keyed f f v v end (sym (ap path_of (k refl))) q
+      by_test true (header x end) q k =
+          header-keyed x x end (sym (ap path_of (k refl))) refl (sym (ap opening_of (k refl))) (sym (ap closing_of (k refl))) q
+      by_test false (key_line f v end) q k = line-keyed (laid_frame r (leading r st.is_start (line_depth r st.keys) f.leading) (line_rest r (pad []) f.trailing) f) f
+          (laid_value r pad [] (line_depth r st.keys)
+          (Some (used_before (laid_frame r (leading r st.is_start (line_depth r st.keys) f.leading) (line_rest r (pad []) f.trailing) f))) v) v end refl q
+      by_test false (header x end) q k = header-keyed (record {
+        leading = header_leading r st.is_start (header_depth r (length x.path)) x.leading;
+        is_array = x.is_array;
+        opening = if r.dots then [] else x.opening;
+        path = laid_path r x.path;
+        closing = if r.dots then [] else x.closing;
+        trailing = line_rest r (usual_pad r.comments) x.trailing;
+      }) x end refl refl refl refl q
+
+  -- what follows of it
+  cores-keyed : (t s : Statement) → Keyed t s → (c e : Context) → SameContext c e → cores (mentions_of c t) ≡ cores (mentions_of e s)
+  cores-keyed t s k c e h =
+      sym (statement-cores c c t (refl, refl)) ∙ ap (λ x. cores (mentions_of c x)) k.bones_are ∙ statement-cores c e s h
+
+  context-keyed : (t s : Statement) → Keyed t s → (c e : Context) → SameContext c e → SameContext (context_after c t) (context_after e s)
+  context-keyed t s k c e h =
+      let old = context-bones c c t (refl, refl) in
+      let new = context-bones c e s h in (
+        sym old.0 ∙ ap (λ x. (context_after c x).arrays) k.bones_are ∙ new.0,
+        sym old.1 ∙ ap (λ x. (context_after c x).block) k.bones_are ∙ new.1,
+      )
+
+  source-bones : (c : Context) (x : Header) (end : Text) → (source_of c (skeleton (header x end))).path ≡ (source_of c (header x end)).path
+  source-bones c x end = path-bones-at c.arrays [] x.path
+
+  source-keyed : (y x : Header) (end : Text) → Keyed (header y end) (header x end) → (c e : Context) → SameContext c e
+      → (source_of c (header y end)).path ≡ (source_of e (header x end)).path
+  source-keyed y x end k c e h =
+      sym (source-bones c y end) ∙ ap (λ z. (source_of c z).path) k.bones_are ∙ source-bones c x end
+      ∙ ap (λ a. header_path a [] x.path) h.0
 
   abbrev of_statement : (Statement → Text) → List (Mention Source) → List (Tag Text)
   of_statement g ms = tags (λ m. g m.source.statement) ms
@@ -289,58 +378,13 @@ module _ (mode : Mode) (r : Rules) (newlines : mode ≡ plain → r.returns ≡ 
   statement-const g c (header x end) =
       header-const g (source_of c (header x end)) c.arrays (header_role_of x) (c.start + path_start (header x end)) [] x.path
 
-  statement-tags : (g : Statement → Text) → ((s : Bool) (keys : ℕ) (st : Statement) → g (laid_statement r s keys st) ≡ relay (g st))
-      → (c e : Context) (s : Bool) (keys : ℕ) (st : Statement) → SameContext r c e
-      → of_statement g (mentions_of c (laid_statement r s keys st)) ≡ map (on_tag relay) (of_statement g (mentions_of e st))
-  statement-tags g laid c e s keys st h =
-      let t = laid_statement r s keys st in
+  statement-tags : (g : Statement → Text) (t s : Statement) → g t ≡ relay (g s) → Keyed t s → (c e : Context) → SameContext c e
+      → of_statement g (mentions_of c t) ≡ map (on_tag relay) (of_statement g (mentions_of e s))
+  statement-tags g t s same k c e h =
       statement-const g c t
-      ∙ ap (λ u. map (λ x. (x, u)) (cores (mentions_of c t))) (laid s keys st)
-      ∙ ap (map (λ x. (x, relay (g st)))) (statement-cores r c e s keys st h)
-      ∙ sym (ap (map (on_tag relay)) (statement-const g e st) ∙ map-map (on_tag relay) (λ x. (x, g st)) (cores (mentions_of e st)))
-
-  statement-segs : (c e : Context) (s : Bool) (keys : ℕ) (st : Statement) → SameContext r c e
-      → segs (mentions_of c (laid_statement r s keys st)) ≡ map (on_tag (laid_segment r)) (segs (mentions_of e st))
-  statement-segs c e s keys (key_line f v end) h =
-      let t = laid_statement r s keys (key_line f v end) in
-      ap (λ b. segs (line_mentions (source_of c t) (c.start + path_start t) b (laid_path r f.path))) h.1
-      ∙ line-segs r (source_of e (key_line f v end)) (source_of c t) (e.start + path_start (key_line f v end)) (c.start + path_start t) e.block f.path
-  statement-segs c e s keys (header x end) h =
-      let t = laid_statement r s keys (header x end) in
-      ap (λ a. segs (header_mentions (source_of c t) a (header_role_of x) (c.start + path_start t) [] (laid_path r x.path))) h.0
-      ∙ header-segs r (source_of e (header x end)) (source_of c t) e.arrays (header_role_of x) (e.start + path_start (header x end))
-      (c.start + path_start t) [] x.path
-
-  -- those of all statements
-  all-tags : (g : Statement → Text) → ((s : Bool) (keys : ℕ) (st : Statement) → g (laid_statement r s keys st) ≡ relay (g st))
-      → (c e : Context) (s : Bool) (keys : ℕ) (ss : List Statement) → SameContext r c e
-      → of_statement g (mentioned (placed_from c (laid_statements r s keys ss))) ≡ map (on_tag relay) (of_statement g (mentioned (placed_from e ss)))
-  all-tags g laid c e s keys [] h = refl
-  all-tags g laid c e s keys (st ∷ rest) h =
-      let t = laid_statement r s keys st in
-      let ns = mentioned (placed_from (context_after c t) (laid_statements r false (keys_below keys st) rest)) in
-      let ms = mentioned (placed_from (context_after e st) rest) in
-      map-append (tag (λ m. g m.source.statement)) (mentions_of c t) ns
-      ∙ ap (λ xs. xs ++ of_statement g ns) (statement-tags g laid c e s keys st h)
-      ∙ ap (λ xs. map (on_tag relay) (of_statement g (mentions_of e st)) ++ xs)
-      (all-tags g laid (context_after c t) (context_after e st) false (keys_below keys st) rest (context-laid r c e s keys st h))
-      ∙ sym (ap (map (on_tag relay)) (map-append (tag (λ m. g m.source.statement)) (mentions_of e st) ms)
-      ∙ map-append (on_tag relay) (of_statement g (mentions_of e st)) (of_statement g ms))
-
-  all-segs : (c e : Context) (s : Bool) (keys : ℕ) (ss : List Statement) → SameContext r c e
-      → segs (mentioned (placed_from c (laid_statements r s keys ss)))
-      ≡ map (on_tag (laid_segment r)) (segs (mentioned (placed_from e ss)))
-  all-segs c e s keys [] h = refl
-  all-segs c e s keys (st ∷ rest) h =
-      let t = laid_statement r s keys st in
-      let ns = mentioned (placed_from (context_after c t) (laid_statements r false (keys_below keys st) rest)) in
-      let ms = mentioned (placed_from (context_after e st) rest) in
-      segs-append (mentions_of c t) ns
-      ∙ ap (λ xs. xs ++ segs ns) (statement-segs c e s keys st h)
-      ∙ ap (λ xs. map (on_tag (laid_segment r)) (segs (mentions_of e st)) ++ xs)
-      (all-segs (context_after c t) (context_after e st) false (keys_below keys st) rest (context-laid r c e s keys st h))
-      ∙ sym (ap (map (on_tag (laid_segment r))) (segs-append (mentions_of e st) ms)
-      ∙ map-append (on_tag (laid_segment r)) (segs (mentions_of e st)) (segs ms))
+      ∙ ap (λ u. map (λ x. (x, u)) (cores (mentions_of c t))) same
+      ∙ ap (map (λ x. (x, relay (g s)))) (cores-keyed t s k c e h)
+      ∙ sym (ap (map (on_tag relay)) (statement-const g e s) ∙ map-map (on_tag relay) (λ x. (x, g s)) (cores (mentions_of e s)))
 
   -- ---- statements
 
@@ -375,118 +419,201 @@ module _ (mode : Mode) (r : Rules) (newlines : mode ≡ plain → r.returns ≡ 
   same-relayed a b u v e f h =
       ap (λ x. same_text x v) (e ∙ ap relay (same_text-is a b h) ∙ sym f) ∙ same_text-refl v
 
-  statement-settled : (ms ns : List (Mention Source)) (c e : Context) (s : Bool) (keys : ℕ) (st : Statement) → Alike ms ns → SameContext r c e
-      → is_settled_statement mode ms (placed_at e st) st ≡ true
-      → is_settled_statement mode ns (placed_at c (laid_statement r s keys st)) (laid_statement r s keys st) ≡ true
-  statement-settled ms ns c e s keys (key_line f v end) a h g =
-      let st = key_line f v end in
-      let i = line_indent r keys in
-      let own = mentions_of e st in
-      let first = and_left (is_shown_frame mode f && is_settled_value mode v) (is_kept ms own && is_settled_end mode end) g in
-      let second = and_right (is_shown_frame mode f && is_settled_value mode v) (is_kept ms own && is_settled_end mode end) g in
-      let frame = and_left (is_shown_frame mode f) (is_settled_value mode v) first in
-      and_both _ _
+  -- a line and a header with the keys laid out, and what else it has shown
+  line-settled : (ms ns : List (Mention Source)) (c e : Context) (f g : Frame) (v w : Value) (end : Text)
+      → Keyed (key_line g w end) (key_line f v end) → Alike ms ns → SameContext c e
+      → is_settled_statement mode ms (placed_at e (key_line f v end)) (key_line f v end) ≡ true
+      → (is_shown_frame mode g && is_settled_value mode w) ≡ true
+      → is_settled_statement mode ns (placed_at c (key_line g w end)) (key_line g w end) ≡ true
+  line-settled ms ns c e f g v w end k a h old shown =
+      let own = mentions_of e (key_line f v end) in
+      let second = and_right (is_shown_frame mode f && is_settled_value mode v) (is_kept ms own && is_settled_end mode end) old in
+      and_both _ _ shown
       (and_both _ _
-      (and_both _ _
-      (shown-by mode f.leading (leading r s i f.leading) (λ x y. leading-none r (newlines x) s i f.leading (indent-none r keys) y)
-      (and_left (is_shown_text mode f.leading) (is_shown_text mode f.trailing) frame))
-      (shown-by mode f.trailing (line_rest r f.trailing) (λ x y. line-rest-none r (newlines x) f.trailing y)
-      (and_right (is_shown_text mode f.leading) (is_shown_text mode f.trailing) frame)))
-      (value-settled i (Some (used_before i f)) v (indent-none r keys) (and_right (is_shown_frame mode f) (is_settled_value mode v) first)))
-      (and_both _ _
-      (kept-laid r ms own ns (mentions_of c (laid_statement r s keys st)) a.segments (statement-segs c e s keys st h)
+      (kept-laid r ms own ns (mentions_of c (key_line g w end)) a.segments (k.paths_are c e h)
       (and_left (is_kept ms own) (is_settled_end mode end) second))
       (and_right (is_kept ms own) (is_settled_end mode end) second))
-  statement-settled ms ns c e s keys (header x end) a h g =
-      let st = header x end in
-      let t = laid_statement r s keys st in
-      let i = header_indent r (length x.path) in
-      let own = mentions_of e st in
-      let from = kept_statement ms (source_of e st).path st in
+
+  header-settled : (ms ns : List (Mention Source)) (c e : Context) (x y : Header) (end : Text)
+      → Keyed (header y end) (header x end) → Alike ms ns → SameContext c e
+      → is_settled_statement mode ms (placed_at e (header x end)) (header x end) ≡ true → is_shown_text mode y.leading ≡ true
+      → is_settled_statement mode ns (placed_at c (header y end)) (header y end) ≡ true
+  header-settled ms ns c e x y end k a h old shown =
+      let s = header x end in
+      let t = header y end in
+      let own = mentions_of e s in
+      let from = kept_statement ms (source_of e s).path s in
       let there = kept_statement ns (source_of c t).path t in
       let spaces = same_text x.opening (opening_of from) && same_text x.closing (closing_of from) in
-      let first = and_left (is_shown_text mode x.leading && spaces) (is_kept ms own && is_settled_end mode end) g in
-      let second = and_right (is_shown_text mode x.leading && spaces) (is_kept ms own && is_settled_end mode end) g in
+      let first = and_left (is_shown_text mode x.leading && spaces) (is_kept ms own && is_settled_end mode end) old in
+      let second = and_right (is_shown_text mode x.leading && spaces) (is_kept ms own && is_settled_end mode end) old in
       let inner = and_right (is_shown_text mode x.leading) spaces first in
-      let path : (source_of c t).path ≡ (source_of e st).path =
-      ap (λ b. header_path b [] (laid_path r x.path)) h.0 ∙ path-laid r e.arrays [] x.path in
+      let path = source-keyed y x end k c e h in
       and_both _ _
+      (and_both _ _ shown
       (and_both _ _
-      (shown-by mode x.leading (header_leading r s i x.leading) (λ y z. header-none r (newlines y) s i x.leading (indent-none r _) z)
-      (and_left (is_shown_text mode x.leading) spaces first))
-      (and_both _ _
-      (same-relayed x.opening (opening_of from) (opening_of t) (opening_of there) (opening-laid s keys st)
+      (same-relayed x.opening (opening_of from) (opening_of t) (opening_of there) k.opened
       (ap (λ q. opening_of (kept_statement ns q t)) path
-      ∙ kept-relayed opening_of ms ns (source_of e st).path st t a.openings (opening-laid s keys st))
+      ∙ kept-relayed opening_of ms ns (source_of e s).path s t a.openings k.opened)
       (and_left (same_text x.opening (opening_of from)) (same_text x.closing (closing_of from)) inner))
-      (same-relayed x.closing (closing_of from) (closing_of t) (closing_of there) (closing-laid s keys st)
+      (same-relayed x.closing (closing_of from) (closing_of t) (closing_of there) k.closed
       (ap (λ q. closing_of (kept_statement ns q t)) path
-      ∙ kept-relayed closing_of ms ns (source_of e st).path st t a.closings (closing-laid s keys st))
+      ∙ kept-relayed closing_of ms ns (source_of e s).path s t a.closings k.closed)
       (and_right (same_text x.opening (opening_of from)) (same_text x.closing (closing_of from)) inner))))
       (and_both _ _
-      (kept-laid r ms own ns (mentions_of c t) a.segments (statement-segs c e s keys st h)
+      (kept-laid r ms own ns (mentions_of c t) a.segments (k.paths_are c e h)
       (and_left (is_kept ms own) (is_settled_end mode end) second))
       (and_right (is_kept ms own) (is_settled_end mode end) second))
 
-  all-settled : (ms ns : List (Mention Source)) (c e : Context) (s : Bool) (keys : ℕ) (ss : List Statement) → Alike ms ns → SameContext r c e
-      → list_all (λ p. is_settled_statement mode ms p p.source.statement) (placed_from e ss) ≡ true
-      → list_all (λ p. is_settled_statement mode ns p p.source.statement) (placed_from c (laid_statements r s keys ss)) ≡ true
-  all-settled ms ns c e s keys [] a h g = refl
-  all-settled ms ns c e s keys (st ∷ rest) a h g =
-      let t = laid_statement r s keys st in
-      let more = list_all (λ p. is_settled_statement mode ms p p.source.statement) (placed_from (context_after e st) rest) in
-      and_both _ _
-      (ap (is_settled_statement mode ns (placed_at c t)) (source-statement c t)
-      ∙ statement-settled ms ns c e s keys st a h
-      (ap (is_settled_statement mode ms (placed_at e st)) (sym (source-statement e st))
-      ∙ and_left (is_settled_statement mode ms (placed_at e st) (source_of e st).statement) more g))
-      (all-settled ms ns (context_after c t) (context_after e st) false (keys_below keys st) rest a (context-laid r c e s keys st h)
-      (and_right (is_settled_statement mode ms (placed_at e st) (source_of e st).statement) more g))
+  statement-settled : (ms ns : List (Mention Source)) (c e : Context) (pad : Path → ℕ) (st : State) (s : Statement)
+      → Keyed (lay r pad st s) s → Alike ms ns → SameContext c e
+      → is_settled_statement mode ms (placed_at e s) s ≡ true
+      → is_settled_statement mode ns (placed_at c (lay r pad st s)) (lay r pad st s) ≡ true
+  statement-settled ms ns c e pad st s k a h old = by_test (stays (reached r st (leading_of s))) s k old
+    where
+      by_test : (b : Bool) (s : Statement) → Keyed (if b then s else laid_statement r pad st s) s
+          → is_settled_statement mode ms (placed_at e s) s ≡ true
+          → is_settled_statement mode ns (placed_at c (if b then s else laid_statement r pad st s)) (if b then s else laid_statement r pad st s) ≡ true
+      by_test true (key_line f v end) q g =
+          line-settled ms ns c e f f v v end q a h g
+          (and_left (is_shown_frame mode f && is_settled_value mode v) (is_kept ms (mentions_of e (key_line f v end)) && is_settled_end mode end) g)
+      by_test true (header x end) q g =
+          header-settled ms ns c e x x end q a h g
+          (and_left (is_shown_text mode x.leading) _
+          (and_left _ (is_kept ms (mentions_of e (header x end)) && is_settled_end mode end) g))
+      by_test false (key_line f v end) q g =
+          let depth = line_depth r st.keys in
+          let frame = laid_frame r (leading r st.is_start depth f.leading) (line_rest r (pad []) f.trailing) f in
+          let first = and_left (is_shown_frame mode f && is_settled_value mode v) (is_kept ms (mentions_of e (key_line f v end)) && is_settled_end mode end) g in
+          let both = and_left (is_shown_frame mode f) (is_settled_value mode v) first in
+          line-settled ms ns c e f frame v (laid_value r pad [] depth (Some (used_before frame)) v) end q a h g
+          (and_both _ _
+          (and_both _ _
+          (shown-by mode f.leading (leading r st.is_start depth f.leading) (λ x y. leading-none r st.is_start depth f.leading y)
+          (and_left (is_shown_text mode f.leading) (is_shown_text mode f.trailing) both))
+          (shown-by mode f.trailing (line_rest r (pad []) f.trailing) (λ x y. line-rest-none r (pad []) f.trailing y)
+          (and_right (is_shown_text mode f.leading) (is_shown_text mode f.trailing) both)))
+          (value-settled pad [] depth (Some (used_before frame)) v (and_right (is_shown_frame mode f) (is_settled_value mode v) first)))
+      by_test false (header x end) q g =
+          let depth = header_depth r (length x.path) in
+          header-settled ms ns c e x (record {
+            leading = header_leading r st.is_start depth x.leading;
+            is_array = x.is_array;
+            opening = if r.dots then [] else x.opening;
+            path = laid_path r x.path;
+            closing = if r.dots then [] else x.closing;
+            trailing = line_rest r (usual_pad r.comments) x.trailing;
+          }) end q a h g
+          (shown-by mode x.leading (header_leading r st.is_start depth x.leading)
+          (λ y z. header-none r (newlines y) st.is_start depth x.leading z)
+          (and_left (is_shown_text mode x.leading) _
+          (and_left _ (is_kept ms (mentions_of e (header x end)) && is_settled_end mode end) g)))
 
-  -- ---- order
+  -- ---- all statements
 
-  all-seats : (c e : Context) (s : Bool) (keys : ℕ) (ss : List Statement) → SameContext r c e
-      → map seat (placed_from c (laid_statements r s keys ss)) ≡ map seat (placed_from e ss)
-  all-seats c e s keys [] h = refl
-  all-seats c e s keys (st ∷ rest) h =
-      let t = laid_statement r s keys st in
-      let more = map seat (placed_from (context_after c t) (laid_statements r false (keys_below keys st) rest)) in
-      ap (λ x. (is_line x, paths (mentions_of c t)) ∷ more) (source-statement c t)
-      ∙ ap (λ b. (b, paths (mentions_of c t)) ∷ more) (line-laid s keys st)
-      ∙ ap (λ ps. (is_line st, ps) ∷ more)
-      (paths-cores (mentions_of c t) ∙ ap (map (λ x. x.0)) (statement-cores r c e s keys st h) ∙ sym (paths-cores (mentions_of e st)))
-      ∙ ap (λ x. (is_line x, paths (mentions_of e st)) ∷ more) (sym (source-statement e st))
-      ∙ ap (λ xs. seat (placed_at e st) ∷ xs)
-      (all-seats (context_after c t) (context_after e st) false (keys_below keys st) rest (context-laid r c e s keys st h))
+  module _ (pad : ℕ → Path → ℕ) where
+    all-tags : (g : Statement → Text) → ((t s : Statement) → Keyed t s → g t ≡ relay (g s))
+        → (c e : Context) (n : ℕ) (st : State) (ss : List Statement) → KeysAreLaid r st ss → SameContext c e
+        → of_statement g (mentioned (placed_from c (laid_statements r pad n st ss))) ≡ map (on_tag relay) (of_statement g (mentioned (placed_from e ss)))
+    all-tags g same c e n st [] a h = refl
+    all-tags g same c e n st (s ∷ rest) a h =
+        let t = lay r (pad n) st s in
+        let k = keyed (pad n) st s a.0 in
+        let ns = mentioned (placed_from (context_after c t) (laid_statements r pad (suc n) (after r st s) rest)) in
+        let ms = mentioned (placed_from (context_after e s) rest) in
+        map-append (tag (λ m. g m.source.statement)) (mentions_of c t) ns
+        ∙ ap (λ xs. xs ++ of_statement g ns) (statement-tags g t s (same t s k) k c e h)
+        ∙ ap (λ xs. map (on_tag relay) (of_statement g (mentions_of e s)) ++ xs)
+        (all-tags g same (context_after c t) (context_after e s) (suc n) (after r st s) rest a.1 (context-keyed t s k c e h))
+        ∙ sym (ap (map (on_tag relay)) (map-append (tag (λ m. g m.source.statement)) (mentions_of e s) ms)
+        ∙ map-append (on_tag relay) (of_statement g (mentions_of e s)) (of_statement g ms))
 
-  settled-document : (d : Document) → is_settled_in mode d ≡ true → is_settled_in mode (laid_document r d) ≡ true
-  settled-document d h =
-      let c = start_context d in
-      let ss = laid_statements r true 0 d.statements in
-      let xs = placed_from c d.statements in
-      let ys = placed_from c ss in
-      let mss = map (λ x. x.mentions) xs in
-      let nss = map (λ x. x.mentions) ys in
-      let start = not d.has_mark && is_shown_text mode d.final in
-      let body = and_right start _ h in
-      let head = and_left start _ h in
-      and_both _ _
-      (and_both _ _
-      (and_left (not d.has_mark) (is_shown_text mode d.final) head)
-      (shown-by mode d.final (final_text r (is_empty d.statements) d.final) (λ x y. final-none-return r (newlines x) (is_empty d.statements) d.final y)
-      (and_right (not d.has_mark) (is_shown_text mode d.final) head)))
-      (and_both _ _
-      (line-order nss ys
-      ∙ ap (λ ps. is_sorted_by (seated ps) (map seat ys)) (same-paths mss nss (all-cores r c c true 0 d.statements (refl, refl)))
-      ∙ ap (is_sorted_by (seated (map paths mss))) (all-seats c c true 0 d.statements (refl, refl))
-      ∙ sym (line-order mss xs) ∙ and_left (has_ordered_lines mss xs) _ body)
-      (all-settled (flat_map (λ m. m) mss) (flat_map (λ m. m) nss) c c true 0 d.statements
-      (record {
-        segments = all-segs c c true 0 d.statements (refl, refl);
-        openings = all-tags opening_of opening-laid c c true 0 d.statements (refl, refl);
-        closings = all-tags closing_of closing-laid c c true 0 d.statements (refl, refl);
-      })
-      (refl, refl) (and_right (has_ordered_lines mss xs) _ body)))
+    all-segs : (c e : Context) (n : ℕ) (st : State) (ss : List Statement) → KeysAreLaid r st ss → SameContext c e
+        → segs (mentioned (placed_from c (laid_statements r pad n st ss)))
+        ≡ map (on_tag (laid_segment r)) (segs (mentioned (placed_from e ss)))
+    all-segs c e n st [] a h = refl
+    all-segs c e n st (s ∷ rest) a h =
+        let t = lay r (pad n) st s in
+        let k = keyed (pad n) st s a.0 in
+        let ns = mentioned (placed_from (context_after c t) (laid_statements r pad (suc n) (after r st s) rest)) in
+        let ms = mentioned (placed_from (context_after e s) rest) in
+        segs-append (mentions_of c t) ns
+        ∙ ap (λ xs. xs ++ segs ns) (k.paths_are c e h)
+        ∙ ap (λ xs. map (on_tag (laid_segment r)) (segs (mentions_of e s)) ++ xs)
+        (all-segs (context_after c t) (context_after e s) (suc n) (after r st s) rest a.1 (context-keyed t s k c e h))
+        ∙ sym (ap (map (on_tag (laid_segment r))) (segs-append (mentions_of e s) ms)
+        ∙ map-append (on_tag (laid_segment r)) (segs (mentions_of e s)) (segs ms))
+
+    all-settled : (ms ns : List (Mention Source)) (c e : Context) (n : ℕ) (st : State) (ss : List Statement) → Alike ms ns
+        → KeysAreLaid r st ss → SameContext c e
+        → list_all (λ p. is_settled_statement mode ms p p.source.statement) (placed_from e ss) ≡ true
+        → list_all (λ p. is_settled_statement mode ns p p.source.statement) (placed_from c (laid_statements r pad n st ss)) ≡ true
+    all-settled ms ns c e n st [] o a h g = refl
+    all-settled ms ns c e n st (s ∷ rest) o a h g =
+        let t = lay r (pad n) st s in
+        let k = keyed (pad n) st s a.0 in
+        let more = list_all (λ p. is_settled_statement mode ms p p.source.statement) (placed_from (context_after e s) rest) in
+        and_both _ _
+        (ap (is_settled_statement mode ns (placed_at c t)) (source-statement c t)
+        ∙ statement-settled ms ns c e (pad n) st s k o h
+        (ap (is_settled_statement mode ms (placed_at e s)) (sym (source-statement e s))
+        ∙ and_left (is_settled_statement mode ms (placed_at e s) (source_of e s).statement) more g))
+        (all-settled ms ns (context_after c t) (context_after e s) (suc n) (after r st s) rest o a.1 (context-keyed t s k c e h)
+        (and_right (is_settled_statement mode ms (placed_at e s) (source_of e s).statement) more g))
+
+    all-seats : (c e : Context) (n : ℕ) (st : State) (ss : List Statement) → KeysAreLaid r st ss → SameContext c e
+        → map seat (placed_from c (laid_statements r pad n st ss)) ≡ map seat (placed_from e ss)
+    all-seats c e n st [] a h = refl
+    all-seats c e n st (s ∷ rest) a h =
+        let t = lay r (pad n) st s in
+        let k = keyed (pad n) st s a.0 in
+        let more = map seat (placed_from (context_after c t) (laid_statements r pad (suc n) (after r st s) rest)) in
+        ap (λ x. (is_line x, paths (mentions_of c t)) ∷ more) (source-statement c t)
+        ∙ ap (λ b. (b, paths (mentions_of c t)) ∷ more) k.line
+        ∙ ap (λ ps. (is_line s, ps) ∷ more)
+        (paths-cores (mentions_of c t) ∙ ap (map (λ x. x.0)) (cores-keyed t s k c e h) ∙ sym (paths-cores (mentions_of e s)))
+        ∙ ap (λ x. (is_line x, paths (mentions_of e s)) ∷ more) (sym (source-statement e s))
+        ∙ ap (λ xs. seat (placed_at e s) ∷ xs)
+        (all-seats (context_after c t) (context_after e s) (suc n) (after r st s) rest a.1 (context-keyed t s k c e h))
+
+    final-shown : (st : State) (t : Text) → is_shown_text mode t ≡ true → is_shown_text mode (laid_final r st t) ≡ true
+    final-shown st t h = by_test (stays (reached r st t))
+      where
+        by_test : (b : Bool) → is_shown_text mode (if b then t else final_text r st.is_start t) ≡ true
+        by_test true = h
+        by_test false = shown-by mode t (final_text r st.is_start t) (λ x y. final-none-return r st.is_start t y) h
+
+    settled-document : (d : Document) → KeysAreLaid r start d.statements → is_settled_in mode d ≡ true
+        → is_settled_in mode (laid_document r pad d) ≡ true
+    settled-document d a h =
+        let c = start_context d in
+        let ss = laid_statements r pad 0 start d.statements in
+        let xs = placed_from c d.statements in
+        let ys = placed_from c ss in
+        let mss = map (λ x. x.mentions) xs in
+        let nss = map (λ x. x.mentions) ys in
+        let same = sym (all-cores c c ss (refl, refl))
+        ∙ ap (λ us. map cores (map (λ p. p.mentions) (placed_from c us))) (statements-bones r pad 0 start d.statements)
+        ∙ all-cores c c d.statements (refl, refl) in
+        let begun = not d.has_mark && is_shown_text mode d.final in
+        let body = and_right begun _ h in
+        let head = and_left begun _ h in
+        and_both _ _
+        (and_both _ _
+        (and_left (not d.has_mark) (is_shown_text mode d.final) head)
+        (final-shown (state_after r start d.statements) d.final (and_right (not d.has_mark) (is_shown_text mode d.final) head)))
+        (and_both _ _
+        (line-order nss ys
+        ∙ ap (λ ps. is_sorted_by (seated ps) (map seat ys)) (same-paths mss nss same)
+        ∙ ap (is_sorted_by (seated (map paths mss))) (all-seats c c 0 start d.statements a (refl, refl))
+        ∙ sym (line-order mss xs) ∙ and_left (has_ordered_lines mss xs) _ body)
+        (all-settled (flat_map (λ m. m) mss) (flat_map (λ m. m) nss) c c 0 start d.statements
+        (record {
+          segments = all-segs c c 0 start d.statements a (refl, refl);
+          openings = all-tags opening_of (λ t s k. k.opened) c c 0 start d.statements a (refl, refl);
+          closings = all-tags closing_of (λ t s k. k.closed) c c 0 start d.statements a (refl, refl);
+        })
+        a (refl, refl) (and_right (has_ordered_lines mss xs) _ body)))
 
 pub stays_settled : StaysSettled
-stays_settled mode r d newlines h = settled-document mode r newlines d h
+stays_settled mode r newlines pad d a h = settled-document mode r newlines pad d a h

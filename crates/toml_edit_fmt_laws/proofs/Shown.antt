@@ -7,14 +7,16 @@ use Rattle.std.proofs.lemmas.List.Folds.{list_any-append}
 use Rattle.toml_edit_model.specs.Comments.{begun_with, comments, first_comment, first_line, lines, words}
 use Rattle.toml_edit_model.specs.Mode.{exact, ends_in_return, but_last, line_newline}
 use Rattle.toml_edit_model.specs.Text.{Text, carriage_return, line_feed, newline, one, has_byte, is_empty, joined}
+use Rattle.toml_edit_model.specs.Paths.{Path}
+use Rattle.toml_edit_model.specs.Print.{one_space}
 use Rattle.toml_edit_model.specs.Trivia.{is_blank}
 use Rattle.toml_edit_laws.proofs.common.Each.{all-filter}
 use Rattle.toml_edit_laws.proofs.common.Tests.{or-left, or-right}
-use Rattle.toml_edit_fmt_laws.specs.Rules.{Indentation, as_it_is, flush, by_depth, Rules, spaces, units, deeper, made_newline, indent_as, line_indent}
-use Rattle.toml_edit_fmt_laws.specs.Laying.{is_empty_line, is_whole_line, line_words, whole_lines, indented, spaced, is_broken, leading_as, leading}
-use Rattle.toml_edit_fmt_laws.specs.Laying.{has_empty_line, header_leading, rest_after, line_rest, line_break, beside, gap, before_comma}
+use Rattle.toml_edit_fmt_laws.specs.Rules.{Indentation, as_it_is, flush, by_depth, Comments, as_they_are, apart, aligned, Rules, spaces, units, made_newline}
+use Rattle.toml_edit_fmt_laws.specs.Laying.{is_empty_line, is_whole_line, line_words, whole_lines, indented, spaced, laid_lines, is_broken, leading_as, leading}
+use Rattle.toml_edit_fmt_laws.specs.Laying.{may_be_empty, header_leading, rest_as, line_rest, usual_pad, line_break, beside, gap, before_comma}
 use Rattle.toml_edit_fmt_laws.specs.Laying.{final_as, final_text}
-use Rattle.toml_edit_fmt_laws.specs.Formatted.{Layout, untouched, on_one_line, line_by_line, before_part, after_part, before_bracket}
+use Rattle.toml_edit_fmt_laws.specs.Formatted.{Layout, untouched, on_one_line, line_by_line, in_rows, before_part, after_part, before_bracket, last_text, close_text, Inside, inside}
 use Rattle.toml_edit_fmt_laws.proofs.Spacing.{all-spaced}
 
 abbrev pub NoReturn : Text → Type 0
@@ -88,111 +90,118 @@ pub spaces-none : (n : ℕ) → NoReturn (spaces n)
 spaces-none zero = refl
 spaces-none (suc n) = spaces-none n
 
-rest-none : (n : Option ℕ) (t : Text) → NoReturn t → NoReturn (rest_after n t)
-rest-none None t h = h
-rest-none (Some n) t h =
-    none-append (if is_some (first_comment t) then spaces n else []) (words t) (by_test (is_some (first_comment t))) (words-none t h)
-  where
-    by_test : (b : Bool) → NoReturn (if b then spaces n else [])
-    by_test true = spaces-none n
-    by_test false = refl
+pub if-none : (b : Bool) (s t : Text) → NoReturn s → NoReturn t → NoReturn (if b then s else t)
+if-none true s t h g = h
+if-none false s t h g = g
+
+spaced-none : (n : ℕ) (t : Text) → NoReturn t → NoReturn ((if is_some (first_comment t) then spaces n else []) ++ words t)
+spaced-none n t h =
+    none-append (if is_some (first_comment t) then spaces n else []) (words t)
+    (if-none (is_some (first_comment t)) (spaces n) [] (spaces-none n) refl) (words-none t h)
+
+rest-none : (c : Comments) (pad : ℕ) (t : Text) → NoReturn t → NoReturn (rest_as c pad t)
+rest-none as_they_are pad t h = h
+rest-none (apart n) pad t h = spaced-none n t h
+rest-none (aligned n) pad t h = spaced-none pad t h
 
 module _ (r : Rules) where
-  pub deeper-none : (i : Text) → NoReturn i → NoReturn (deeper r i)
-  deeper-none i h = none-append i (spaces r.unit) h (spaces-none r.unit)
-
   units-none : (n : ℕ) → NoReturn (units r n)
   units-none zero = refl
   units-none (suc n) = none-append (spaces r.unit) (units r n) (spaces-none r.unit) (units-none n)
 
-  pub indent-none : (n : ℕ) → NoReturn (line_indent r n)
-  indent-none n = by_kind r.indentation
+  laid-none : (s e : Bool) (o : Option ℕ) (t : Text) → NoReturn t → NoReturn (laid_lines r s e o t)
+  laid-none s e None t h =
+      joined-none (spaced r.blank_lines s e (lines t)) (all-spaced is_empty_line NoReturn r.blank_lines s e (lines t) (lines-none t h))
+  laid-none s e (Some depth) t h =
+      indented-none (units r depth) (spaced r.blank_lines s e (whole_lines (lines t))) (units-none depth)
+      (all-spaced is_empty_line NoReturn r.blank_lines s e (whole_lines (lines t)) (all-filter NoReturn is_whole_line (lines t) (lines-none t h)))
+
+  pub leading-none : (s : Bool) (depth : ℕ) (t : Text) → NoReturn t → NoReturn (leading r s depth t)
+  leading-none s depth t h = by_kind r.indentation
     where
-      by_kind : (k : Indentation) → NoReturn (indent_as k r n)
-      by_kind as_it_is = refl
-      by_kind flush = refl
-      by_kind by_depth = units-none n
-
-module _ (r : Rules) (plain_newlines : r.returns ≡ false) where
-  made-none : NoReturn (made_newline r)
-  made-none = ap (λ b. has_byte carriage_return (if b then carriage_return ∷ newline else newline)) plain_newlines
-
-  lines-spaced : (s e : Bool) (ls : List Text) → AllByRecursion NoReturn ls → AllByRecursion NoReturn (spaced r s e ls)
-  lines-spaced s e ls h = all-spaced is_empty_line NoReturn r s e ls h
-
-  whole-none : (ls : List Text) → AllByRecursion NoReturn ls → AllByRecursion NoReturn (whole_lines ls)
-  whole-none ls h = all-filter NoReturn is_whole_line ls h
-
-  lead-none : (k : Indentation) (s : Bool) (i t : Text) → NoReturn i → NoReturn t → NoReturn (leading_as k r s i t)
-  lead-none as_it_is s i t w h = joined-none _ (lines-spaced s false (lines t) (lines-none t h))
-  lead-none flush s i t w h =
-      none-append (flat_map (indented i) (spaced r s false (whole_lines (lines t)))) i (indented-none i _ w (lines-spaced s false (whole_lines (lines t)) (whole-none (lines t) (lines-none t h)))) w
-  lead-none by_depth s i t w h =
-      none-append (flat_map (indented i) (spaced r s false (whole_lines (lines t)))) i (indented-none i _ w (lines-spaced s false (whole_lines (lines t)) (whole-none (lines t) (lines-none t h)))) w
-
-  pub leading-none : (s : Bool) (i t : Text) → NoReturn i → NoReturn t → NoReturn (leading r s i t)
-  leading-none s i t w h = lead-none r.indentation s i t w h
-
-  pub header-none : (s : Bool) (i t : Text) → NoReturn i → NoReturn t → NoReturn (header_leading r s i t)
-  header-none s i t w h = by_test (r.empty_lines && not (s || has_empty_line (leading r s i t)))
-    where
-      by_test : (b : Bool) → NoReturn (if b then made_newline r ++ leading r s i t else leading r s i t)
-      by_test true = none-append (made_newline r) (leading r s i t) made-none (leading-none s i t w h)
-      by_test false = leading-none s i t w h
+      by_kind : (k : Indentation) → NoReturn (leading_as k r s depth t)
+      by_kind as_it_is = laid-none s false None t h
+      by_kind flush = none-append (laid_lines r s false (Some depth) t) (units r depth) (laid-none s false (Some depth) t h) (units-none depth)
+      by_kind by_depth = none-append (laid_lines r s false (Some depth) t) (units r depth) (laid-none s false (Some depth) t h) (units-none depth)
 
   pub final-none-return : (s : Bool) (t : Text) → NoReturn t → NoReturn (final_text r s t)
   final-none-return s t h = by_kind r.indentation
     where
       by_kind : (k : Indentation) → NoReturn (final_as k r s t)
-      by_kind as_it_is = joined-none _ (lines-spaced s true (lines t) (lines-none t h))
-      by_kind flush = indented-none [] _ refl (lines-spaced s true (whole_lines (lines t)) (whole-none (lines t) (lines-none t h)))
-      by_kind by_depth = indented-none [] _ refl (lines-spaced s true (whole_lines (lines t)) (whole-none (lines t) (lines-none t h)))
+      by_kind as_it_is = laid-none s true None t h
+      by_kind flush = laid-none s true (Some 0) t h
+      by_kind by_depth = laid-none s true (Some 0) t h
 
-  pub line-rest-none : (t : Text) → NoReturn t → NoReturn (line_rest r t)
-  line-rest-none t h = rest-none r.before_comment t h
+  pub line-rest-none : (pad : ℕ) (t : Text) → NoReturn t → NoReturn (line_rest r pad t)
+  line-rest-none pad t h = rest-none r.comments pad t h
 
-  break-none : (t : Text) → NoReturn t → NoReturn (line_break r t)
-  break-none t h = by_test (is_broken t)
+module _ (r : Rules) (plain_newlines : r.returns ≡ false) where
+  made-none : NoReturn (made_newline r)
+  made-none = ap (λ b. has_byte carriage_return (if b then carriage_return ∷ newline else newline)) plain_newlines
+
+  pub header-none : (s : Bool) (depth : ℕ) (t : Text) → NoReturn t → NoReturn (header_leading r s depth t)
+  header-none s depth t h =
+      none-append (if may_be_empty r.blank_lines && not (s || is_broken t) then made_newline r else []) (leading r s depth t)
+      (if-none (may_be_empty r.blank_lines && not (s || is_broken t)) (made_newline r) [] made-none refl) (leading-none r s depth t h)
+
+  gap-none-return : (pad : ℕ) (s e : Bool) (depth last : ℕ) (t : Text) → NoReturn t → NoReturn (gap r pad s e depth last t)
+  gap-none-return pad s e depth last t h =
+      none-append (beside r pad t) _ (if-none (is_some (first_comment t)) _ [] (line-rest-none r pad (first_line t) (first-none t h)) refl)
+      (none-append (line_break r t) _
+      (if-none (is_broken t) _ (made_newline r) (ap (has_byte carriage_return) (newline-none t h)) made-none)
+      (none-append (laid_lines r s e (Some depth) (joined (drop 1 (lines t)))) (units r last)
+      (laid-none r s e (Some depth) (joined (drop 1 (lines t))) (joined-none (drop 1 (lines t)) (drop-all (lines t) (lines-none t h))))
+      (units-none r last)))
+
+  comma-none-return : (depth : ℕ) (t : Text) → NoReturn t → NoReturn (before_comma r depth t)
+  comma-none-return depth t h =
+      if-none (is_empty (comments t)) [] _ refl (gap-none-return (usual_pad r.comments) false false depth depth t h)
+
+  pub before-none : (l : Layout) (n : ℕ) (first : Bool) (depth : ℕ) (edge t : Text) → NoReturn edge → NoReturn t
+      → NoReturn (before_part r l n first depth edge t)
+  before-none untouched n first depth edge t w h = h
+  before-none on_one_line n first depth edge t w h = if-none first edge one_space w refl
+  before-none line_by_line n first depth edge t w h = gap-none-return n first false (suc depth) (suc depth) t h
+  before-none in_rows n first depth edge t w h =
+      if-none (first || is_broken t) _ one_space (gap-none-return n first false (suc depth) (suc depth) t h) refl
+
+  pub after-none-return : (l : Layout) (comma : Bool) (depth : ℕ) (t : Text) → NoReturn t → NoReturn (after_part r l comma depth t)
+  after-none-return untouched comma depth t h = h
+  after-none-return on_one_line comma depth t h = refl
+  after-none-return line_by_line comma depth t h = if-none comma _ [] (comma-none-return (suc depth) t h) refl
+  after-none-return in_rows comma depth t h = if-none comma _ [] (comma-none-return (suc depth) t h) refl
+
+  pub record InsideNone (x : Inside) : Type 0 where
+    pub last : NoReturn x.last
+    pub close : NoReturn x.close
+
+  bracket-none : (l : Layout) (n : ℕ) (has : Bool) (depth : ℕ) (edge : Text) (comma : Bool) (last t : Text) → NoReturn edge → NoReturn last
+      → NoReturn t → NoReturn (before_bracket r l n has depth edge comma last t)
+  bracket-none untouched n has depth edge comma last t w v h = h
+  bracket-none on_one_line n has depth edge comma last t w v h = w
+  bracket-none line_by_line n has depth edge comma last t w v h =
+      gap-none-return n (not has) true (suc depth) depth (if comma then t else last ++ t) (if-none comma t (last ++ t) h (none-append last t v h))
+  bracket-none in_rows n has depth edge comma last t w v h =
+      gap-none-return n (not has) true (suc depth) depth (if comma then t else last ++ t) (if-none comma t (last ++ t) h (none-append last t v h))
+
+  pub edge-none-return : (has space : Bool) → NoReturn (if has && space then one_space else [])
+  edge-none-return has space = if-none (has && space) one_space [] refl refl
+
+  pub inside-none : (l : Layout) (p : Path) (depth : ℕ) (has space : Bool) (n : ℕ) (comma : Bool) (last t : Text) → NoReturn last → NoReturn t
+      → InsideNone (inside r l p depth has space n comma last t)
+  inside-none l p depth has space n comma last t v h = record { last = of_last l _ _ whole; close = of_close l _ _ whole }
     where
-      by_test : (b : Bool) → NoReturn (if b then line_newline exact (before_first (λ c. c == line_feed) t) else made_newline r)
-      by_test true = ap (has_byte carriage_return) (newline-none t h)
-      by_test false = made-none
+      whole : NoReturn (before_bracket r l n has depth (if has && space then one_space else []) (comma || not has) last t)
+      whole = bracket-none l n has depth _ (comma || not has) last t (edge-none-return has space) v h
 
-  beside-none : (t : Text) → NoReturn t → NoReturn (beside r t)
-  beside-none t h = by_test (is_some (first_comment t))
-    where
-      by_test : (b : Bool) → NoReturn (if b then line_rest r (first_line t) else [])
-      by_test true = line-rest-none (first_line t) (first-none t h)
-      by_test false = refl
+      of_last : (m : Layout) (b : Bool) (u : Text) → NoReturn u → NoReturn (last_text m b u)
+      of_last untouched b u k = refl
+      of_last on_one_line b u k = if-none b [] u refl k
+      of_last line_by_line b u k = if-none b [] u refl k
+      of_last in_rows b u k = if-none b [] u refl k
 
-  pub gap-none-return : (s e : Bool) (i last t : Text) → NoReturn i → NoReturn last → NoReturn t → NoReturn (gap r s e i last t)
-  gap-none-return s e i last t w v h =
-      none-append (beside r t) _ (beside-none t h)
-      (none-append (line_break r t) _ (break-none t h)
-      (none-append (flat_map (indented i) (spaced r s e (whole_lines (drop 1 (lines t))))) last
-      (indented-none i _ w (lines-spaced s e (whole_lines (drop 1 (lines t))) (whole-none (drop 1 (lines t)) (drop-all (lines t) (lines-none t h))))) v))
-
-  comma-none-return : (i t : Text) → NoReturn i → NoReturn t → NoReturn (before_comma r i t)
-  comma-none-return i t w h = by_test (is_empty (comments t))
-    where
-      by_test : (b : Bool) → NoReturn (if b then [] else gap r false false i i t)
-      by_test true = refl
-      by_test false = gap-none-return false false i i t w w h
-
-  pub before-none : (l : Layout) (first : Bool) (i d t : Text) → NoReturn i → NoReturn d → NoReturn t → NoReturn (before_part r l first i d t)
-  before-none untouched first i d t w v h = h
-  before-none on_one_line first i d t w v h = v
-  before-none line_by_line first i d t w v h = gap-none-return first false (deeper r i) (deeper r i) t (deeper-none r i w) (deeper-none r i w) h
-
-  pub after-none-return : (l : Layout) (end : Bool) (i d t : Text) → NoReturn i → NoReturn d → NoReturn t → NoReturn (after_part r l end i d t)
-  after-none-return untouched end i d t w v h = h
-  after-none-return on_one_line end i d t w v h = v
-  after-none-return line_by_line true i d t w v h = refl
-  after-none-return line_by_line false i d t w v h = comma-none-return (deeper r i) t (deeper-none r i w) h
-
-  pub bracket-none-return : (l : Layout) (has : Bool) (i last t : Text) → NoReturn i → NoReturn last → NoReturn t
-      → NoReturn (before_bracket r l has i last t)
-  bracket-none-return untouched has i last t w v h = h
-  bracket-none-return on_one_line has i last t w v h = refl
-  bracket-none-return line_by_line has i last t w v h =
-      gap-none-return (not has) true (deeper r i) i (last ++ t) (deeper-none r i w) w (none-append last t v h)
+      of_close : (m : Layout) (b : Bool) (u : Text) → NoReturn u → NoReturn (close_text m b u)
+      of_close untouched b u k = k
+      of_close on_one_line b u k = if-none b u [] k refl
+      of_close line_by_line b u k = if-none b u [] k refl
+      of_close in_rows b u k = if-none b u [] k refl

@@ -1,92 +1,53 @@
--- Lists with at most one element in a row that passes a test, and none at an end.
-use Rattle.std.proofs.Common.{◌≡◌, refl, sym, ap, ◌∙◌, inl, inr, Bool, true, false, List, [], ◌∷◌, ◌++◌, Option, None}
-use Rattle.std.specs.Prelude.{◌&&◌, not, if◌then◌else◌, map}
+-- Lists with at most so many elements in a row that pass a test, and none at an end.
+use Rattle.std.proofs.Common.{◌≡◌, refl, sym, ap, ◌∙◌, inl, inr, ℕ, zero, suc, Bool, true, false, List, [], ◌∷◌, ◌++◌, Option, Some, None}
+use Rattle.std.specs.Prelude.{◌&&◌, if◌then◌else◌, map}
 use Rattle.std.specs.List.{AllByRecursion, cons_option, filter_map}
 use Rattle.std.proofs.lemmas.Bool.{cases_Bool}
 use Rattle.toml_edit_model.specs.Text.{is_empty}
 use Rattle.toml_edit_laws.proofs.common.Tests.{and_left, and_right}
-use Rattle.toml_edit_fmt_laws.specs.Rules.{Rules}
 use Rattle.toml_edit_fmt_laws.specs.Laying.{squeezed, trimmed, spaced_by}
 
+module _ {A : Type 0} (test : A → Bool) (most : ℕ) where
+  -- ---- steps: an element that passes goes where none is left
+
+  pub squeezed-none : (x : A) (xs : List A) → test x ≡ true → squeezed test most 0 (x ∷ xs) ≡ squeezed test most 0 xs
+  squeezed-none x xs e = ap (λ b. if b then squeezed test most 0 xs else x ∷ squeezed test most most xs) e
+
+  pub squeezed-pass : (left : ℕ) (x : A) (xs : List A) → test x ≡ true
+      → squeezed test most (suc left) (x ∷ xs) ≡ x ∷ squeezed test most left xs
+  squeezed-pass left x xs e = ap (λ b. if b then x ∷ squeezed test most left xs else x ∷ squeezed test most most xs) e
+
+  pub squeezed-other : (left : ℕ) (x : A) (xs : List A) → test x ≡ false
+      → squeezed test most left (x ∷ xs) ≡ x ∷ squeezed test most most xs
+  squeezed-other zero x xs e = ap (λ b. if b then squeezed test most 0 xs else x ∷ squeezed test most most xs) e
+  squeezed-other (suc left) x xs e = ap (λ b. if b then x ∷ squeezed test most left xs else x ∷ squeezed test most most xs) e
+
 module _ {A : Type 0} (test : A → Bool) where
-  -- ---- steps
-
-  pub squeezed-pass : (may : Bool) (x : A) (xs : List A) → test x ≡ true
-      → squeezed test may (x ∷ xs) ≡ (if may then x ∷ squeezed test false xs else squeezed test false xs)
-  squeezed-pass may x xs e =
-      ap (λ b. if b then (if may then x ∷ squeezed test false xs else squeezed test false xs) else x ∷ squeezed test true xs) e
-
-  pub squeezed-other : (may : Bool) (x : A) (xs : List A) → test x ≡ false
-      → squeezed test may (x ∷ xs) ≡ x ∷ squeezed test true xs
-  squeezed-other may x xs e =
-      ap (λ b. if b then (if may then x ∷ squeezed test false xs else squeezed test false xs) else x ∷ squeezed test true xs) e
-
   trimmed-step : (x : A) (xs : List A) (b : Bool) → (test x && is_empty (trimmed test xs)) ≡ b
       → trimmed test (x ∷ xs) ≡ (if b then [] else x ∷ trimmed test xs)
   trimmed-step x xs b e = ap (λ b. if b then [] else x ∷ trimmed test xs) e
 
-  -- ---- lists that are so already
+  -- ---- twice
 
-  pub is_squeezed : Bool → List A → Bool
-  is_squeezed may [] = true
-  is_squeezed may (x ∷ xs) = if test x then may && is_squeezed false xs else is_squeezed true xs
-
-  squeezed-is : (may : Bool) (xs : List A) → is_squeezed may (squeezed test may xs) ≡ true
-  unfolding is_squeezed
-  squeezed-is may [] = refl
-  squeezed-is may (x ∷ xs) =
+  pub squeezed-again : (most left : ℕ) (xs : List A) → squeezed test most left (squeezed test most left xs) ≡ squeezed test most left xs
+  squeezed-again most left [] = refl
+  squeezed-again most left (x ∷ xs) =
       elim (cases_Bool (test x)) [
-        | inl e ↦ passes may e (squeezed-is false xs)
-        | inr e ↦ ap (is_squeezed may) (squeezed-other may x xs e)
-            ∙ ap (λ b. if b then may && is_squeezed false (squeezed test true xs) else is_squeezed true (squeezed test true xs)) e
-            ∙ squeezed-is true xs
+        | inl e ↦ passes left e (λ n. squeezed-again most n xs)
+        | inr e ↦ ap (squeezed test most left) (squeezed-other test most left x xs e)
+            ∙ squeezed-other test most left x (squeezed test most most xs) e
+            ∙ ap (λ ys. x ∷ ys) (squeezed-again most most xs) ∙ sym (squeezed-other test most left x xs e)
       ]
     where
-      passes : (m : Bool) → test x ≡ true → is_squeezed false (squeezed test false xs) ≡ true
-          → is_squeezed m (squeezed test m (x ∷ xs)) ≡ true
-      passes true e ih =
-          ap (is_squeezed true) (squeezed-pass true x xs e)
-          ∙ ap (λ b. if b then true && is_squeezed false (squeezed test false xs) else is_squeezed true (squeezed test false xs)) e ∙ ih
-      passes false e ih = ap (is_squeezed false) (squeezed-pass false x xs e) ∙ ih
-
-  is-squeezed-same : (may : Bool) (xs : List A) → is_squeezed may xs ≡ true → squeezed test may xs ≡ xs
-  unfolding is_squeezed
-  is-squeezed-same may [] h = refl
-  is-squeezed-same may (x ∷ xs) h =
-      elim (cases_Bool (test x)) [
-        | inl e ↦
-            let both : (may && is_squeezed false xs) ≡ true =
-            sym (ap (λ b. if b then may && is_squeezed false xs else is_squeezed true xs) e) ∙ h in
-            squeezed-pass may x xs e
-            ∙ ap (λ b. if b then x ∷ squeezed test false xs else squeezed test false xs) (and_left may _ both)
-            ∙ ap (λ ys. x ∷ ys) (is-squeezed-same false xs (and_right may _ both))
-        | inr e ↦
-            squeezed-other may x xs e
-            ∙ ap (λ ys. x ∷ ys)
-            (is-squeezed-same true xs
-            (sym (ap (λ b. if b then may && is_squeezed false xs else is_squeezed true xs) e) ∙ h))
-      ]
-
-  trimmed-squeezed : (may : Bool) (xs : List A) → is_squeezed may xs ≡ true → is_squeezed may (trimmed test xs) ≡ true
-  unfolding is_squeezed
-  trimmed-squeezed may [] h = refl
-  trimmed-squeezed may (x ∷ xs) h =
-      elim (cases_Bool (test x && is_empty (trimmed test xs))) [
-        | inl e ↦ ap (is_squeezed may) (trimmed-step x xs true e)
-        | inr e ↦ ap (is_squeezed may) (trimmed-step x xs false e) ∙ inner (λ m. trimmed-squeezed m xs) (test x) refl
-      ]
-    where
-      inner : ((m : Bool) → is_squeezed m xs ≡ true → is_squeezed m (trimmed test xs) ≡ true) → (b : Bool) → test x ≡ b
-          → is_squeezed may (x ∷ trimmed test xs) ≡ true
-      inner ih true e =
-          let both : (may && is_squeezed false xs) ≡ true =
-          sym (ap (λ b. if b then may && is_squeezed false xs else is_squeezed true xs) e) ∙ h in
-          ap (λ b. if b then may && is_squeezed false (trimmed test xs) else is_squeezed true (trimmed test xs)) e
-          ∙ ap (λ b. b && is_squeezed false (trimmed test xs)) (and_left may _ both)
-          ∙ ih false (and_right may _ both)
-      inner ih false e =
-          ap (λ b. if b then may && is_squeezed false (trimmed test xs) else is_squeezed true (trimmed test xs)) e
-          ∙ ih true (sym (ap (λ b. if b then may && is_squeezed false xs else is_squeezed true xs) e) ∙ h)
+      passes : (n : ℕ) → test x ≡ true → ((k : ℕ) → squeezed test most k (squeezed test most k xs) ≡ squeezed test most k xs)
+          → squeezed test most n (squeezed test most n (x ∷ xs)) ≡ squeezed test most n (x ∷ xs)
+      passes zero e ih =
+          ap (squeezed test most 0) (squeezed-none test most x xs e) ∙ ih 0
+          ∙ sym (squeezed-none test most x xs e)
+      passes (suc n) e ih =
+          ap (squeezed test most (suc n)) (squeezed-pass test most n x xs e)
+          ∙ squeezed-pass test most n x (squeezed test most n xs) e
+          ∙ ap (λ ys. x ∷ ys) (ih n) ∙ sym (squeezed-pass test most n x xs e)
 
   trimmed-again : (xs : List A) → trimmed test (trimmed test xs) ≡ trimmed test xs
   trimmed-again [] = refl
@@ -99,74 +60,69 @@ module _ {A : Type 0} (test : A → Bool) where
             ∙ ap (λ ys. x ∷ ys) (trimmed-again xs) ∙ sym (trimmed-step x xs false e)
       ]
 
-  pub squeezed-again : (may : Bool) (xs : List A) → squeezed test may (squeezed test may xs) ≡ squeezed test may xs
-  squeezed-again may xs = is-squeezed-same may (squeezed test may xs) (squeezed-is may xs)
-
-  ends-again : (may : Bool) (xs : List A)
-      → trimmed test (squeezed test may (trimmed test (squeezed test may xs))) ≡ trimmed test (squeezed test may xs)
-  ends-again may xs =
-      ap (trimmed test)
-      (is-squeezed-same may (trimmed test (squeezed test may xs))
-      (trimmed-squeezed may (squeezed test may xs) (squeezed-is may xs)))
-      ∙ trimmed-again (squeezed test may xs)
-
-  -- squeezed where one may come first, and then where none may
-  squeezed-start : (xs : List A) → squeezed test false (squeezed test true xs) ≡ squeezed test false xs
-  squeezed-start [] = refl
-  squeezed-start (x ∷ xs) =
+  -- what is trimmed has no more in a row
+  trimmed-squeezed : (most left : ℕ) (xs : List A)
+      → squeezed test most left (trimmed test (squeezed test most left xs)) ≡ trimmed test (squeezed test most left xs)
+  trimmed-squeezed most left [] = refl
+  trimmed-squeezed most left (x ∷ xs) =
       elim (cases_Bool (test x)) [
-        | inl e ↦ ap (squeezed test false) (squeezed-pass true x xs e)
-            ∙ squeezed-pass false x (squeezed test false xs) e
-            ∙ squeezed-again false xs
-            ∙ sym (squeezed-pass false x xs e)
-        | inr e ↦ ap (squeezed test false) (squeezed-other true x xs e)
-            ∙ squeezed-other false x (squeezed test true xs) e
-            ∙ ap (λ ys. x ∷ ys) (squeezed-again true xs)
-            ∙ sym (squeezed-other false x xs e)
+        | inl e ↦ passes left e (λ n. trimmed-squeezed most n xs)
+        | inr e ↦ ap (λ ys. squeezed test most left (trimmed test ys)) (squeezed-other test most left x xs e)
+            ∙ by_end left most (λ zs. squeezed-other test most left x zs e) (trimmed-squeezed most most xs)
+            ∙ sym (ap (trimmed test) (squeezed-other test most left x xs e))
       ]
-
-  pub spaced-start : (r : Rules) (xs : List A) → spaced_by test r true false (spaced_by test r false false xs) ≡ spaced_by test r true false xs
-  spaced-start r xs = by_rule r.empty_lines
     where
-      by_rule : (b : Bool) → (if b then squeezed test false (if b then squeezed test true xs else xs) else (if b then squeezed test true xs else xs))
-          ≡ (if b then squeezed test false xs else xs)
-      by_rule true = squeezed-start xs
-      by_rule false = refl
+      by_end : (n k : ℕ) → ((zs : List A) → squeezed test most n (x ∷ zs) ≡ x ∷ squeezed test most k zs)
+          → squeezed test most k (trimmed test (squeezed test most k xs)) ≡ trimmed test (squeezed test most k xs)
+          → squeezed test most n (trimmed test (x ∷ squeezed test most k xs)) ≡ trimmed test (x ∷ squeezed test most k xs)
+      by_end n k step ih = by_test (test x && is_empty (trimmed test (squeezed test most k xs)))
+        where
+          by_test : (b : Bool) → squeezed test most n (if b then [] else x ∷ trimmed test (squeezed test most k xs))
+              ≡ (if b then [] else x ∷ trimmed test (squeezed test most k xs))
+          by_test true = refl
+          by_test false = step (trimmed test (squeezed test most k xs)) ∙ ap (λ ys. x ∷ ys) ih
 
-  pub spaced-again : (r : Rules) (is_start is_end : Bool) (xs : List A)
-      → spaced_by test r is_start is_end (spaced_by test r is_start is_end xs) ≡ spaced_by test r is_start is_end xs
-  spaced-again r is_start is_end xs = by_tests r.empty_lines is_end
-    where
-      by_tests : (b e : Bool) →
-          (if b then (if e
-          then trimmed test (squeezed test (not is_start) (if b then (if e
-          then trimmed test (squeezed test (not is_start) xs) else squeezed test (not is_start) xs) else xs))
-          else squeezed test (not is_start) (if b then (if e
-          then trimmed test (squeezed test (not is_start) xs) else squeezed test (not is_start) xs) else xs))
-          else (if b then (if e
-          then trimmed test (squeezed test (not is_start) xs) else squeezed test (not is_start) xs) else xs))
-          ≡ (if b then (if e
-          then trimmed test (squeezed test (not is_start) xs) else squeezed test (not is_start) xs) else xs)
-      by_tests true true = ends-again (not is_start) xs
-      by_tests true false = squeezed-again (not is_start) xs
-      by_tests false e = refl
+      passes : (n : ℕ) → test x ≡ true
+          → ((k : ℕ) → squeezed test most k (trimmed test (squeezed test most k xs)) ≡ trimmed test (squeezed test most k xs))
+          → squeezed test most n (trimmed test (squeezed test most n (x ∷ xs))) ≡ trimmed test (squeezed test most n (x ∷ xs))
+      passes zero e ih =
+          ap (λ ys. squeezed test most 0 (trimmed test ys)) (squeezed-none test most x xs e) ∙ ih 0
+          ∙ sym (ap (trimmed test) (squeezed-none test most x xs e))
+      passes (suc n) e ih =
+          ap (λ ys. squeezed test most (suc n) (trimmed test ys)) (squeezed-pass test most n x xs e)
+          ∙ by_end (suc n) n (λ zs. squeezed-pass test most n x zs e) (ih n)
+          ∙ sym (ap (trimmed test) (squeezed-pass test most n x xs e))
+
+  pub spaced-again : (o : Option ℕ) (is_start is_end : Bool) (xs : List A)
+      → spaced_by test o is_start is_end (spaced_by test o is_start is_end xs) ≡ spaced_by test o is_start is_end xs
+  spaced-again None s e xs = refl
+  spaced-again (Some most) s true xs =
+      let left = if s then 0 else most in
+      ap (trimmed test) (trimmed-squeezed most left xs) ∙ trimmed-again (squeezed test most left xs)
+  spaced-again (Some most) s false xs = squeezed-again most (if s then 0 else most) xs
 
   -- ---- an element at the end that does not pass
 
-  squeezed-end : (may : Bool) (xs : List A) (y : A) → test y ≡ false
-      → squeezed test may (xs ++ (y ∷ [])) ≡ squeezed test may xs ++ (y ∷ [])
-  squeezed-end may [] y h = squeezed-other may y [] h
-  squeezed-end may (x ∷ xs) y h =
-      by_tests (test x) may (squeezed-end false xs y h) (squeezed-end true xs y h)
+  squeezed-end : (most left : ℕ) (xs : List A) (y : A) → test y ≡ false
+      → squeezed test most left (xs ++ (y ∷ [])) ≡ squeezed test most left xs ++ (y ∷ [])
+  squeezed-end most left [] y h = squeezed-other test most left y [] h
+  squeezed-end most left (x ∷ xs) y h =
+      elim (cases_Bool (test x)) [
+        | inl e ↦ passes left e (λ n. squeezed-end most n xs y h)
+        | inr e ↦ squeezed-other test most left x (xs ++ (y ∷ [])) e
+            ∙ ap (λ ys. x ∷ ys) (squeezed-end most most xs y h)
+            ∙ sym (ap (λ ys. ys ++ (y ∷ [])) (squeezed-other test most left x xs e))
+      ]
     where
-      by_tests : (b m : Bool) → squeezed test false (xs ++ (y ∷ [])) ≡ squeezed test false xs ++ (y ∷ [])
-          → squeezed test true (xs ++ (y ∷ [])) ≡ squeezed test true xs ++ (y ∷ [])
-          → (if b then (if m then x ∷ squeezed test false (xs ++ (y ∷ [])) else squeezed test false (xs ++ (y ∷ [])))
-          else x ∷ squeezed test true (xs ++ (y ∷ [])))
-          ≡ (if b then (if m then x ∷ squeezed test false xs else squeezed test false xs) else x ∷ squeezed test true xs) ++ (y ∷ [])
-      by_tests true true p q = ap (λ ys. x ∷ ys) p
-      by_tests true false p q = p
-      by_tests false m p q = ap (λ ys. x ∷ ys) q
+      passes : (n : ℕ) → test x ≡ true
+          → ((k : ℕ) → squeezed test most k (xs ++ (y ∷ [])) ≡ squeezed test most k xs ++ (y ∷ []))
+          → squeezed test most n (x ∷ (xs ++ (y ∷ []))) ≡ squeezed test most n (x ∷ xs) ++ (y ∷ [])
+      passes zero e ih =
+          squeezed-none test most x (xs ++ (y ∷ [])) e ∙ ih 0
+          ∙ sym (ap (λ ys. ys ++ (y ∷ [])) (squeezed-none test most x xs e))
+      passes (suc n) e ih =
+          squeezed-pass test most n x (xs ++ (y ∷ [])) e ∙ ap (λ ys. x ∷ ys) (ih n)
+          ∙ sym (ap (λ ys. ys ++ (y ∷ [])) (squeezed-pass test most n x xs e))
 
   trimmed-end : (xs : List A) (y : A) → test y ≡ false → trimmed test (xs ++ (y ∷ [])) ≡ xs ++ (y ∷ [])
   trimmed-end [] y h = ap (λ b. if b && true then [] else y ∷ []) h
@@ -183,27 +139,34 @@ module _ {A : Type 0} (test : A → Bool) where
       and-false true = refl
       and-false false = refl
 
-  pub spaced-end : (r : Rules) (is_start : Bool) (xs : List A) (y : A) → test y ≡ false
-      → spaced_by test r is_start true (xs ++ (y ∷ [])) ≡ spaced_by test r is_start false xs ++ (y ∷ [])
-  spaced-end r is_start xs y h = by_rule r.empty_lines
-    where
-      by_rule : (b : Bool) → (if b then trimmed test (squeezed test (not is_start) (xs ++ (y ∷ []))) else xs ++ (y ∷ []))
-          ≡ (if b then squeezed test (not is_start) xs else xs) ++ (y ∷ [])
-      by_rule true =
-          ap (trimmed test) (squeezed-end (not is_start) xs y h) ∙ trimmed-end (squeezed test (not is_start) xs) y h
-      by_rule false = refl
+  pub spaced-end : (o : Option ℕ) (is_start : Bool) (xs : List A) (y : A) → test y ≡ false
+      → spaced_by test o is_start true (xs ++ (y ∷ [])) ≡ spaced_by test o is_start false xs ++ (y ∷ [])
+  spaced-end None s xs y h = refl
+  spaced-end (Some most) s xs y h =
+      let left = if s then 0 else most in
+      ap (trimmed test) (squeezed-end most left xs y h) ∙ trimmed-end (squeezed test most left xs) y h
+
+  pub spaced-more : (o : Option ℕ) (is_start : Bool) (xs : List A) (y : A) → test y ≡ false
+      → spaced_by test o is_start false (xs ++ (y ∷ [])) ≡ spaced_by test o is_start false xs ++ (y ∷ [])
+  spaced-more None s xs y h = refl
+  spaced-more (Some most) s xs y h = squeezed-end most (if s then 0 else most) xs y h
 
   -- ---- what holds of each element still does
 
-  all-squeezed : (P : A → Type 0) (may : Bool) (xs : List A) → AllByRecursion P xs → AllByRecursion P (squeezed test may xs)
-  all-squeezed P may [] h = tt
-  all-squeezed P may (x ∷ xs) h = by_tests (test x) may (all-squeezed P false xs h.1) (all-squeezed P true xs h.1)
+  all-squeezed : (P : A → Type 0) (most left : ℕ) (xs : List A) → AllByRecursion P xs → AllByRecursion P (squeezed test most left xs)
+  all-squeezed P most left [] h = tt
+  all-squeezed P most zero (x ∷ xs) h = by_test (test x) (all-squeezed P most 0 xs h.1) (all-squeezed P most most xs h.1)
     where
-      by_tests : (b m : Bool) → AllByRecursion P (squeezed test false xs) → AllByRecursion P (squeezed test true xs)
-          → AllByRecursion P (if b then (if m then x ∷ squeezed test false xs else squeezed test false xs) else x ∷ squeezed test true xs)
-      by_tests true true f t = (h.0, f)
-      by_tests true false f t = f
-      by_tests false m f t = (h.0, t)
+      by_test : (b : Bool) → AllByRecursion P (squeezed test most 0 xs) → AllByRecursion P (squeezed test most most xs)
+          → AllByRecursion P (if b then squeezed test most 0 xs else x ∷ squeezed test most most xs)
+      by_test true none more = none
+      by_test false none more = (h.0, more)
+  all-squeezed P most (suc left) (x ∷ xs) h = by_test (test x) (all-squeezed P most left xs h.1) (all-squeezed P most most xs h.1)
+    where
+      by_test : (b : Bool) → AllByRecursion P (squeezed test most left xs) → AllByRecursion P (squeezed test most most xs)
+          → AllByRecursion P (if b then x ∷ squeezed test most left xs else x ∷ squeezed test most most xs)
+      by_test true few more = (h.0, few)
+      by_test false few more = (h.0, more)
 
   all-trimmed : (P : A → Type 0) (xs : List A) → AllByRecursion P xs → AllByRecursion P (trimmed test xs)
   all-trimmed P [] h = tt
@@ -213,35 +176,31 @@ module _ {A : Type 0} (test : A → Bool) where
       by_test true ih = tt
       by_test false ih = (h.0, ih)
 
-  pub all-spaced : (P : A → Type 0) (r : Rules) (is_start is_end : Bool) (xs : List A) → AllByRecursion P xs
-      → AllByRecursion P (spaced_by test r is_start is_end xs)
-  all-spaced P r is_start is_end xs h = by_tests r.empty_lines is_end
-    where
-      squeezed-all : AllByRecursion P (squeezed test (not is_start) xs)
-      squeezed-all = all-squeezed P (not is_start) xs h
-
-      by_tests : (b e : Bool) → AllByRecursion P (if b then (if e
-          then trimmed test (squeezed test (not is_start) xs) else squeezed test (not is_start) xs) else xs)
-      by_tests true true = all-trimmed P (squeezed test (not is_start) xs) squeezed-all
-      by_tests true false = squeezed-all
-      by_tests false e = h
+  pub all-spaced : (P : A → Type 0) (o : Option ℕ) (is_start is_end : Bool) (xs : List A) → AllByRecursion P xs
+      → AllByRecursion P (spaced_by test o is_start is_end xs)
+  all-spaced P None s e xs h = h
+  all-spaced P (Some most) s true xs h =
+      all-trimmed P (squeezed test most (if s then 0 else most) xs) (all-squeezed P most (if s then 0 else most) xs h)
+  all-spaced P (Some most) s false xs h = all-squeezed P most (if s then 0 else most) xs h
 
   -- ---- what those that pass do not have is all there
 
   module _ {B : Type 0} (g : A → Option B) (none : (x : A) → test x ≡ true → g x ≡ None) where
-    squeezed-found : (may : Bool) (xs : List A) → filter_map g (squeezed test may xs) ≡ filter_map g xs
-    squeezed-found may [] = refl
-    squeezed-found may (x ∷ xs) =
+    squeezed-found : (most left : ℕ) (xs : List A) → filter_map g (squeezed test most left xs) ≡ filter_map g xs
+    squeezed-found most left [] = refl
+    squeezed-found most left (x ∷ xs) =
         elim (cases_Bool (test x)) [
-          | inl e ↦ passes may e (squeezed-found false xs)
-          | inr e ↦ ap (filter_map g) (squeezed-other may x xs e) ∙ ap (λ ys. cons_option (g x) ys) (squeezed-found true xs)
+          | inl e ↦ passes left e (λ n. squeezed-found most n xs)
+          | inr e ↦ ap (filter_map g) (squeezed-other test most left x xs e) ∙ ap (cons_option (g x)) (squeezed-found most most xs)
         ]
       where
-        passes : (m : Bool) → test x ≡ true → filter_map g (squeezed test false xs) ≡ filter_map g xs
-            → filter_map g (squeezed test m (x ∷ xs)) ≡ cons_option (g x) (filter_map g xs)
-        passes true e ih = ap (filter_map g) (squeezed-pass true x xs e) ∙ ap (λ ys. cons_option (g x) ys) ih
-        passes false e ih =
-            ap (filter_map g) (squeezed-pass false x xs e) ∙ ih ∙ sym (ap (λ o. cons_option o (filter_map g xs)) (none x e))
+        passes : (n : ℕ) → test x ≡ true → ((k : ℕ) → filter_map g (squeezed test most k xs) ≡ filter_map g xs)
+            → filter_map g (squeezed test most n (x ∷ xs)) ≡ cons_option (g x) (filter_map g xs)
+        passes zero e ih =
+            ap (filter_map g) (squeezed-none test most x xs e) ∙ ih 0
+            ∙ sym (ap (λ o. cons_option o (filter_map g xs)) (none x e))
+        passes (suc n) e ih =
+            ap (filter_map g) (squeezed-pass test most n x xs e) ∙ ap (cons_option (g x)) (ih n)
 
     trimmed-found : (xs : List A) → filter_map g (trimmed test xs) ≡ filter_map g xs
     trimmed-found [] = refl
@@ -250,42 +209,47 @@ module _ {A : Type 0} (test : A → Bool) where
           | inl e ↦ ap (filter_map g) (trimmed-step x xs true e)
               ∙ sym (ap (λ o. cons_option o (filter_map g xs)) (none x (and_left (test x) _ e))
               ∙ sym (trimmed-found xs) ∙ ap (filter_map g) (is-nil (trimmed test xs) (and_right (test x) _ e)))
-          | inr e ↦ ap (filter_map g) (trimmed-step x xs false e) ∙ ap (λ ys. cons_option (g x) ys) (trimmed-found xs)
+          | inr e ↦ ap (filter_map g) (trimmed-step x xs false e) ∙ ap (cons_option (g x)) (trimmed-found xs)
         ]
       where
         is-nil : (ys : List A) → is_empty ys ≡ true → ys ≡ []
         is-nil [] h = refl
         is-nil (y ∷ ys) h = cc
 
-    pub spaced-found : (r : Rules) (is_start is_end : Bool) (xs : List A)
-        → filter_map g (spaced_by test r is_start is_end xs) ≡ filter_map g xs
-    spaced-found r is_start is_end xs = by_tests r.empty_lines is_end
-      where
-        by_tests : (b e : Bool) → filter_map g (if b then (if e
-            then trimmed test (squeezed test (not is_start) xs) else squeezed test (not is_start) xs) else xs) ≡ filter_map g xs
-        by_tests true true = trimmed-found (squeezed test (not is_start) xs) ∙ squeezed-found (not is_start) xs
-        by_tests true false = squeezed-found (not is_start) xs
-        by_tests false e = refl
+    pub spaced-found : (o : Option ℕ) (is_start is_end : Bool) (xs : List A)
+        → filter_map g (spaced_by test o is_start is_end xs) ≡ filter_map g xs
+    spaced-found None s e xs = refl
+    spaced-found (Some most) s true xs =
+        trimmed-found (squeezed test most (if s then 0 else most) xs) ∙ squeezed-found most (if s then 0 else most) xs
+    spaced-found (Some most) s false xs = squeezed-found most (if s then 0 else most) xs
 
 -- ---- through a function
 
 module _ {A B : Type 0} (f : A → B) (on_b : B → Bool) (on_a : A → Bool) (P : A → Type 0)
     (agrees : (x : A) → P x → on_b (f x) ≡ on_a x) where
-  squeezed-map : (may : Bool) (xs : List A) → AllByRecursion P xs → squeezed on_b may (map f xs) ≡ map f (squeezed on_a may xs)
-  squeezed-map may [] h = refl
-  squeezed-map may (x ∷ xs) h =
-      ap (λ b. if b then (if may then f x ∷ squeezed on_b false (map f xs) else squeezed on_b false (map f xs))
-      else f x ∷ squeezed on_b true (map f xs)) (agrees x h.0)
-      ∙ by_tests (on_a x) may (squeezed-map false xs h.1) (squeezed-map true xs h.1)
+  squeezed-map : (most left : ℕ) (xs : List A) → AllByRecursion P xs
+      → squeezed on_b most left (map f xs) ≡ map f (squeezed on_a most left xs)
+  squeezed-map most left [] h = refl
+  squeezed-map most zero (x ∷ xs) h =
+      ap (λ b. if b then squeezed on_b most 0 (map f xs) else f x ∷ squeezed on_b most most (map f xs)) (agrees x h.0)
+      ∙ ap (λ ys. if on_a x then ys else f x ∷ squeezed on_b most most (map f xs)) (squeezed-map most 0 xs h.1)
+      ∙ ap (λ ys. if on_a x then map f (squeezed on_a most 0 xs) else f x ∷ ys) (squeezed-map most most xs h.1)
+      ∙ by_test (on_a x)
     where
-      by_tests : (b m : Bool) → squeezed on_b false (map f xs) ≡ map f (squeezed on_a false xs)
-          → squeezed on_b true (map f xs) ≡ map f (squeezed on_a true xs)
-          → (if b then (if m then f x ∷ squeezed on_b false (map f xs) else squeezed on_b false (map f xs))
-          else f x ∷ squeezed on_b true (map f xs))
-          ≡ map f (if b then (if m then x ∷ squeezed on_a false xs else squeezed on_a false xs) else x ∷ squeezed on_a true xs)
-      by_tests true true p q = ap (λ ys. f x ∷ ys) p
-      by_tests true false p q = p
-      by_tests false m p q = ap (λ ys. f x ∷ ys) q
+      by_test : (b : Bool) → (if b then map f (squeezed on_a most 0 xs) else f x ∷ map f (squeezed on_a most most xs))
+          ≡ map f (if b then squeezed on_a most 0 xs else x ∷ squeezed on_a most most xs)
+      by_test true = refl
+      by_test false = refl
+  squeezed-map most (suc left) (x ∷ xs) h =
+      ap (λ b. if b then f x ∷ squeezed on_b most left (map f xs) else f x ∷ squeezed on_b most most (map f xs)) (agrees x h.0)
+      ∙ ap (λ ys. if on_a x then f x ∷ ys else f x ∷ squeezed on_b most most (map f xs)) (squeezed-map most left xs h.1)
+      ∙ ap (λ ys. if on_a x then f x ∷ map f (squeezed on_a most left xs) else f x ∷ ys) (squeezed-map most most xs h.1)
+      ∙ by_test (on_a x)
+    where
+      by_test : (b : Bool) → (if b then f x ∷ map f (squeezed on_a most left xs) else f x ∷ map f (squeezed on_a most most xs))
+          ≡ map f (if b then x ∷ squeezed on_a most left xs else x ∷ squeezed on_a most most xs)
+      by_test true = refl
+      by_test false = refl
 
   trimmed-map : (xs : List A) → AllByRecursion P xs → trimmed on_b (map f xs) ≡ map f (trimmed on_a xs)
   trimmed-map [] h = refl
@@ -309,16 +273,11 @@ module _ {A B : Type 0} (f : A → B) (on_b : B → Bool) (on_a : A → Bool) (P
       by_test true ih = refl
       by_test false ih = ap (λ ys. f x ∷ ys) ih
 
-  pub spaced-map : (r : Rules) (is_start is_end : Bool) (xs : List A) → AllByRecursion P xs
-      → spaced_by on_b r is_start is_end (map f xs) ≡ map f (spaced_by on_a r is_start is_end xs)
-  spaced-map r is_start is_end xs h = by_tests r.empty_lines is_end
-    where
-      by_tests : (b e : Bool) → (if b then (if e
-          then trimmed on_b (squeezed on_b (not is_start) (map f xs)) else squeezed on_b (not is_start) (map f xs)) else map f xs)
-          ≡ map f (if b then (if e
-          then trimmed on_a (squeezed on_a (not is_start) xs) else squeezed on_a (not is_start) xs) else xs)
-      by_tests true true =
-          ap (trimmed on_b) (squeezed-map (not is_start) xs h)
-          ∙ trimmed-map (squeezed on_a (not is_start) xs) (all-squeezed on_a P (not is_start) xs h)
-      by_tests true false = squeezed-map (not is_start) xs h
-      by_tests false e = refl
+  pub spaced-map : (o : Option ℕ) (is_start is_end : Bool) (xs : List A) → AllByRecursion P xs
+      → spaced_by on_b o is_start is_end (map f xs) ≡ map f (spaced_by on_a o is_start is_end xs)
+  spaced-map None s e xs h = refl
+  spaced-map (Some most) s true xs h =
+      let left = if s then 0 else most in
+      ap (trimmed on_b) (squeezed-map most left xs h)
+      ∙ trimmed-map (squeezed on_a most left xs) (all-squeezed on_a P most left xs h)
+  spaced-map (Some most) s false xs h = squeezed-map most (if s then 0 else most) xs h

@@ -5,7 +5,7 @@ use Rattle.std.specs.Option.{option_or}
 use Rattle.toml_edit_model.specs.Kept.{kept_mention, kept_segment, kept_path, unspaced_end, unspaced_ends}
 use Rattle.toml_edit_model.specs.Paths.{Path, to_key, Mention, next_start, line_mentions, header_mentions, in_last, elements_at}
 use Rattle.toml_edit_model.specs.Paths.{passing_role}
-use Rattle.toml_edit_model.specs.Roles.{Role, dotted_role, value_role}
+use Rattle.toml_edit_model.specs.Roles.{Role, dotted_role}
 use Rattle.toml_edit_model.specs.Settled.{same_segment, same_segments, own_path, is_kept}
 use Rattle.toml_edit_model.specs.Syntax.{Segment}
 use Rattle.toml_edit_model.specs.Text.{same_text}
@@ -17,8 +17,7 @@ use Rattle.toml_edit_laws.proofs.normal_texts.KeptAnew.{headed, kept-found}
 use Rattle.toml_edit_laws.proofs.normal_texts.SettledStays.{same_segments-is}
 use Rattle.toml_edit_laws.proofs.normal_texts.TaggedMentions.{at}
 use Rattle.toml_edit_fmt_laws.specs.Rules.{Rules}
-use Rattle.toml_edit_fmt_laws.specs.Formatted.{laid_segment, laid_path}
-use Rattle.toml_edit_fmt_laws.proofs.Means.{key-laid}
+use Rattle.toml_edit_fmt_laws.specs.Formatted.{laid_spelling, laid_segment, laid_path}
 
 -- ---- what is kept, by tags
 
@@ -101,27 +100,20 @@ segments-same [] = refl
 segments-same (s ∷ p) = ap (λ b. b && same_segments p p) (segment-same s) ∙ segments-same p
 
 module _ (r : Rules) where
-  abbrev lay : Bool → Segment → Segment
-  lay b s = if b then record s { before = []; after = [] } else s
+  abbrev laid : Bool → Segment → Segment
+  laid b s =
+      record { before = if b then [] else s.before; key = s.key; spelled = laid_spelling r s; after = if b then [] else s.after }
 
-  map-same : (p : List Segment) → map (lay false) p ≡ p
-  map-same [] = refl
-  map-same (s ∷ p) = ap (λ q. s ∷ q) (map-same p)
+  end-laid : (b : Bool) (p : List Segment) → map (laid b) (unspaced_end p) ≡ unspaced_end (map (laid b) p)
+  end-laid b [] = refl
+  end-laid true (s ∷ []) = refl
+  end-laid false (s ∷ []) = refl
+  end-laid b (s ∷ t ∷ p) = ap (λ q. laid b s ∷ q) (end-laid b (t ∷ p))
 
-  end-lay : (p : List Segment) → map (lay true) (unspaced_end p) ≡ map (lay true) p
-  end-lay [] = refl
-  end-lay (s ∷ []) = refl
-  end-lay (s ∷ t ∷ p) = ap (λ q. lay true s ∷ q) (end-lay (t ∷ p))
-
-  lay-end : (p : List Segment) → unspaced_end (map (lay true) p) ≡ map (lay true) p
-  lay-end [] = refl
-  lay-end (s ∷ []) = refl
-  lay-end (s ∷ t ∷ p) = ap (λ q. lay true s ∷ q) (lay-end (t ∷ p))
-
-  lay-ends : (b : Bool) (p : List Segment) → map (lay b) (unspaced_ends p) ≡ unspaced_ends (map (lay b) p)
-  lay-ends false p = map-same (unspaced_ends p) ∙ ap unspaced_ends (sym (map-same p))
-  lay-ends true [] = refl
-  lay-ends true (s ∷ p) = end-lay (record s { before = [] } ∷ p) ∙ sym (lay-end (s ∷ p))
+  ends-laid : (b : Bool) (p : List Segment) → map (laid b) (unspaced_ends p) ≡ unspaced_ends (map (laid b) p)
+  ends-laid b [] = refl
+  ends-laid true (s ∷ p) = end-laid true (record s { before = [] } ∷ p)
+  ends-laid false (s ∷ p) = end-laid false (record s { before = [] } ∷ p)
 
   seg-on : (ts us : List (Tag Segment))
       → map (seg_at (map (on_tag (laid_segment r)) ts)) (map (on_tag (laid_segment r)) us) ≡ map (laid_segment r) (map (seg_at ts) us)
@@ -150,7 +142,7 @@ module _ (r : Rules) where
       ∙ ap (map (seg_at (map (on_tag (laid_segment r)) (segs ms)))) g
       ∙ seg-on (segs ms) (segs own) ∙ ap (map (laid_segment r)) (sym (segment-at ms own)) in
       let same : own_path new ≡ kept_path ns new =
-      path ∙ ap (map (laid_segment r)) old ∙ lay-ends r.dots (map (kept_segment ms) own) ∙ ap unspaced_ends (sym kept) in
+      path ∙ ap (map (laid_segment r)) old ∙ ends-laid r.dots (map (kept_segment ms) own) ∙ ap unspaced_ends (sym kept) in
       ap (same_segments (own_path new)) (sym same) ∙ segments-same (own_path new)
 
   -- ---- the tags of a path that is laid out
@@ -158,22 +150,17 @@ module _ (r : Rules) where
   pub line-segs : {S T : Type 0} (source : S) (other : T) (i j : ℕ) (p : Path) (ss : List Segment)
       → segs (line_mentions other j p (laid_path r ss)) ≡ map (on_tag (laid_segment r)) (segs (line_mentions source i p ss))
   line-segs source other i j p [] = refl
-  line-segs source other i j p (s ∷ []) = ap (λ k. ((to_key p k, value_role), laid_segment r s) ∷ []) (key-laid r s)
+  line-segs source other i j p (s ∷ []) = refl
   line-segs source other i j p (s ∷ t ∷ rest) =
-      ap (λ k. ((to_key p k, dotted_role), laid_segment r s)
-      ∷ segs (line_mentions other (next_start j (laid_segment r s)) (to_key p k) (laid_path r (t ∷ rest)))) (key-laid r s)
-      ∙ ap (λ xs. ((to_key p s.key, dotted_role), laid_segment r s) ∷ xs)
+      ap (λ xs. ((to_key p s.key, dotted_role), laid_segment r s) ∷ xs)
       (line-segs source other (next_start i s) (next_start j (laid_segment r s)) (to_key p s.key) (t ∷ rest))
 
   pub header-segs : {S T : Type 0} (source : S) (other : T) (arrays : List Path) (role : Role) (i j : ℕ) (p : Path) (ss : List Segment)
       → segs (header_mentions other arrays role j p (laid_path r ss))
       ≡ map (on_tag (laid_segment r)) (segs (header_mentions source arrays role i p ss))
   header-segs source other arrays role i j p [] = refl
-  header-segs source other arrays role i j p (s ∷ []) = ap (λ k. ((to_key p k, role), laid_segment r s) ∷ []) (key-laid r s)
+  header-segs source other arrays role i j p (s ∷ []) = refl
   header-segs source other arrays role i j p (s ∷ t ∷ rest) =
-      ap (λ k. ((to_key p k, passing_role (elements_at arrays (to_key p k))), laid_segment r s)
-      ∷ segs (header_mentions other arrays role (next_start j (laid_segment r s))
-      (in_last (elements_at arrays (to_key p k)) (to_key p k)) (laid_path r (t ∷ rest)))) (key-laid r s)
-      ∙ ap (λ xs. ((to_key p s.key, passing_role (elements_at arrays (to_key p s.key))), laid_segment r s) ∷ xs)
+      ap (λ xs. ((to_key p s.key, passing_role (elements_at arrays (to_key p s.key))), laid_segment r s) ∷ xs)
       (header-segs source other arrays role (next_start i s) (next_start j (laid_segment r s))
       (in_last (elements_at arrays (to_key p s.key)) (to_key p s.key)) (t ∷ rest))

@@ -6,10 +6,10 @@ use Rattle.toml_edit_model.specs.Syntax.{Segment, Frame, Value, scalar, array, i
 use Rattle.toml_edit_model.specs.Syntax.{no_pairs, pair, Header, Statement, key_line, header, Document, IsDocument, IsValue, has_elements, has_pairs}
 use Rattle.toml_edit_model.specs.Syntax.{comma_text, opening_brackets, closing_brackets, mark_text, document_text}
 use Rattle.toml_edit_model.specs.Text.{Text, one, joined}
-use Rattle.toml_edit_fmt_laws.specs.Rules.{Rules, as_it_is}
+use Rattle.toml_edit_model.specs.Paths.{Path}
+use Rattle.toml_edit_fmt_laws.specs.Rules.{Rules, Indentation, as_it_is, flush, by_depth, Comments, as_they_are, apart, aligned, Arrays, arrays_stay, kept, collapsed}
 use Rattle.toml_edit_fmt_laws.specs.Laying.{is_broken, is_empty_line}
 use Rattle.toml_edit_fmt_laws.specs.Formatted.{laid_value, laid_document}
-use Rattle.toml_edit_fmt_laws.specs.FormattedTree.{lays_lines}
 
 -- ---- the texts of a document, each with its place
 
@@ -102,17 +102,32 @@ texts_at test d = filter (λ p. test p.place) (placed_texts d)
 
 -- ---- what stays
 
+abbrev pub lines_stay : Indentation → Bool
+lines_stay as_it_is = true
+lines_stay flush = false
+lines_stay by_depth = false
+
+abbrev pub comments_stay : Comments → Bool
+comments_stay as_they_are = true
+comments_stay (apart n) = false
+comments_stay (aligned n) = false
+
+abbrev pub do_arrays_stay : Arrays → Bool
+do_arrays_stay arrays_stay = true
+do_arrays_stay kept = false
+do_arrays_stay collapsed = false
+
 -- No rule that is asked for is about the place.
 abbrev pub is_left : Rules → Place → Bool
 is_left r punctuation = true
-is_left r key_spelling = true
+is_left r key_spelling = not r.keys
 is_left r value_spelling = true
 is_left r at_equals = not r.equals
 is_left r at_dots = not r.dots
-is_left r before_statements = not (lays_lines r)
-is_left r after_statements = is_none r.before_comment
+is_left r before_statements = is_none r.blank_lines && lines_stay r.indentation
+is_left r after_statements = comments_stay r.comments
 is_left r line_ends = true
-is_left r in_arrays = not r.arrays
+is_left r in_arrays = do_arrays_stay r.arrays
 is_left r in_inline_tables = not r.inline_tables
 
 abbrev pub is_key_spelling : Place → Bool
@@ -146,19 +161,20 @@ full_lines t = filter (λ l. not (is_empty_line l)) (lines t)
 
 -- What the rules leave of a document.
 pub record KeepsPlaces (r : Rules) (old new : Document) : Type 0 where
-  -- keys and values are spelled as they were, whatever the rules
-  pub keys : key_spellings new ≡ key_spellings old
+  -- values are spelled as they were, whatever the rules, and keys unless they are to be bare
   pub values : value_spellings new ≡ value_spellings old
+  pub keys : r.keys ≡ false → key_spellings new ≡ key_spellings old
   -- the texts stay that no rule asked for is about
   pub places : texts_at (is_left r) new ≡ texts_at (is_left r) old
-  -- without the rule for empty lines no line before a statement or at the end comes or goes
-  pub lines : r.empty_lines ≡ false → map unindented (leading_texts new) ≡ map unindented (leading_texts old)
+  -- without a rule for empty lines no line before a statement or at the end comes or goes
+  pub lines : r.blank_lines ≡ None → map unindented (leading_texts new) ≡ map unindented (leading_texts old)
   -- without indentation each line that is not empty keeps its white space
   pub white_space : r.indentation ≡ as_it_is → map full_lines (leading_texts new) ≡ map full_lines (leading_texts old)
 
 -- So it is of a formatted document.
 abbrev pub FormattedKeepsPlaces : Type 0
-FormattedKeepsPlaces = (r : Rules) (d : Document) → IsDocument d → KeepsPlaces r d (laid_document r d)
+FormattedKeepsPlaces =
+    (r : Rules) (pad : ℕ → Path → ℕ) (d : Document) → IsDocument d → KeepsPlaces r d (laid_document r pad d)
 
 -- ---- lines of values
 
@@ -174,5 +190,5 @@ is_on_one_line v = list_all (λ p. not (is_inside p.place && is_broken p.text)) 
 -- It stays so where there is no greatest width.
 abbrev pub StaysOnOneLine : Type 0
 StaysOnOneLine =
-    (r : Rules) → r.width ≡ None → (indent : Text) (room : Option ℕ) (v : Value) → IsValue v
-    → is_on_one_line v ≡ true → is_on_one_line (laid_value r indent room v) ≡ true
+    (r : Rules) → r.width ≡ None → (pad : Path → ℕ) (p : Path) (depth : ℕ) (room : Option ℕ) (v : Value)
+    → IsValue v → is_on_one_line v ≡ true → is_on_one_line (laid_value r pad p depth room v) ≡ true

@@ -1,5 +1,5 @@
 -- What a formatter is asked for. A rule that is off leaves the places as they are that it is about.
-use Rattle.std.specs.Prelude.{ℕ, Bool, true, false, ◌-◌, ◌++◌, if◌then◌else◌, [], ◌∷◌, Option, Some, None}
+use Rattle.std.specs.Prelude.{ℕ, Bool, true, false, ◌-◌, if◌then◌else◌, ◌∷◌, Option, Some}
 use Rattle.std.specs.List.{repeat}
 use Rattle.toml_edit_model.specs.Text.{Text, carriage_return, newline, one, space}
 
@@ -10,26 +10,50 @@ pub data Indentation : Type 0 where
   flush : Indentation
   by_depth : Indentation
 
+-- what is before a comment after something on its line: what was, so many spaces, or as many as bring
+-- the comments of neighbours into one column, that many after the longest
+pub data Comments : Type 0 where
+  as_they_are : Comments
+  apart : ℕ → Comments
+  aligned : ℕ → Comments
+
+-- an array has several lines never, if it has, or if it has comments; the last two also where it is
+-- too wide
+pub data Arrays : Type 0 where
+  arrays_stay : Arrays
+  kept : Arrays
+  collapsed : Arrays
+
+-- a comma after the last of several lines is there if it was, always, or where a comment is before it
+pub data Commas : Type 0 where
+  commas_stay : Commas
+  always : Commas
+  never : Commas
+
 pub record Rules : Type 0 where
-  -- one space on both sides of `=`
   pub equals : Bool
-  -- no white space at dots and inside the brackets of headers
   pub dots : Bool
-  -- so many spaces before the `#` of a comment that is after something on its line
-  pub before_comment : Option ℕ
-  -- at most one empty line in a row, one before a header, none at the ends of the text
-  pub empty_lines : Bool
+  pub comments : Comments
+  -- the most empty lines in a row
+  pub blank_lines : Option ℕ
   pub indentation : Indentation
   -- the spaces of a unit of indentation
   pub unit : ℕ
-  -- arrays on one line or with a line for each value
-  pub arrays : Bool
-  -- a line that would be longer gets an array with a line for each value
+  pub arrays : Arrays
+  -- several scalars on a line stay there
+  pub rows : Bool
+  pub commas : Commas
+  -- a space inside of the brackets on one line
+  pub bracket_space : Bool
+  pub brace_space : Bool
   pub width : Option ℕ
-  -- inline tables on one line or with a line for each pair
   pub inline_tables : Bool
   -- new lines end in CR LF
   pub returns : Bool
+  -- keys are bare where they can be
+  pub keys : Bool
+  -- comments may say that statements, or all of a text, stay
+  pub left_alone : Bool
 
 -- each rule as it is unless asked otherwise
 abbrev pub default_rules : Rules
@@ -37,54 +61,40 @@ default_rules =
     record {
       equals = true;
       dots = true;
-      before_comment = Some 1;
-      empty_lines = true;
+      comments = apart 1;
+      blank_lines = Some 1;
       indentation = flush;
       unit = 2;
-      arrays = true;
+      arrays = kept;
+      rows = true;
+      commas = always;
+      bracket_space = false;
+      brace_space = true;
       width = Some 80;
       inline_tables = true;
       returns = false;
-    }
-
--- no rule
-abbrev pub no_rules : Rules
-no_rules =
-    record {
-      equals = false;
-      dots = false;
-      before_comment = None;
-      empty_lines = false;
-      indentation = as_it_is;
-      unit = 2;
-      arrays = false;
-      width = None;
-      inline_tables = false;
-      returns = false;
+      keys = false;
+      left_alone = true;
     }
 
 abbrev pub spaces : ℕ → Text
 spaces n = repeat n (one space)
 
--- further in by a unit
-abbrev pub deeper : Rules → Text → Text
-deeper r indent = indent ++ spaces r.unit
-
 -- so many units
 abbrev pub units : Rules → ℕ → Text
 units r n = repeat n (spaces r.unit)
 
--- before the lines below a header of so many keys, and before the header
-abbrev pub indent_as : Indentation → Rules → ℕ → Text
-indent_as by_depth r keys = units r keys
-indent_as as_it_is r keys = []
-indent_as flush r keys = []
+-- how far the lines below a header of so many keys are in, and the header
+abbrev pub depth_as : Indentation → ℕ → ℕ
+depth_as by_depth keys = keys
+depth_as as_it_is keys = 0
+depth_as flush keys = 0
 
-abbrev pub line_indent : Rules → ℕ → Text
-line_indent r = indent_as r.indentation r
+abbrev pub line_depth : Rules → ℕ → ℕ
+line_depth r = depth_as r.indentation
 
-abbrev pub header_indent : Rules → ℕ → Text
-header_indent r keys = line_indent r (keys - 1)
+abbrev pub header_depth : Rules → ℕ → ℕ
+header_depth r keys = line_depth r (keys - 1)
 
 -- the newline of a line that is made
 abbrev pub made_newline : Rules → Text

@@ -1,7 +1,4 @@
--- Worked layouts of places, of documents with their comments, of trees, of what rules leave, and of
--- bare keys.
+-- Worked layouts of places, of documents with their comments, and of what rules leave.
 pub mod Places
 pub mod Documents
-pub mod Trees
 pub mod PlacedTexts
-pub mod BareKeys

@@ -325,7 +325,8 @@ fn hash_place(line: &str) -> Option<usize>
 }
 
 /// Returns the place where the white space that the text ends in begins.
-fn end_of_words(text: &str) -> usize
+#[doc(hidden)]
+pub fn end_of_words(text: &str) -> usize
     ensures boundary { IsCharBoundary text.now result }
     ensures place { result ≡ end_of_words text.now }
 {

@@ -1,6 +1,6 @@
 -- What formatting promises.
 use Rattle.toml_edit_fmt_laws.proofs.Accepts.{accepted_alike}
-use Rattle.toml_edit_fmt_laws.proofs.Again.{formatted_again}
+use Rattle.toml_edit_fmt_laws.proofs.Again.{laid_again, formatted_again}
 use Rattle.toml_edit_fmt_laws.proofs.Grammar.{stays_document}
 use Rattle.toml_edit_fmt_laws.proofs.Means.{means_the_same}
 use Rattle.toml_edit_fmt_laws.proofs.Off.{off_changes_nothing}
@@ -14,6 +14,7 @@ returns c =
       accepted = accepted_alike;
       means = means_the_same;
       comments = keeps_remarks;
+      twice = laid_again;
       again = formatted_again;
       off = off_changes_nothing;
     }

@@ -5,25 +5,25 @@ use Rattle.toml_edit_fmt_laws.proofs.HeaderLaws.{header-whole, header-again, hea
 use Rattle.toml_edit_fmt_laws.proofs.layouts.Goals as goal
 
 pub returns : goal.returns
-returns c = λ r indent t w h. record {
+returns c = λ r depth t h. record {
   line = λ s. record {
-    trivia = leading-whole r s indent t w h;
-    same = leading-comments r s indent t w h;
-    again = leading-again r s indent t w h;
+    trivia = leading-whole r s depth t h;
+    same = leading-comments r s depth t h;
+    again = leading-again r s depth t h;
   };
   header = λ s. record {
-    trivia = header-whole r s indent t w h;
-    same = header-comments r s indent t w h;
-    again = header-again r s indent t w h;
+    trivia = header-whole r s depth t h;
+    same = header-comments r s depth t h;
+    again = header-again r s depth t h;
   };
-  between = λ s e last v. record {
-    trivia = gap-whole r s e indent last t w v h;
-    same = gap-comments r s e indent last t w v h;
-    again = gap-again r s e indent last t w v h;
+  between = λ pad s e last. record {
+    trivia = gap-whole r pad s e depth last t h;
+    same = gap-comments r pad s e depth last t h;
+    again = gap-again r pad pad s e depth last t h;
   };
   comma = record {
-    trivia = comma-whole r indent t w h;
-    same = comma-comments r indent t w h;
-    again = comma-again r indent t w h;
+    trivia = comma-whole r depth t h;
+    same = comma-comments r depth t h;
+    again = comma-again r depth t h;
   };
 }

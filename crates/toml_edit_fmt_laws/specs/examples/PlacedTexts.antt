@@ -1,9 +1,9 @@
 -- A worked document with its placed texts, and what rules leave of them.
-use Rattle.std.specs.Prelude.{◌≡◌, refl, pos, true, false, [], ◌∷◌, codes, map}
+use Rattle.std.specs.Prelude.{◌≡◌, refl, pos, true, false, [], ◌∷◌, codes, map, Some, None}
 use Rattle.toml_edit_model.specs.Scalars.{integer, string}
 use Rattle.toml_edit_model.specs.Syntax.{Segment, Value, scalar, array, no_elements, element, key_line, header, Document, document_text}
 use Rattle.toml_edit_model.specs.Text.{Text, newline}
-use Rattle.toml_edit_fmt_laws.specs.Rules.{flush, default_rules, no_rules}
+use Rattle.toml_edit_fmt_laws.specs.Rules.{Rules, as_it_is, flush, as_they_are, arrays_stay, default_rules}
 use Rattle.toml_edit_fmt_laws.specs.Formatted.{laid_document}
 use Rattle.toml_edit_fmt_laws.specs.Places.{Place, punctuation, key_spelling, value_spelling, at_equals, at_dots, before_statements, after_statements}
 use Rattle.toml_edit_fmt_laws.specs.Places.{line_ends, in_arrays, in_inline_tables, PlacedText, placed_texts, is_left}
@@ -90,6 +90,18 @@ spelled_values = refl
 
 -- ---- which rules are about a place
 
+abbrev no_rules : Rules
+no_rules =
+    record default_rules {
+      equals = false;
+      dots = false;
+      comments = as_they_are;
+      blank_lines = None;
+      indentation = as_it_is;
+      arrays = arrays_stay;
+      inline_tables = false;
+    }
+
 equals_asked : is_left default_rules at_equals ≡ false
 equals_asked = refl
 
@@ -99,16 +111,16 @@ equals_not_asked = refl
 lines_moved : is_left (record no_rules { indentation = flush }) before_statements ≡ false
 lines_moved = refl
 
-lines_spaced : is_left (record no_rules { empty_lines = true }) before_statements ≡ false
+lines_spaced : is_left (record no_rules { blank_lines = Some 1 }) before_statements ≡ false
 lines_spaced = refl
 
-lines_left : is_left (record default_rules { indentation = no_rules.indentation; empty_lines = false }) before_statements ≡ true
+lines_left : is_left (record default_rules { indentation = as_it_is; blank_lines = None }) before_statements ≡ true
 lines_left = refl
 
 comments_moved : map (is_left default_rules) (after_statements ∷ line_ends ∷ []) ≡ false ∷ true ∷ []
 comments_moved = refl
 
-insides_left : map (is_left (record default_rules { arrays = false })) (in_arrays ∷ in_inline_tables ∷ at_dots ∷ [])
+insides_left : map (is_left (record default_rules { arrays = arrays_stay })) (in_arrays ∷ in_inline_tables ∷ at_dots ∷ [])
     ≡ true ∷ false ∷ false ∷ []
 insides_left = refl
 
@@ -127,11 +139,11 @@ leading_read : leading_texts read ≡ codes "# a\n " ∷ codes "\n\n " ∷ codes
 leading_read = refl
 
 -- lines are moved, and none goes
-moved_texts : leading_texts (laid_document (record no_rules { indentation = flush }) read) ≡ codes "# a\n" ∷ codes "\n\n" ∷ [] ∷ []
+moved_texts : leading_texts (laid_document (record no_rules { indentation = flush }) (λ _ _. 0) read) ≡ codes "# a\n" ∷ codes "\n\n" ∷ [] ∷ []
 moved_texts = refl
 
 -- one goes, and none is moved
-spaced_texts : leading_texts (laid_document (record no_rules { empty_lines = true }) read) ≡ codes "# a\n " ∷ codes "\n " ∷ codes " " ∷ []
+spaced_texts : leading_texts (laid_document (record no_rules { blank_lines = Some 1 }) (λ _ _. 0) read) ≡ codes "# a\n " ∷ codes "\n " ∷ codes " " ∷ []
 spaced_texts = refl
 
 -- ---- lines of values

@@ -1,11 +1,20 @@
--- The rules are the usual ones.
-use Rattle.std.proofs.Common.{ap}
-use Rattle.toml_edit_model.specs.Version.{v1_1}
-use Rattle.toml_edit_fmt_laws.specs.Rules.{Rules}
+-- The text is formatted by the cut by which it is accepted.
+use Rattle.std.proofs.Common.{◌∙◌, ap}
+use Rattle.toml_edit_model.specs.Syntax.{document_text}
+use Rattle.toml_edit_fmt_laws.specs.Aligned.{formatted, pads_as}
+use Rattle.toml_edit_fmt_laws.specs.Rules.{default_rules}
 use Rattle.example_proofs.proofs.format_text.format_text.Goals as goal
 
-pub returns-clause-formatted : goal.returns-clause-formatted
-returns-clause-formatted c =
-    let is = c.default.ensures in
-    let read = c.in_ok-formatted.ensures.read v1_1 c.args.text.now c.in_ok-document.ensures.accepted c.in_ok-document.ensures.plain (ap (λ (r : Rules). r.returns) is.0) in
-    rw c.in_ok-print.ensures (rw is.0 at (rw is.1 at read))
+pub returns-in-Ok-clause-formatted : goal.returns-in-Ok-clause-formatted
+returns-in-Ok-clause-formatted c =
+    let reading = c.in_ok-from_str.ensures.accepted.reading in
+    let d = reading.document in
+    let pads = pads_as default_rules.comments default_rules d in
+    record {
+      document = d;
+      accepted = reading.accepted;
+      made = c.in-Ok.ensures.formatted d reading.accepted.0 ∙ ap (λ r. document_text (formatted r d)) c.default.ensures;
+      stays = c.formatted_texts.ensures.again default_rules c.args.text.now d reading.accepted;
+      comments = c.formatted.ensures.comments default_rules pads d reading.accepted.0.0;
+      places = c.formatted_places.ensures.kept default_rules pads d reading.accepted.0.0;
+    }

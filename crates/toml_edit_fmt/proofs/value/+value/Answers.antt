@@ -1,149 +1,72 @@
--- Each value is formatted in its place.
-use denote.Param.Weighed.{most}
-use Rattle.std.proofs.Common.{◌≡◌, ◌<◌, ◌≤◌, ◌+◌, List, ◌∷◌, length, drop, get_or, None, true, string_bytes, arith, refl, sym, ap, ◌∙◌}
-use Rattle.std.specs.Prelude.{◌&&◌, ◌||◌, not}
-use Rattle.toml_edit_model.specs.Print.{is_line_node}
-use Rattle.toml_edit_slots.specs.declared.slots.Slot.{Slot}
-use Rattle.toml_edit_tree.specs.declared.item.Item.{Item, size-Item}
-use Rattle.toml_edit_tree.specs.View.{item_view, items_view, slots_view, value_view}
-use Rattle.toml_edit_tree.proofs.DespanLaws.{deepest_item, if_done, item_depth}
-use Rattle.toml_edit_fmt_laws.specs.Formatted.{inner_indent, inner_room}
-use Rattle.toml_edit_fmt_laws.specs.FormattedTree.{element_decor, formatted_items, has_values, pair_decor}
-use Rattle.toml_edit_fmt.specs.LayoutView.{layout_of}
-use Rattle.toml_edit_fmt.specs.RulesView.{rules_of}
-use Rattle.toml_edit_fmt.proofs.SlotLaws.{within-key}
-use Rattle.toml_edit_fmt.proofs.SlotWalk.{item-is, read-is, slot-deep, slot-step, there}
-use Rattle.toml_edit_fmt.proofs.ValueLaws.{cons_item, cons_pair, items-made, keeps-first, laid-after, laid-line, onto-items, onto-pairs, pairs-made, pairs_left}
-use Rattle.toml_edit_fmt.proofs.Walks.{finish, long_as, same, start, step}
+-- Each turn of the loop adds a member, and a list is written after its bracket.
+use Rattle.std.proofs.Common.{sym, ap, subst, ◌∙◌, arith, length}
+use Rattle.std.specs.Borrow.{Bor}
+use Rattle.toml_edit_model.specs.Text.{Text}
+use Rattle.toml_edit_syntax.specs.LateEvents.{AreIn}
+use Rattle.toml_edit_fmt.proofs.ListLaws.{are-left, left-shorter, member-shorter}
+use Rattle.toml_edit_fmt.proofs.MemberTurns.{left-behind, turned}
+use Rattle.toml_edit_fmt.proofs.ValueTurns.{array-put, inline-put, scalar-put, some-first}
 use Rattle.toml_edit_fmt.proofs.value.+value.Goals as goal
 
--- ---- items
+pub put_members-members-preserved : goal.put_members-members-preserved
+put_members-members-preserved t c =
+    let behind = c.in_ok-behind.behind.now in
+    let all = c.in_ok-behind.ensures.rest in
+    let head = c.in_ok-value.ensures.rest in
+    let between = c.in_ok-put_between.ensures in
+    let before = c.members.invariant in
+    let split = sym c.in-Some.ensures in
+    let source = head.source ∙ between.source ∙ before.source in
+    record {
+      spans = are-left c.args.page.now.source.now 1 behind (subst (λ (s : Bor Text). AreIn s.now behind) source all.spans);
+      shorter = omega (arith, left-shorter 1 behind, all.shorter, head.shorter, member-shorter c.members.rest.now _ _ split, before.shorter);
+      source = all.source ∙ source;
+      rules = all.rules ∙ head.rules ∙ between.rules ∙ before.rules;
+      left = λ e ms at more next.
+          left-behind c.args.list.now e ms more behind c.args.page.now c.put_value.new.page _ _
+          (turned c.args.list.now e c.members.after ms more c.members.rest.now c.in-Some.member.now c.in_ok-value.value.now behind c.in-Some.before _ c.args.page.now
+          c.members.page c.put_between.new.page c.put_member_head.new.page c.put_value.new.page c.place-place.result
+          (before.left e ms at more next) split c.text_at.ensures between c.in_ok-value.ensures.head c.place-place.ensures c.in_ok-behind.ensures.value)
+          c.text_at-in-Some.ensures;
+    }
 
-pub format_items-loop-at-init : goal.format_items-loop-at-init
-format_items-loop-at-init t c =
-    start cons_item (λ xs. formatted_items (rules_of c.args.inside.now.rules) (layout_of c.args.inside.now.layout)
-    (string_bytes c.args.inside.now.indent) c.args.comma true (items_view xs)) c.args.items.now.items
+pub put_members-returns-in_default-behind-clause-members :
+    goal.put_members-returns-in_default-behind-clause-members
+put_members-returns-in_default-behind-clause-members t c = λ e ms at more next.
+    let turn = turned c.args.list.now e c.members.after ms more c.members.rest.now c.in-Some.member.now c.in_ok-value.value.now c.in_ok-behind.behind.now c.in-Some.before _ c.args.page.now
+    c.members.page c.put_between.new.page c.put_member_head.new.page c.put_value.new.page c.place-place.result
+    (c.members.invariant.left e ms at more next) (sym c.in-Some.ensures) c.text_at.ensures c.in_ok-put_between.ensures c.in_ok-value.ensures.head c.place-place.ensures c.in_ok-behind.ensures.value in
+    absurd (omega (arith, ap length turn.behind_is, c.in_default-behind.len_below))
 
-pub format_items-format_item-requires : goal.format_items-format_item-requires
-format_items-format_item-requires t c =
-    let first = c.args.items.now.items in
-    let items = c.loop-at.items.items in
-    let at = c.loop-at.at in
-    let x = c.index_mut.result.now in
-    let long = long_as cons_item _ _ items first at c.loop-at.invariant in
-    let within : at < length items = omega (arith, long, c.len-at-end.ensures, c.loop-at-test.true) in
-    let here : get_or first at x ≡ x = sym (same cons_item _ _ items first at c.loop-at.invariant within x) ∙ sym c.index_mut.ensures.value in
-    let first_within : at < length first = omega (arith, long, within) in
-    let deep : size-Item x ≤ most item_depth first = rw (← here) (deepest_item first at x first_within) in
-    omega (arith, deep)
+pub put_value-returns-in_default-clause-value : goal.put_value-returns-in_default-clause-value
+put_value-returns-in_default-clause-value t c = λ v start room more is stands e there.
+    absurd (omega (arith, ap length e, some-first start v more, c.in_default.len_below))
 
-pub format_items-loop-at-preserved : goal.format_items-loop-at-preserved
-format_items-loop-at-preserved t c =
-    let r = rules_of c.args.inside.now.rules in
-    let l = layout_of c.args.inside.now.layout in
-    let i = string_bytes c.args.inside.now.indent in
-    let first = c.args.items.now.items in
-    let items = c.loop-at.items.items in
-    let at = c.loop-at.at in
-    let x = c.index_mut.result.now in
-    let y = c.format_item.new.item in
-    let long = long_as cons_item _ _ items first at c.loop-at.invariant in
-    let within : at < length items = omega (arith, long, c.len-at-end.ensures, c.loop-at-test.true) in
-    step cons_item _ (λ (xs : List Item). formatted_items r l i c.args.comma c.in_ok-is_first.is_first (items_view xs)) _ items first at c.loop-at.invariant within x y
-    (ap (λ (z : Item). formatted_items r l i c.args.comma c.loop-at.is_first (items_view (z ∷ drop (at + 1) items))) (sym c.index_mut.ensures.value)
-    ∙ items-made r l i c.args.comma c.loop-at.is_first c.ends_array-is_end.result c.in_ok-is_first.is_first (item_view x) (item_view y)
-    (items_view (drop (at + 1) items))
-    (c.ends_array-is_end.ensures
-    ∙ ap (λ (xs : List Item). not (c.args.comma || has_values (items_view (drop (at + 1) xs)))) c.as_slice.ensures.value)
-    c.in_ok-is_first.ensures.item c.in_ok-is_first.ensures.first)
+pub put_value-returns-in_ok-list-in-ArrayOpen-clause-value :
+    goal.put_value-returns-in_ok-list-in-ArrayOpen-clause-value
+put_value-returns-in_ok-list-in-ArrayOpen-clause-value t c =
+    array-put _ c.args.place c.in_ok-list-in-ArrayOpen.list c.args.events.now c.put_members.result c.args.page.now c.put_event.new.self c.put_members.new.page
+    c.in_ok-put_event.ensures c.put_members.ensures.members c.in_ok-list-in-ArrayOpen.ensures.kind.1 c.in_ok-list-in-ArrayOpen.ensures.kind.0
+    c.in_ok-list-in-ArrayOpen.ensures.array c.in-ArrayOpen.is
 
-pub format_items-returns : goal.format_items-returns
-format_items-returns t c =
-    let first = c.args.items.now.items in
-    let items = c.loop-at.items.items in
-    let at = c.loop-at.at in
-    let long = long_as cons_item _ _ items first at c.loop-at.invariant in
-    let past : length items ≤ at = omega (arith, long, c.len-at-end.ensures, c.loop-at-test.false) in
-    sym (onto-items items) ∙ finish cons_item _ _ items first at c.loop-at.invariant past
+pub put_value-returns-in_ok-list-in-InlineTableOpen-clause-value :
+    goal.put_value-returns-in_ok-list-in-InlineTableOpen-clause-value
+put_value-returns-in_ok-list-in-InlineTableOpen-clause-value t c =
+    inline-put _ c.args.place c.in_ok-list-in-InlineTableOpen.list c.args.events.now c.put_members-in-InlineTableOpen.result c.args.page.now c.put_event.new.self
+    c.put_members-in-InlineTableOpen.new.page
+    c.in_ok-put_event.ensures c.put_members-in-InlineTableOpen.ensures.members c.in_ok-list-in-InlineTableOpen.ensures.kind.1 c.in_ok-list-in-InlineTableOpen.ensures.kind.0
+    c.in_ok-list-in-InlineTableOpen.ensures.inline c.in-InlineTableOpen.is
 
--- ---- pairs
-
-pub format_pairs-loop-at-init : goal.format_pairs-loop-at-init
-format_pairs-loop-at-init t c =
-    start cons_pair (λ es. pairs_left (rules_of c.args.inside.now.rules) (layout_of c.args.inside.now.layout)
-    (string_bytes c.args.inside.now.indent) c.args.ends.comma c.args.ends.is_last c.args.is_first (slots_view es)) c.args.slots.now
-
-pub format_pairs-format_pair-requires : goal.format_pairs-format_pair-requires
-format_pairs-format_pair-requires t c =
-    let first = c.args.slots.now in
-    let es = c.loop-at.slots in
-    let at = c.loop-at.at in
-    let long = long_as cons_pair _ _ es first at c.loop-at.invariant in
-    let within : at < length es = omega (arith, long, c.len-at-end.ensures, c.loop-at-test.true) in
-    let first_within : at < length first = omega (arith, long, within) in
-    let deep = slot-deep cons_pair _ _ es first at c.loop-at.invariant within first_within _ c.item_mut.result.now _ c.in_ok-format_key.ensures
-    c.item_mut.ensures.item in
-    omega (arith, deep)
-
-pub format_pairs-loop-at-preserved : goal.format_pairs-loop-at-preserved
-format_pairs-loop-at-preserved t c =
-    let r = rules_of c.args.inside.now.rules in
-    let l = layout_of c.args.inside.now.layout in
-    let i = string_bytes c.args.inside.now.indent in
-    let first = c.args.slots.now in
-    let es = c.loop-at.slots in
-    let at = c.loop-at.at in
-    let x = c.item_mut.result.now in
-    let y = c.format_pair.new.item in
-    let long = long_as cons_pair _ _ es first at c.loop-at.invariant in
-    let within : at < length es = omega (arith, long, c.len-at-end.ensures, c.loop-at-test.true) in
-    let seen = read-is es c.as_slice.result.now at c.index-as_slice-at.result within c.as_slice.ensures.slots c.index-as_slice-at.is in
-    let there_is = item-is cons_pair es at _ x _ within c.in_ok-format_key.ensures c.item_mut.ensures.item in
-    slot-step cons_pair _ (λ (us : List (Slot Item)). pairs_left r l i c.args.ends.comma c.args.ends.is_last c.in_ok-is_first.is_first (slots_view us)) _ es first at
-    c.loop-at.invariant within _ x y _ c.in_ok-format_key.ensures c.item_mut.ensures.item
-    (pairs-made r l i c.args.ends.comma c.args.ends.is_last c.loop-at.is_first c.is_line-is_pair.result c.ends_pairs.result c.in_ok-is_first.is_first
-    (there es at).key _ (item_view x) (item_view y) (slots_view (drop (at + 1) es))
-    (c.is_line-is_pair.ensures ∙ ap (λ (z : Item). is_line_node (item_view z)) (ap (λ (s : Slot Item). s.item) seen ∙ sym there_is))
-    c.ends_pairs.ensures refl c.in_ok-is_first.ensures.item
-    c.in_ok-is_first.ensures.first)
-
-pub format_pairs-returns : goal.format_pairs-returns
-format_pairs-returns t c =
-    let first = c.args.slots.now in
-    let es = c.loop-at.slots in
-    let at = c.loop-at.at in
-    let long = long_as cons_pair _ _ es first at c.loop-at.invariant in
-    let past : length es ≤ at = omega (arith, long, c.len-at-end.ensures, c.loop-at-test.false) in
-    let made = sym (onto-pairs es (c.loop-at.is_first && true)) ∙ finish cons_pair _ _ es first at c.loop-at.invariant past in
-    record { slots = ap (λ p. p.0) made; first = keeps-first c.loop-at.is_first ∙ ap (λ p. p.1) made }
-
-pub format_pairs-item_mut-requires : goal.format_pairs-item_mut-requires
-format_pairs-item_mut-requires t c =
-    let first = c.args.slots.now in
-    let es = c.loop-at.slots in
-    let at = c.loop-at.at in
-    let long = long_as cons_pair _ _ es first at c.loop-at.invariant in
-    let within : at < length es = omega (arith, long, c.len-at-end.ensures, c.loop-at-test.true) in
-    within-key es _ at at _ c.in_ok-format_key.ensures within
-
--- ---- values and their decors
-
-pub format_element-returns : goal.format_element-returns
-format_element-returns t c =
-    let r = rules_of c.args.inside.now.rules in
-    let l = layout_of c.args.inside.now.layout in
-    let i = string_bytes c.args.inside.now.indent in
-    if_done c.format_around.result c.format_around.ensures
-    (λ e. laid-after r c.inner_indent.result.now (inner_indent r l i) c.inner_room-room.result (inner_room r l i) c.args.value.now
-    c.format_value.new.value (element_decor r l i c.args.is_first c.args.is_end) c.decor_mut.result.now _ c.inner_indent.ensures
-    c.inner_room-room.ensures c.in_ok-format_value.ensures c.decor_mut.ensures.decor e)
-
-pub format_pair_value-returns-then-is_pair-clause-item : goal.format_pair_value-returns-then-is_pair-clause-item
-format_pair_value-returns-then-is_pair-clause-item t c =
-    let r = rules_of c.args.inside.now.rules in
-    let l = layout_of c.args.inside.now.layout in
-    let i = string_bytes c.args.inside.now.indent in
-    laid-after r c.inner_indent.result.now (inner_indent r l i) None None c.args.value.now
-    c.format_value.new.value (pair_decor r l i c.args.ends.is_last c.args.ends.comma) c.decor_mut.result.now _ c.inner_indent.ensures
-    refl c.in_ok-format_value.ensures c.decor_mut.ensures.decor c.in_ok-format_pair_around.ensures
-    ∙ laid-line r l i c.args.ends.comma c.args.is_first c.args.ends.is_last (value_view c.args.value.now) (sym c.is_pair.ensures ∙ c.if-is_pair.true)
+pub put_value-returns-in_default-kind : goal.put_value-returns-in_default-kind
+put_value-returns-in_default-kind t c =
+    record {
+      value = λ v start room more is stands e there.
+          scalar-put _ start c.args.place.depth room v more c.args.events.now c.args.page.now c.put_event.new.self
+          c.in_default-kind.not-ArrayOpen c.in_default-kind.not-InlineTableOpen stands e c.in_ok-put_event.ensures;
+      rest = record {
+        spans = are-left c.args.page.now.source.now 1 c.args.events.now c.requires.spans;
+        shorter = left-shorter 1 c.args.events.now;
+        source = c.in_ok-put_event.ensures.source;
+        rules = c.in_ok-put_event.ensures.rules;
+      };
+    }

@@ -1,26 +1,27 @@
--- What was formatted, and what is left to be formatted of the rest.
-use Rattle.std.proofs.Common.{string_bytes, true}
-use Rattle.toml_edit_tree.specs.View.{items_view, slots_view}
-use Rattle.toml_edit_fmt_laws.specs.FormattedTree.{formatted_items}
-use Rattle.toml_edit_fmt.specs.LayoutView.{layout_of}
-use Rattle.toml_edit_fmt.specs.RulesView.{rules_of}
-use Rattle.toml_edit_fmt.proofs.ValueLaws.{cons_item, cons_pair, pairs_left}
-use Rattle.toml_edit_fmt.proofs.Walks.{Walk}
+-- What is written, and what is left of the members, is what all members are laid out as.
+use Rattle.std.proofs.Common.{◌≡◌, ◌≤◌, ℕ, List, None, length}
+use Rattle.toml_edit_syntax.specs.declared.event.Event.{Event}
+use Rattle.toml_edit_syntax.specs.LateEvents.{AreIn}
+use Rattle.toml_edit_fmt.specs.MemberView.{AreNext, End, Member, text_of}
+use Rattle.toml_edit_fmt.proofs.MemberTurns.{MembersLeft}
 use Rattle.toml_edit_fmt.proofs.value.+value.Given as goal
 
-abbrev pub invariant-format_items-loop-at : goal.invariant-format_items-loop-at
-invariant-format_items-loop-at l =
-    Walk cons_item
-    (λ xs. formatted_items (rules_of l.inside.rules) (layout_of l.inside.layout) (string_bytes l.inside.indent) l.comma l.is_first (items_view xs))
-    (formatted_items (rules_of l.inside.rules) (layout_of l.inside.layout) (string_bytes l.inside.indent) l.comma true
-    (items_view l.initial.items.items))
-    l.items.items l.initial.items.items l.at
+abbrev pub decreases-put_members : goal.decreases-put_members
+decreases-put_members l = length l.events.now
 
-abbrev pub invariant-format_pairs-loop-at : goal.invariant-format_pairs-loop-at
-invariant-format_pairs-loop-at l =
-    Walk cons_pair
-    (λ es. pairs_left (rules_of l.inside.rules) (layout_of l.inside.layout) (string_bytes l.inside.indent) l.ends.comma l.ends.is_last
-    l.is_first (slots_view es))
-    (pairs_left (rules_of l.inside.rules) (layout_of l.inside.layout) (string_bytes l.inside.indent) l.ends.comma l.ends.is_last
-    l.initial.is_first (slots_view l.initial.slots))
-    l.slots l.initial.slots l.at
+abbrev pub decreases-put_value : goal.decreases-put_value
+decreases-put_value l = length l.events.now
+
+abbrev pub invariant-put_members-members : goal.invariant-put_members-members
+invariant-put_members-members l = record {
+  spans : AreIn l.fn.page.source.now l.rest;
+  shorter : length l.rest ≤ length l.fn.events;
+  source : l.page.source ≡ l.fn.page.source;
+  rules : l.page.rules ≡ l.fn.page.rules;
+  left : (e : End) (ms : List Member) (at : ℕ) (more : List Event)
+      → AreNext l.fn.page.source.now l.list.is_array l.fn.events e None ms at more
+      → MembersLeft l.list e (text_of l.after) ms more l.rest l.fn.page l.page;
+}
+
+abbrev pub decreases-put_members-members : goal.decreases-put_members-members
+decreases-put_members-members l = length l.rest
