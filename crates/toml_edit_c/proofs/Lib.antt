@@ -3,4 +3,3 @@ pub mod Outcomes
 pub mod Splitting
 pub mod Ending
 pub mod Items
-pub mod Indexing

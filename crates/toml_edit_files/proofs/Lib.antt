@@ -1,9 +1,7 @@
 pub mod GetLaws
 pub mod EditLaws
 pub mod FolderLaws
-pub mod WalkLaws
 pub mod OutcomeLaws
-pub mod FoundLaws
 pub mod StopLaws
 pub mod FormatLaws
 pub mod RunLaws
@@ -13,4 +11,3 @@ pub mod UnmadeLaws
 pub mod RequestLaws
 pub mod SplitLaws
 pub mod OperandLaws
-pub mod RuleLaws

@@ -3,4 +3,3 @@ pub mod Edited
 pub mod Outcomes
 pub mod Refusals
 pub mod Requests
-pub mod Walks

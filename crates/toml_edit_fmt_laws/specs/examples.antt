@@ -1,5 +1,4 @@
--- Worked layouts of places, of documents with their comments, of what rules leave, and of groups.
+-- Worked layouts of places, of documents with their comments, and of what rules leave.
 pub mod Places
 pub mod Documents
 pub mod PlacedTexts
-pub mod Groups

@@ -1,3 +1,0 @@
-pub mod HunkLaws
-pub mod LineLaws
-pub mod ScriptLaws

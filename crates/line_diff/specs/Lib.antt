@@ -1,2 +1,0 @@
-pub mod Diff
-pub mod Steps

@@ -1,2 +1,0 @@
-pub mod LineLaws
-pub mod IndexLaws

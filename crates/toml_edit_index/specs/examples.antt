@@ -1,2 +1,0 @@
--- Worked entries and nodes of an index.
-pub mod Indexed
