@@ -139,7 +139,7 @@ sound-bones (key_line f v end) =
     ∙ ap (λ b. (keeps_limits (key_line f v end) && is_ranged (key_line f v end)) && b) (value-agrees v)
 sound-bones (header h end) = ap (λ b. (b && true) && true) (short-bones h.path)
 
-all-sound : (c e : Context) (ss : List Statement)
+pub all-sound : (c e : Context) (ss : List Statement)
     → list_all (λ p. is_sound_in v1_1 p.source.statement) (placed_from c (map skeleton ss))
     ≡ list_all (λ p. is_sound_in v1_1 p.source.statement) (placed_from e ss)
 all-sound c e [] = refl

@@ -23,3 +23,8 @@ mod Shown
 mod Tags
 mod Settled
 mod Round
+mod LeadingRows
+mod SortedGroups
+mod SortedMeans
+mod SortedAgain
+mod SortedComments

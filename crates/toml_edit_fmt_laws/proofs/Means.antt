@@ -78,7 +78,7 @@ context-bones c e (header s end) h = (
       ∙ ap (λ p. if s.is_array then to_element p (elements_at e.arrays p) else p) (path-bones-at e.arrays [] s.path),
 )
 
-statements-mean : (c e : Context) (ss : List Statement) → SameContext c e → facts_from c (map skeleton ss) ≡ facts_from e ss
+pub statements-mean : (c e : Context) (ss : List Statement) → SameContext c e → facts_from c (map skeleton ss) ≡ facts_from e ss
 statements-mean c e [] h = refl
 statements-mean c e (s ∷ rest) h =
     ap (λ fs. fs ++ facts_from (context_after c (skeleton s)) (map skeleton rest)) (statement-means c e s h)

@@ -4,6 +4,7 @@ pub mod Laying
 pub mod Formatted
 pub mod Aligned
 pub mod Sorted
+pub mod SortedPromises
 pub mod Remarks
 pub mod Promises
 pub mod Places

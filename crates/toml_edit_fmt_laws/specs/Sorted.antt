@@ -1,14 +1,16 @@
 -- The lines of tables in the order of their keys, group by group.
-use Rattle.std.specs.Prelude.{zero, ℕ, Bool, true, false, not, ◌-◌, ◌&&◌, ◌||◌, ◌==◌, nat_lt, if◌then◌else◌, List, [], ◌∷◌, ◌++◌, map, take, drop, length}
+use Rattle.std.specs.Prelude.{zero, ℕ, Bool, true, false, not, ◌-◌, ◌&&◌, ◌||◌, if◌then◌else◌, List, [], ◌∷◌, ◌++◌, map, take, length, codes}
 use Rattle.std.specs.Prelude.{Option, Some}
-use Rattle.std.specs.List.{list_any, suffix_len}
+use Rattle.std.specs.Cmp.Lexicographic.{slice_cmp}
+use Rattle.std.specs.List.{list_any}
+use Rattle.std.specs.Ordering.{is_lt, nat_cmp}
 use Rattle.toml_edit_model.specs.Comments.{comments}
 use Rattle.toml_edit_model.specs.Order.{sorted_by}
 use Rattle.toml_edit_model.specs.Syntax.{Segment, Statement, key_line, header, Document, newline_after}
-use Rattle.toml_edit_model.specs.Text.{Text, line_feed, same_text}
+use Rattle.toml_edit_model.specs.Text.{Text, same_text}
 use Rattle.toml_edit_fmt_laws.specs.Rules.{Rules}
-use Rattle.toml_edit_fmt_laws.specs.Laying.{has_empty_line}
-use Rattle.toml_edit_fmt_laws.specs.Formatted.{State, start, reached, after, stays, leading_of, off_after}
+use Rattle.toml_edit_fmt_laws.specs.Laying.{has_empty_line, last_line}
+use Rattle.toml_edit_fmt_laws.specs.Formatted.{State, start, reached, after, stays, leading_of, off_after, has_part}
 
 abbrev pub Names : Type 0
 Names = List Text
@@ -25,21 +27,14 @@ abbrev pub path_of : Statement → List Segment
 path_of (key_line f v end) = f.path
 path_of (header h end) = h.path
 
--- bytes in their order, and names segment by segment
-abbrev pub text_lt : Text → Text → Bool
-text_lt s [] = false
-text_lt [] (d ∷ t) = true
-text_lt (c ∷ s) (d ∷ t) = if c == d then text_lt s t else nat_lt c d
-
+-- segment by segment, in the order of their bytes
 abbrev pub names_lt : Names → Names → Bool
-names_lt ks [] = false
-names_lt [] (l ∷ ls) = true
-names_lt (k ∷ ks) (l ∷ ls) = if same_text k l then names_lt ks ls else text_lt k l
+names_lt ks ls = is_lt (slice_cmp (slice_cmp nat_cmp) ks ls)
 
 -- ---- groups
 
 -- A line with this before it is the first of a group: an empty line that stays is there, or a comment
--- that turns formatting on or off.
+-- that turns formatting on or off, or says that a tool has written the text.
 abbrev pub allows_empty : Option ℕ → Bool
 allows_empty (Some zero) = false
 allows_empty _ = true
@@ -47,19 +42,17 @@ allows_empty _ = true
 abbrev pub turns : List Text → Bool
 turns bodies = off_after false bodies || not (off_after true bodies)
 
+abbrev pub say_generated : List Text → Bool
+say_generated bodies = list_any (has_part (codes "@generated")) bodies
+
 abbrev pub begins_group : Rules → Text → Bool
 begins_group r t =
-    (allows_empty r.blank_lines && has_empty_line t) || (r.left_alone && turns (comments t))
+    (allows_empty r.blank_lines && has_empty_line t)
+    || (r.left_alone && (turns (comments t) || say_generated (comments t)))
 
--- the lines before a statement, and its own indentation
-abbrev pub own_len : Text → ℕ
-own_len t = suffix_len (λ c. not (c == line_feed)) t
-
+-- the lines before a statement, but for the indentation of its own
 abbrev pub lines_before : Text → Text
-lines_before t = take (length t - own_len t) t
-
-abbrev pub own_indent : Text → Text
-own_indent t = drop (length t - own_len t) t
+lines_before t = take (length t - length (last_line t)) t
 
 abbrev pub with_leading : Text → Statement → Statement
 with_leading t (key_line f v end) = key_line (record f { leading = t }) v end
@@ -72,7 +65,7 @@ with_newline t (header h end) = header h t
 -- The lines before the first of a group stay at its head, and newlines stay in their places.
 abbrev pub without_head : List Statement → List Statement
 without_head [] = []
-without_head (s ∷ rest) = with_leading (own_indent (leading_of s)) s ∷ rest
+without_head (s ∷ rest) = with_leading (last_line (leading_of s)) s ∷ rest
 
 abbrev pub with_head : Text → List Statement → List Statement
 with_head t [] = []
@@ -86,8 +79,12 @@ abbrev pub with_newlines : List Text → List Statement → List Statement
 with_newlines (t ∷ ts) (s ∷ ss) = with_newline t s ∷ with_newlines ts ss
 with_newlines _ ss = ss
 
+-- the one may be before the other
+abbrev pub goes_first : Statement → Statement → Bool
+goes_first s u = not (names_lt (names (path_of u)) (names (path_of s)))
+
 abbrev pub in_order : List Statement → List Statement
-in_order ss = sorted_by (λ s u. not (names_lt (names (path_of u)) (names (path_of s)))) ss
+in_order ss = sorted_by goes_first ss
 
 abbrev pub sorted_group : List Statement → List Statement
 sorted_group ss =

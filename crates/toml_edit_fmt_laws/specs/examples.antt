@@ -1,4 +1,5 @@
--- Worked layouts of places, of documents with their comments, and of what rules leave.
+-- Worked layouts of places, of documents with their comments, of what rules leave, and of groups.
 pub mod Places
 pub mod Documents
 pub mod PlacedTexts
+pub mod Groups

@@ -4,6 +4,7 @@
 
 ghost use Rattle.toml_edit_fmt_laws.specs.Places.{FormattedKeepsPlaces, PlacedTextsAreAll, StaysOnOneLine};
 ghost use Rattle.toml_edit_fmt_laws.specs.Promises.{AcceptedAlike, FormattedAgain, FormattedTextAgain, FormattedTreeAgain, KeepsRemarks, LaidAgain, MeansTheSame, OffChangesNothing, PlacesAreLaid, StaysDocument, StaysSettled};
+ghost use Rattle.toml_edit_fmt_laws.specs.SortedPromises.{FormattedStaysSorted, SortedAcceptedAlike, SortedAgain, SortedFormattedAgain, SortedKeepsComments, SortedKeepsStatements, SortedMeansTheSame, SortedStaysDocument, SortsByRuns};
 
 /// A formatted document means what the document means, and is accepted where that is. It has the
 /// same comments in the same order, each with what it belongs to and on its side of it. Formatted
@@ -40,4 +41,19 @@ pub fn formatted_texts()
     ensures again { FormattedTextAgain }
     ensures settled { StaysSettled }
     ensures trees { FormattedTreeAgain }
+{}
+
+/// A document sorted by groups means what the document means, and is accepted where that is. It has
+/// the same statements, those of each group in order, each with the comments above it, but that the
+/// head of a group stays at its head. Sorted again it stays, also where it is formatted first.
+pub fn sorted_by_groups()
+    ensures grammar { SortedStaysDocument }
+    ensures accepted { SortedAcceptedAlike }
+    ensures means { SortedMeansTheSame }
+    ensures runs { SortsByRuns }
+    ensures statements { SortedKeepsStatements }
+    ensures comments { SortedKeepsComments }
+    ensures again { SortedAgain }
+    ensures formatted { FormattedStaysSorted }
+    ensures twice { SortedFormattedAgain }
 {}
