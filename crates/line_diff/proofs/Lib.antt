@@ -1,0 +1,3 @@
+pub mod HunkLaws
+pub mod LineLaws
+pub mod ScriptLaws
