@@ -1,10 +1,11 @@
 #!/usr/bin/env python3
-"""Times a set of one value from Python and Rust, beside others, in one run.
+"""Times sets and gets from Python and Rust, beside others, in one run.
 
     bench/bindings.py [--tomlkit FOLDER] [--beside PROGRAM]     FOLDER has the package `tomlkit`; PROGRAM is that of bench/crate_set
 
 The documents are a manifest of 3 KB and a lock file of 1 MB. A set is from a text to a text: it is read, one value is changed, and it is
-printed. What is given is the mean processor time of many. It wants what `bindings/build` makes in bindings/out, and cargo.
+printed. What is given is the mean processor time of many. Then a document of 100 KB is read from Python, and 1,000 of its values are got, and
+1,000 set and printed. It wants what `bindings/build` makes in bindings/out, and cargo.
 """
 import os
 import subprocess
@@ -82,6 +83,37 @@ def time_kind(title, text, count, folder, program, beside, tomlkit):
     row("Python, tomlkit", tomlkit and mean(max(count // 20, 1), lambda: by_tomlkit(tomlkit, text, keys)))
 
 
+def tables(size):
+    """A document with tables of strings, of so many bytes or some more."""
+    made, number = "", 0
+    while len(made) < size:
+        lines = ["key%d = 'value %d of table %d' # %d\n" % (it, it, number, it) for it in range(120)]
+        made += "[table%d]\n%s\n" % (number, "".join(lines))
+        number += 1
+    return made
+
+
+def thousand(parsed, text, value):
+    """Gets 1,000 values, or sets them to a value and returns the text."""
+    count = text.count("[table")
+    for at in range(1000):
+        table = parsed["table%d" % (at % count)]
+        if value is None:
+            assert table["key%d" % (at % 120)]
+        else:
+            table["key%d" % (at % 120)] = value
+    return None if value is None else parsed.as_string()
+
+
+def time_many(name, package, text):
+    """Times reads, gets and sets of a document."""
+    parsed = package.parse(text)
+    row(name + ", read", mean(3, lambda: package.parse(text)))
+    row(name + ", 1,000 gets", mean(1, lambda: thousand(parsed, text, None)))
+    row(name + ", 1,000 sets and the text", mean(1, lambda: thousand(parsed, text, "changed")))
+    assert thousand(package.parse(text), text, "changed").count('"changed"') == len({(at % text.count("[table"), at % 120) for at in range(1000)})
+
+
 def main():
     words = sys.argv[1:]
     given = dict(zip(words[::2], words[1::2]))
@@ -101,6 +133,11 @@ def main():
         print("The library is %s." % toml_edit.built())
         for title, text, count in (("manifest", run.manifest(3000), 200), ("lock file", run.lock(1_000_000), 20)):
             time_kind(title, text, count, folder, program, given.get("--beside"), tomlkit)
+    text = tables(100_000)
+    print("\n| tables, %d bytes | processor time |\n|---|---|" % len(text))
+    for name, package in (("Python, this library", toml_edit), ("Python, tomlkit", tomlkit)):
+        if package:
+            time_many(name, package, text)
     return None
 
 

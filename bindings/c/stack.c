@@ -11,8 +11,9 @@ enum { SAID = 1024, LENT = 48 * 1024 * 1024, PAINT = 0xA5, LIMIT = 80 };
 
 static char text[1 << 16], path[1 << 12], value[1 << 15];
 static uint8_t room[1 << 18];
+static struct toml_edit_node nodes[1 << 14];
 
-static const char *const names[] = {"print", "get", "set", "remove", "check", "json", "edit", "format", "run"};
+static const char *const names[] = {"print", "get", "set", "remove", "check", "json", "edit", "format", "keys", "index", "run"};
 enum { CALLS = sizeof names / sizeof *names };
 static int call;
 
@@ -32,6 +33,8 @@ static void *work(void *unused)
     case 5: toml_edit_json(0, t, strlen(text), p, 0, room, sizeof room); break;
     case 6: toml_edit_edit(0, t, strlen(text), script, size, room, sizeof room); break;
     case 7: toml_edit_format(TOML_EDIT_EXACT, t, strlen(text), room, sizeof room); break;
+    case 8: toml_edit_keys(0, t, strlen(text), p, 0, room, sizeof room); break;
+    case 9: toml_edit_index(0, t, strlen(text), nodes, sizeof nodes / sizeof *nodes, room, sizeof room); break;
     default: toml_edit_run(script, size, t, strlen(text), room, sizeof room, errors, sizeof errors, &sizes);
     }
     return unused;

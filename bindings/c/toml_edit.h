@@ -33,6 +33,11 @@
 #include <stddef.h>
 #include <stdint.h>
 
+/* The version of this header, and as a number: 10000 for each major version, 100 for each minor
+ * one. */
+#define TOML_EDIT_VERSION "0.1.0"
+#define TOML_EDIT_VERSION_NUMBER 100
+
 #ifdef __cplusplus
 extern "C" {
 #endif
@@ -182,6 +187,96 @@ struct toml_edit_answer toml_edit_format(
 struct toml_edit_answer toml_edit_edit(
     uint32_t flags, const uint8_t *text, size_t text_size, const uint8_t *script, size_t script_size,
     uint8_t *room, size_t room_size);
+
+/* The bytes from `start` up to `end`. Both numbers are 0 where there are none. */
+struct toml_edit_span {
+    size_t start;
+    size_t end;
+};
+
+/* What a node of an index is. */
+enum {
+    TOML_EDIT_ROOT = 0,
+    TOML_EDIT_STRING = 1,
+    TOML_EDIT_INTEGER = 2,
+    TOML_EDIT_FLOAT = 3,
+    TOML_EDIT_BOOLEAN = 4,
+    TOML_EDIT_OFFSET_DATETIME = 5,
+    TOML_EDIT_LOCAL_DATETIME = 6,
+    TOML_EDIT_LOCAL_DATE = 7,
+    TOML_EDIT_LOCAL_TIME = 8,
+    TOML_EDIT_ARRAY = 9,
+    TOML_EDIT_INLINE_TABLE = 10,
+    /* An inline table that came about by a dotted key in another one. */
+    TOML_EDIT_DOTTED_INLINE_TABLE = 11,
+    /* A table with a header of its own. */
+    TOML_EDIT_TABLE = 12,
+    /* A table that came about by the header of one below it. */
+    TOML_EDIT_IMPLICIT_TABLE = 13,
+    /* A table that came about by a dotted key. */
+    TOML_EDIT_DOTTED_TABLE = 14,
+    TOML_EDIT_ARRAY_OF_TABLES = 15,
+};
+
+/* An item of a document, by numbers alone. */
+struct toml_edit_node {
+    size_t kind;
+    /* The number of the node that holds it; that of the root is 0. */
+    size_t parent;
+    /* The number of the first node behind it and what is below it. */
+    size_t next;
+    /* The name of its key, in `names`. An element of an array has none. */
+    struct toml_edit_span name;
+    /* The characters of a string, in `names`. */
+    struct toml_edit_span content;
+    /* The key, in the text. */
+    struct toml_edit_span key;
+    /* In the text: a value, the header of a table with its brackets, the key of a table without a
+     * header, or from the first header of an array of tables to the last. */
+    struct toml_edit_span item;
+    /* White space and comments before the key of a value, a header, or an element. */
+    struct toml_edit_span before;
+    /* White space and the comment after a value or a header, and by TOML_EDIT_EXACT the CR of the
+     * newline; of the root, what is after the last statement. */
+    struct toml_edit_span after;
+    /* The line and the column where its key begins, or itself if it has none, from 1. Columns are
+     * in characters. */
+    size_t line;
+    size_t column;
+};
+
+/* Gives the nodes of a document: the root, and then each item, before those below it. The items of
+ * a table are in the order in which their keys are first in the text. `needed` is how many nodes
+ * there are, in any case.
+ *
+ * The names are those of the keys and the characters of the strings, one behind another. If `names`
+ * has as many bytes as the text, they fit. If the nodes or the names do not fit, the status is
+ * TOML_EDIT_SHORT and nothing is written.
+ *
+ * This goes over what is below a node:
+ *
+ *     for (size_t at = node + 1; at < nodes[node].next; at = nodes[at].next) { .. } */
+struct toml_edit_answer toml_edit_index(
+    uint32_t flags, const uint8_t *text, size_t text_size, struct toml_edit_node *nodes,
+    size_t nodes_count, uint8_t *names, size_t names_size);
+
+/* Gives the keys of the table at a path, as they are spelled, one a line. The empty path leads to
+ * the root. The status is TOML_EDIT_WRONG_KIND if no table is there. */
+struct toml_edit_answer toml_edit_keys(
+    uint32_t flags, const uint8_t *text, size_t text_size, const uint8_t *path, size_t path_size,
+    uint8_t *room, size_t room_size);
+
+/* Returns TOML_EDIT_DONE if something is at a path, and TOML_EDIT_NO_SUCH_PATH if not. */
+uint32_t toml_edit_has(
+    uint32_t flags, const uint8_t *text, size_t text_size, const uint8_t *path, size_t path_size);
+
+/* Gives the default spelling of the string of these characters. */
+struct toml_edit_answer toml_edit_string(
+    const uint8_t *text, size_t text_size, uint8_t *room, size_t room_size);
+
+/* Gives the default spelling of the key of this name, bare where it can be. */
+struct toml_edit_answer toml_edit_key(
+    const uint8_t *name, size_t name_size, uint8_t *room, size_t room_size);
 
 /* How many bytes the texts of a run have. */
 struct toml_edit_sizes {

@@ -18,6 +18,8 @@ import threading
 
 from toml_edit import _core
 
+from .index_reading import nodes
+
 PARTS = [b"a = 1\n", b"[a.b]\n", b"[[t]]\n", b"x.y = 'z' # c\r\n", b'"\\u00e9" = """\n"""\n', b"l = [1, [2], # c\n]\n", b"i = { j = 0x1, }\n"]
 PARTS += [b"\xef\xbb\xbf", b"d = 1979-05-27T07:32:00Z", b"\n", b"\r", b"[", b"]", b"=", b"#\x01", b"\xff", b"'''", b"f = -inf\n", b"\0"]
 PATHS = [b"a", b"a.b", b"t.0", b"x.y", b"l.1.0", b"i.j", b"", b"\xff", b"a..b", b"'q'.r", b'"\\u00e9"', b"t.0.n.m"]
@@ -115,21 +117,24 @@ def formatted(random_: random.Random) -> int:
 
 
 def huge(name: str, space: ctypes.Array, random_: random.Random) -> int:
-    """Makes a call with a text of 1 TB that is no UTF-8, and one with a room of that size."""
+    """Makes a call with a word of 1 TB that is no UTF-8, one with a room of that size, and an index of such a text."""
     texts = texts_of(name, random_)
-    largest = random_.randrange(len(texts))
-    space[0] = b"\xff"
-    words = [word for at, it in enumerate(texts) for word in ((space, HUGE) if at == largest else (it, len(it)))]
     room, filling = guarded(64, random_)
-    answer = _core._FUNCTIONS[name](0, *words, room, 64)
-    assert is_told(name, texts, answer.status, answer.needed) and room.raw == filling
+    space[0] = b"\xff"
+    if len(texts) > 1:
+        largest = random_.randrange(1, len(texts))
+        words = [word for at, it in enumerate(texts) for word in ((space, HUGE) if at == largest else (it, len(it)))]
+        answer = _core._FUNCTIONS[name](0, *words, room, 64)
+        assert is_told(name, texts, answer.status, answer.needed) and room.raw == filling
+    answer = _core._LIBRARY.toml_edit_index(0, ctypes.cast(space, ctypes.c_char_p), HUGE, room, 0, ctypes.cast(room, ctypes.c_char_p), 64)
+    assert (answer.status, answer.needed) == (3, 0) and room.raw == filling
     texts = texts_of(name, random_)
     words = [word for it in texts for word in (it, len(it))]
     answer = _core._FUNCTIONS[name](0, *words, space, HUGE)
     small = ctypes.create_string_buffer(answer.needed)
     assert _core.raw(name, 0, texts, small) == (answer.status, answer.needed)
     assert answer.status == 0 and space[: answer.needed] == small.raw or answer.status > 1 and space[0] == b"\xff"
-    return 3
+    return 4
 
 
 def checked(random_: random.Random) -> int:
@@ -139,6 +144,30 @@ def checked(random_: random.Random) -> int:
     assert error is None or error.line is None or error.span[0] <= error.span[1] <= len(given)
     assert status != 2 or error is not None
     return 2
+
+
+def indexed(random_: random.Random) -> int:
+    """Reads an index into rooms of several sizes, and looks at what each says, and at what another program reads."""
+    flags, given = random_.randrange(5), text(random_)
+    wanted = 0
+    for step in range(3):
+        count, size = (1 << 8, len(given)) if step == 0 else (random_.choice([wanted, max(wanted - 1, 0), wanted + 1]), random_.choice([len(given), 0, 3]))
+        (block, filling), (names, filled) = guarded(136 * count, random_), guarded(size, random_)
+        room, named = (ctypes.c_char * (136 * count)).from_buffer(block, GUARD), (ctypes.c_char * size).from_buffer(names, GUARD)
+        answer = _core._LIBRARY.toml_edit_index(flags, given, len(given), room, count, named, size)
+        left, behind = block.raw, names.raw
+        if answer.status == 0:
+            rows = memoryview(left[GUARD : GUARD + 136 * answer.needed]).cast("N").tolist()
+            found = [tuple(rows[at : at + 17]) for at in range(0, len(rows), 17)]
+            assert answer.needed <= count and found == nodes(given, bool(flags & 1)), given
+            left = left[:GUARD] + filling[GUARD : GUARD + 136 * answer.needed] + left[GUARD + 136 * answer.needed :]
+            used = max(max(row[4], row[6]) for row in found)
+            behind = behind[:GUARD] + filled[GUARD : GUARD + used] + behind[GUARD + used :]
+        assert left == filling and behind == filled, "a write past the room"
+        assert answer.status != 1 or answer.needed > count or size < len(given)
+        assert answer.status < 2 or answer.needed == 0
+        wanted = answer.needed
+    return 3
 
 
 def ran(random_: random.Random) -> int:
@@ -181,7 +210,9 @@ def work(count: int, seed: int, made: list[int], faults: list) -> None:
                 made[0] += ran(random_)
             elif other < 10:
                 made[0] += formatted(random_)
-            elif other == 10:
+            elif other < 14:
+                made[0] += indexed(random_)
+            elif other == 14:
                 made[0] += huge(random_.choice(names), space, random_)
     except BaseException as fault:  # noqa: BLE001
         faults.append((seed, fault))

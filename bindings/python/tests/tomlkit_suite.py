@@ -2,13 +2,13 @@
 
     python3 -m tests.tomlkit_suite FOLDER [--list]     FOLDER is tomlkit's source, which has `tests`
 
-The tests are those of `test_toml_document.py`, `test_api.py` and `test_toml_file.py`. A module stands for `tomlkit`: what it shares with this
-package is this package's, and all else raises `Absent`. A test that fails is in `tomlkit_differences.txt`, with the reason. Ends with status 1
-if another fails, or one of those holds.
+The tests are those of `test_toml_document.py`, `test_api.py` and `test_toml_file.py`, and this package stands for `tomlkit`. A test that fails
+is in `tomlkit_differences.txt`, with the reason. Ends with status 1 if another fails, or one of those holds.
 """
 
 from __future__ import annotations
 
+import datetime
 import importlib
 import inspect
 import io
@@ -22,82 +22,21 @@ import types
 from typing import Any
 
 import toml_edit
+from toml_edit import _spelling
 
 FILES = ("test_toml_document", "test_api", "test_toml_file")
 DIFFERENCES = os.path.join(os.path.dirname(os.path.abspath(__file__)), "tomlkit_differences.txt")
 
 
-class Absent(Exception):
-    """Something of tomlkit that this package lacks."""
-
-
-def absent(name: str) -> Any:
-    class Made:
-        def __init__(self, *_words: Any, **_more: Any) -> None:
-            raise Absent(name)
-
-    Made.__name__ = name.rsplit(".", 1)[-1]
-    return Made
-
-
-class Stand(types.ModuleType):
-    """A module that lacks most of what is asked of it."""
-
-    def __getattr__(self, name: str) -> Any:
-        if name.startswith("__"):
-            raise AttributeError(name)
-        made = absent("%s.%s" % (self.__name__, name))
-        setattr(self, name, made)
-        return made
-
-
-class TOMLFile:
-    def __init__(self, path: Any) -> None:
-        self._path = path
-
-    def read(self) -> toml_edit.Document:
-        with open(self._path, encoding="utf-8", newline="") as file:
-            return toml_edit.loads(file.read())
-
-    def write(self, document: Any) -> None:
-        with open(self._path, "w", encoding="utf-8", newline="") as file:
-            file.write(toml_edit.dumps(document))
-
-
-def load(file: Any) -> toml_edit.Document:
-    return toml_edit.loads(file.read())
-
-
-def dump(given: Any, file: Any) -> None:
-    file.write(toml_edit.dumps(given))
-
-
 def stand_in() -> None:
-    """Puts modules in the place of tomlkit's."""
-    named = {name: Stand("tomlkit" + name) for name in ("", ".api", ".exceptions", ".items", ".toml_document", ".toml_file", "._utils")}
-    named.update({name: Stand("tomlkit" + name) for name in (".container", ".parser", ".source", "._types")})
-    for name, made in named.items():
-        sys.modules["tomlkit" + name] = made
-        if name:
-            setattr(named[""], name[1:], made)
-    for made in (named[""], named[".api"]):
-        made.parse = made.loads = toml_edit.loads
-        made.dumps, made.load, made.dump = toml_edit.dumps, load, dump
-        made.document, made.TOMLDocument = toml_edit.Document, toml_edit.Document
-    named[".toml_document"].TOMLDocument = toml_edit.Document
-    named[".toml_file"].TOMLFile = TOMLFile
-    import datetime
-
-    named["._utils"]._utc = datetime.timezone.utc
-    errors = named[".exceptions"]
-    errors.NonExistentKey = KeyError
-    errors.ParseError = errors.TOMLKitError = ValueError
-    for name in "EmptyKeyError EmptyTableNameError InternalParserError InvalidCharInStringError InvalidControlChar".split():
-        setattr(errors, name, toml_edit.TomlError)
-    for name in "InvalidDateError InvalidDateTimeError InvalidNumberError InvalidTimeError MixedArrayTypesError".split():
-        setattr(errors, name, toml_edit.TomlError)
-    for name in "UnexpectedCharError UnexpectedEofError InvalidUnicodeValueError KeyAlreadyPresent".split():
-        setattr(errors, name, toml_edit.TomlError)
+    """Puts this package in the place of tomlkit."""
+    sys.modules["tomlkit"] = toml_edit
+    for name in ("api", "container", "exceptions", "items", "toml_document", "toml_file"):
+        sys.modules["tomlkit." + name] = importlib.import_module("toml_edit." + name)
+    utils = types.ModuleType("tomlkit._utils")
+    utils._utc = datetime.timezone.utc  # type: ignore[attr-defined]
+    utils.parse_rfc3339 = _spelling.other  # type: ignore[attr-defined]
+    sys.modules["tomlkit._utils"] = utils
 
 
 class Raises:
@@ -171,8 +110,6 @@ def try_test(function: Any, words: dict, folder: str) -> str:
         try:
             function(**{name: given[name] for name in inspect.signature(function).parameters})
             return ""
-        except Absent as lacks:
-            return "lacks %s" % lacks
         except BaseException as fault:  # noqa: BLE001
             where = traceback.extract_tb(fault.__traceback__)
             line = next((it.lineno for it in reversed(where) if "/tests/" in it.filename), 0)

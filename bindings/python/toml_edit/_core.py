@@ -15,7 +15,11 @@ _MEMORY = 9
 _RUN_MEMORY, _RUN_SHORT = 3, 5
 
 
-class TomlError(ValueError):
+class TOMLKitError(Exception):
+    """What this package refuses, under the name that tomlkit has for it."""
+
+
+class TomlError(ValueError, TOMLKitError):
     """A text that is not TOML.
 
     `message` says what is wrong. `line` and `column` are where, from 1, `span` is the bytes that it is about, and
@@ -30,6 +34,11 @@ class TomlError(ValueError):
         self.column = column or None
         self.excerpt = _excerpt(text, line, column) if line else None
         super().__init__("line %d, column %d: %s" % (line, column, message) if line else message)
+
+    @property
+    def col(self) -> int | None:
+        """The column, by tomlkit's name."""
+        return self.column
 
 
 class Unfit(ValueError):
@@ -73,7 +82,7 @@ class _Place(ctypes.Structure):
 
 _TEXT = (ctypes.c_char_p, ctypes.c_size_t)
 # How many texts each call takes before the room.
-_CALLS = {"print": 1, "get": 2, "set": 3, "remove": 2, "json": 2, "edit": 2, "format": 1}
+_CALLS = {"print": 1, "get": 2, "set": 3, "remove": 2, "json": 2, "keys": 2, "edit": 2, "format": 1}
 
 
 def _folder() -> str:
@@ -98,12 +107,35 @@ def _declared() -> dict:
         function.argtypes = [ctypes.c_uint32, *_TEXT * count, *_TEXT]
     _LIBRARY.toml_edit_run.restype = ctypes.c_uint32
     _LIBRARY.toml_edit_run.argtypes = [*_TEXT * 4, ctypes.POINTER(_Sizes)]
+    for name in ("string", "key"):
+        function = getattr(_LIBRARY, "toml_edit_" + name)
+        function.restype, function.argtypes = _Answer, [*_TEXT, *_TEXT]
+    _LIBRARY.toml_edit_has.restype = ctypes.c_uint32
+    _LIBRARY.toml_edit_has.argtypes = [ctypes.c_uint32, *_TEXT, *_TEXT]
+    _LIBRARY.toml_edit_index.restype = _Answer
+    _LIBRARY.toml_edit_index.argtypes = [ctypes.c_uint32, *_TEXT, ctypes.c_void_p, ctypes.c_size_t, *_TEXT]
     _LIBRARY.toml_edit_check.restype = _Answer
     _LIBRARY.toml_edit_check.argtypes = [ctypes.c_uint32, *_TEXT, ctypes.POINTER(_Place), *_TEXT]
     return calls
 
 
 _FUNCTIONS = _declared()
+
+
+def index(flags: int, text: bytes) -> tuple[list[int], bytes]:
+    """The numbers of the nodes of a text, and the names that they are about. Raises `TomlError` if the text is refused."""
+    names = ctypes.create_string_buffer(len(text) + 1)
+    count = len(text) // 16 + 16
+    while True:
+        nodes = (ctypes.c_size_t * (17 * count))()
+        answer = _LIBRARY.toml_edit_index(flags, text, len(text), nodes, count, names, len(names))
+        if answer.status == _DONE:
+            return memoryview(nodes).cast("B").cast("N")[: 17 * answer.needed].tolist(), names.raw
+        if answer.status in (_REFUSED, _NOT_UTF8):
+            raise check(flags, text) or TomlError("not TOML")
+        if answer.status != _SHORT:
+            raise MemoryError() if answer.status == _MEMORY else ValueError("status %d" % answer.status)
+        count = answer.needed
 
 
 def built() -> str:
@@ -146,13 +178,28 @@ def named(edits: Sequence[Sequence[bytes]], number: int) -> str:
 
 def edit(flags: int, text: bytes, edits: Sequence[Sequence[bytes]]) -> bytes:
     """Makes edits, each a word and its operands, one after another or none of them."""
+    check_words(edits)
+    return call("edit", flags, text, b"".join(word + b"\0" for words in edits for word in words), edits=edits)
+
+
+def check_words(edits: Sequence[Sequence[bytes]]) -> None:
+    """Raises `ValueError` if the words are not those of edits."""
     for number, words in enumerate(edits, 1):
         if any(b"\0" in word for word in words):
             # The library would take what is behind a NUL for the next word.
             raise ValueError("%s: a word has a NUL" % named(edits, number))
         if len(words) != (2 if words[:1] in ([b"section"], [b"remove"], [b"sort"]) else 3):
             raise ValueError("%s: too few words, or too many" % named(edits, number))
-    return call("edit", flags, text, b"".join(word + b"\0" for words in edits for word in words), edits=edits)
+
+
+def spelled(name: str, text: str) -> str:
+    """The default spelling of a string or a key: `name` is which of them."""
+    data = text.encode()
+    room = ctypes.create_string_buffer(6 * len(data) + 2)
+    answer = getattr(_LIBRARY, "toml_edit_" + name)(data, len(data), room, len(room))
+    if answer.status != _DONE:
+        raise MemoryError()
+    return room.raw[: answer.needed].decode()
 
 
 def run(words: list[str], text: bytes) -> tuple[int, bytes, bytes]:

@@ -13,8 +13,6 @@ Key = Union[str, int]
 _BARE = re.compile(r"[A-Za-z0-9_-]+\Z")
 _ESCAPES = {'"': '\\"', "\\": "\\\\", "\b": "\\b", "\t": "\\t", "\n": "\\n", "\f": "\\f", "\r": "\\r"}
 _ESCAPED = re.compile(r'["\\\x00-\x1f\x7f]')
-# A string of JSON that may stand for no string of TOML.
-_MAY_BE_OTHER = re.compile(r"\d{4}-\d\d-\d\d|\d\d:\d\d|[+-]?(?:inf|nan)\Z")
 _TIME = r"(\d\d):(\d\d)(?::(\d\d)(?:\.(\d+))?)?"
 _DATE = r"(\d{4})-(\d\d)-(\d\d)"
 _DATETIME = re.compile(r"(?:%s)?(?:[Tt ](?=\d\d:))?(?:%s)?([Zz]|[+-]\d\d:\d\d)?\Z" % (_DATE, _TIME))
@@ -23,6 +21,11 @@ _DATETIME = re.compile(r"(?:%s)?(?:[Tt ](?=\d\d:))?(?:%s)?([Zz]|[+-]\d\d:\d\d)?\
 def string(text: str) -> str:
     """The spelling of a string."""
     return '"%s"' % _ESCAPED.sub(lambda found: _ESCAPES.get(found[0]) or "\\u%04X" % ord(found[0]), text)
+
+
+def is_bare(name: str) -> bool:
+    """Whether a key of this name needs no quotes."""
+    return bool(_BARE.match(name))
 
 
 def key(name: Key) -> str:
@@ -43,17 +46,19 @@ def value(given: Any) -> str:
     if isinstance(given, str):
         return string(given)
     if isinstance(given, int):
+        if not -(2**63) <= given < 2**63:
+            raise ValueError("an integer of TOML has 64 bits: %d" % given)
         return str(int(given))
     if isinstance(given, float):
         return _float(given)
     if isinstance(given, (datetime.datetime, datetime.date, datetime.time)):
-        return given.isoformat()
+        return given.isoformat().replace("+00:00", "Z")
     if isinstance(given, Mapping):
         if not all(isinstance(name, str) for name in given):
             raise TypeError("the keys of a table are strings")
         if not given:
             return "{}"
-        return "{ %s }" % ", ".join("%s = %s" % (key(name), value(item)) for name, item in given.items())
+        return "{%s}" % ", ".join("%s = %s" % (key(name), value(item)) for name, item in given.items())
     if isinstance(given, Sequence) and not isinstance(given, (bytes, bytearray, memoryview)):
         return "[%s]" % ", ".join(map(value, given))
     raise TypeError("TOML has no value for a %s" % type(given).__name__)
@@ -61,22 +66,15 @@ def value(given: Any) -> str:
 
 def _float(given: float) -> str:
     if math.isfinite(given):
-        text = repr(given)
-        return text if "." in text or "e" not in text else text.replace("e", ".0e")
+        return repr(given)
     return "nan" if math.isnan(given) else "inf" if given > 0 else "-inf"
 
 
-def may_be_other(text: str) -> bool:
-    """Whether a string of JSON may stand for a date, a time or a float of TOML."""
-    return bool(_MAY_BE_OTHER.match(text))
-
-
 def other(text: str) -> Any:
-    """The date, the time or the float that a string of JSON stands for. Raises `ValueError` for a leap second, which Python lacks."""
-    if text.lstrip("+-") in ("inf", "nan"):
-        return float(text)
+    """The date or the time that is spelled so; a leap second, which Python lacks, as it is spelled."""
     found = _DATETIME.match(text)
-    if not found:
+    if not found or found[6] == "60":
+        # Python has no leap second.
         return text
     year, month, day, hour, minute, second, fraction, offset = found.groups()
     time = None

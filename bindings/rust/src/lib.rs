@@ -14,10 +14,48 @@
 //! A path has keys with dots between them, as TOML spells them. In an array, or in an array of tables, a key is the decimal number of an
 //! element, from 0. A value is spelled as TOML spells it.
 //!
+//! [`DocumentMut`] is a tree with the names of the crate `toml_edit`, over an [`Index`] of the text; [what differs](differences).
+//!
 //! `toml_edit.h` says how much stack a call takes.
 use std::fmt;
 
+mod changes;
+pub mod differences;
+mod index;
+mod tree;
+mod value;
+
+pub use index::{Index, Kind};
+pub use tree::{array, table, value, Array, ArrayOfTables, DocumentMut, Entry, InlineTable, Item, Key, Place, Table};
+pub use value::{Datetime, Decor, Formatted, Value};
+
+/// Why a text is refused, by the crate's name.
+pub type TomlError = Error;
+
 mod sys {
+    #[repr(C)]
+    #[derive(Clone, Copy, Debug, Default)]
+    pub struct Span {
+        pub start: usize,
+        pub end: usize,
+    }
+
+    #[repr(C)]
+    #[derive(Clone, Copy, Debug, Default)]
+    pub struct Node {
+        pub kind: usize,
+        pub parent: usize,
+        pub next: usize,
+        pub name: Span,
+        pub content: Span,
+        pub key: Span,
+        pub item: Span,
+        pub before: Span,
+        pub after: Span,
+        pub line: usize,
+        pub column: usize,
+    }
+
     #[repr(C)]
     pub struct Answer {
         pub status: u32,
@@ -53,6 +91,9 @@ mod sys {
         ) -> Answer;
         pub fn toml_edit_json(_: u32, _: Text, _: usize, _: Text, _: usize, _: Room, _: usize) -> Answer;
         pub fn toml_edit_edit(_: u32, _: Text, _: usize, _: Text, _: usize, _: Room, _: usize) -> Answer;
+        pub fn toml_edit_index(_: u32, _: Text, _: usize, _: *mut Node, _: usize, _: Room, _: usize) -> Answer;
+        pub fn toml_edit_string(_: Text, _: usize, _: Room, _: usize) -> Answer;
+        pub fn toml_edit_key(_: Text, _: usize, _: Room, _: usize) -> Answer;
         pub fn toml_edit_check(_: u32, _: Text, _: usize, _: &mut Place, _: Room, _: usize) -> Answer;
     }
 }
@@ -336,6 +377,24 @@ fn reason(status: u32) -> Error {
         14 => Error::BadComment,
         _ => Error::Status(status),
     }
+}
+
+/// Returns the default spelling of a string.
+pub fn spelled_string(text: &str) -> String {
+    // SAFETY: as in `Call::made`.
+    spelled(text, |room| unsafe { sys::toml_edit_string(text.as_ptr(), text.len(), room.as_mut_ptr(), room.len()) })
+}
+
+/// Returns the default spelling of a key, bare where it can be.
+pub fn spelled_key(name: &str) -> String {
+    // SAFETY: as in `Call::made`.
+    spelled(name, |room| unsafe { sys::toml_edit_key(name.as_ptr(), name.len(), room.as_mut_ptr(), room.len()) })
+}
+
+fn spelled(text: &str, call: impl FnMut(&mut [u8]) -> sys::Answer) -> String {
+    let (answer, made) = asked(text.len() + 2, call);
+    assert_eq!(answer.status, 0, "out of memory");
+    String::from_utf8(made).expect("the library writes UTF-8")
 }
 
 /// Makes a call with as much room as it needs, and returns its answer and the text that it gives.

@@ -1,5 +1,5 @@
 -- How a command ends.
-use Rattle.std.proofs.Common.{◌≡◌, ◌≤◌, ◌<◌, ◌∙◌, ap, subst, sym, refl, Bool, true, false, ℕ, zero, suc, List, [], Option, None, Some, arith, inl, inr}
+use Rattle.std.proofs.Common.{◌≡◌, ◌≤◌, ◌∙◌, ap, subst, refl, Bool, true, false, ℕ, zero, suc, List, [], Some, arith, inl, inr}
 use Rattle.std.specs.Prelude.{◌⊎◌}
 use Rattle.toml_edit_model.specs.Text.{Text}
 use Rattle.toml_edit_command.specs.Run.{Does, OutputChange, TellsMistake, TellsRefusal}

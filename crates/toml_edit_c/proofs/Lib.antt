@@ -3,3 +3,4 @@ pub mod Outcomes
 pub mod Splitting
 pub mod Ending
 pub mod Items
+pub mod Indexing

@@ -70,7 +70,7 @@ module _ (mode : Mode) (version : Version) (text : Text) (failed : Bool) where
 -- ---- answers
 
 -- no reason has the status 0 or 1
-high : (stop : Stop) → 1 < status_of stop
+pub high : (stop : Stop) → 1 < status_of stop
 high Refused = omega arith
 high NotUtf8 = omega arith
 high Path = omega arith

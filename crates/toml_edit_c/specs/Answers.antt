@@ -3,10 +3,9 @@ use Rattle.std.specs.Prelude.{◌≡◌, ◌⊎◌, ℕ, ◌≤◌, ◌<◌, Lis
 use Rattle.toml_edit_model.specs.Text.{Text}
 use Rattle.toml_edit_c.specs.declared.answer.Answer.{Answer}
 
--- the text is at the front of the room, which is else as it was
-abbrev pub IsAtFront : Text → List ℕ → List ℕ → Type 0
-IsAtFront text old new =
-    (length text ≤ length old) × (new ≡ text ++ drop (length text) old)
+-- the list is at the front of the room, which is else as it was
+abbrev pub IsAtFront : {A : Type 0} → List A → List A → List A → Type 0
+IsAtFront xs old new = (length xs ≤ length old) × (new ≡ xs ++ drop (length xs) old)
 
 -- the text does not fit in the room, which is as it was
 abbrev pub IsTooLong : Text → List ℕ → List ℕ → Type 0

@@ -1,5 +1,5 @@
 -- The formatted text.
-use Rattle.std.specs.Prelude.{◌≡◌, ◌⊎◌, ℕ, None, Some}
+use Rattle.std.specs.Prelude.{◌≡◌, ℕ, Some}
 use Rattle.toml_edit.specs.Documents.{opens}
 use Rattle.toml_edit_fmt.specs.Newlines.{rules_for}
 use Rattle.toml_edit_fmt.specs.TextView.{IsFormatted}
@@ -12,10 +12,6 @@ use Rattle.toml_edit_model.specs.Tree.{Tree}
 use Rattle.toml_edit_model.specs.Version.{Version}
 use Rattle.toml_edit_command.specs.Written.{IsReadAs}
 use Rattle.toml_edit_c.specs.Asks.{options_by}
-use Rattle.toml_edit_c.specs.Made.{MayStopReading}
-use Rattle.toml_edit_c.specs.Statuses.{status_of}
-use Rattle.toml_edit_c.specs.declared.answer.Stop.{Stop}
-use Rattle.toml_edit_c.specs.declared.answer.Stop.TheVariants.{Flags}
 
 -- the usual rules for the text, with its newlines where the mode keeps them
 abbrev pub rules_in : Mode → Text → Rules
@@ -34,14 +30,3 @@ pub record IsFormattedOf (how : Mode × Version) (text x : Text) : Type 0 where
 abbrev pub IsFormattedBy : ℕ → Text → Text → Type 0
 IsFormattedBy flags text x =
     (how : Mode × Version) × (options_by flags ≡ Some how) × IsFormattedOf how text x
-
--- the flags are none, or the text cannot be read, or memory ran out
-abbrev pub StopsFormatBy : ℕ → Text → Stop → Type 0
-StopsFormatBy flags text stop =
-    ((stop ≡ Flags) × (options_by flags ≡ None))
-    ⊎ ((how : Mode × Version) × (options_by flags ≡ Some how) × MayStopReading how.1 text stop)
-
--- so it is with this status
-abbrev pub StopsFormatWith : ℕ → Text → ℕ → Type 0
-StopsFormatWith flags text status =
-    (stop : Stop) × (status ≡ status_of stop) × StopsFormatBy flags text stop

@@ -4,8 +4,10 @@ pub mod Statuses
 pub mod Answers
 pub mod Made
 pub mod Checks
-pub mod Json
 pub mod Formats
 pub mod Split
 pub mod Scripts
 pub mod Runs
+pub mod Items
+pub mod Indexes
+pub mod Spelled

@@ -12,6 +12,7 @@ use Rattle.toml_edit_command.specs.Written.{Held, IsHeldOf, IsReadAs, Writes}
 use Rattle.toml_edit_command.specs.Mistakes.{InTree}
 use Rattle.toml_edit_command.specs.Run.{IsRefused}
 use Rattle.toml_edit_command.specs.declared.error.CommandError.TheVariants as mistakes
+use Rattle.toml_edit_c.specs.Asks.{options_by}
 use Rattle.toml_edit_c.specs.Statuses.{status_of}
 use Rattle.toml_edit_c.specs.declared.answer.Stop.{Stop}
 use Rattle.toml_edit_c.specs.declared.answer.Stop.TheVariants.{Refused, NotUtf8, Path, Value, NoSuchPath, WrongKind, Unfit, Memory, Flags, Script, NoSuchElement, Taken, Comment}
@@ -61,6 +62,12 @@ MayStopReading version text Script = ⊥
 MayStopReading version text NoSuchElement = ⊥
 MayStopReading version text Taken = ⊥
 MayStopReading version text Comment = ⊥
+
+-- so it is for the version that the flags stand for, or they are none
+abbrev pub StopsReadingBy : ℕ → Text → Stop → Type 0
+StopsReadingBy flags text stop =
+    ((stop ≡ Flags) × (options_by flags ≡ None))
+    ⊎ ((how : Mode × Version) × (options_by flags ≡ Some how) × MayStopReading how.1 text stop)
 
 -- the action cannot be done with what was read, or memory ran out
 abbrev pub StopsMaking : Action → Held → Stop → Type 0

@@ -1,5 +1,5 @@
 -- The numbers of the reasons why there is no text.
-use Rattle.std.specs.Prelude.{ℕ}
+use Rattle.std.specs.Prelude.{◌≡◌, ℕ}
 use Rattle.toml_edit_command.specs.declared.error.CommandError.TheVariants as mistakes
 use Rattle.toml_edit_command.specs.declared.error.RunError.{RunError}
 use Rattle.toml_edit_command.specs.declared.error.RunError.TheVariants as errors
@@ -21,6 +21,10 @@ status_of Script = 11
 status_of NoSuchElement = 12
 status_of Taken = 13
 status_of Comment = 14
+
+-- the status is that of a reason of this property
+abbrev pub IsStatusOf : (Stop → Type 0) → ℕ → Type 0
+IsStatusOf Stops status = (stop : Stop) × (status ≡ status_of stop) × Stops stop
 
 -- what ends a command stops a call so
 abbrev pub stop_for : RunError → Stop

@@ -20,7 +20,7 @@ pub struct Answer {
 pub const DONE: u32 = 0;
 
 /// The text does not fit in the room.
-const SHORT: u32 = 1;
+pub const SHORT: u32 = 1;
 
 /// Writes the text that was made to the front of the room, if it fits, and says how it went.
 pub fn give(made: Result<Vec<u8>, Stop>, room: &mut [u8]) -> Answer

@@ -2,9 +2,9 @@
 ghost use Rattle.std.specs.Prelude.{◌≡◌, IfErr, IfOk, string_bytes};
 ghost use Rattle.toml_edit.specs.DocumentView.{tree_owned};
 ghost use Rattle.toml_edit_c.specs.Asks.{ask, asked_by, words_of};
-ghost use Rattle.toml_edit_c.specs.Formats.{IsFormattedBy, StopsFormatBy};
-ghost use Rattle.toml_edit_c.specs.Json.{IsItemAt, IsJsonBy, StopsItem, StopsJsonBy};
-ghost use Rattle.toml_edit_c.specs.Made.{IsMadeBy, StopsCall, StopsInWords, StopsPrinting};
+ghost use Rattle.toml_edit_c.specs.Formats.{IsFormattedBy};
+ghost use Rattle.toml_edit_c.specs.Items.{IsItemAt, IsJsonBy, StopsItem, StopsItemBy};
+ghost use Rattle.toml_edit_c.specs.Made.{IsMadeBy, StopsCall, StopsInWords, StopsPrinting, StopsReadingBy};
 ghost use Rattle.toml_edit_c.specs.Scripts.{IsEdited, IsEditedBy, StopsEditBy, StopsEditing, StopsScript, stop_of_edit, stop_of_word};
 ghost use Rattle.toml_edit_c.specs.Split.{words_in};
 ghost use Rattle.toml_edit_c.specs.declared.answer.Stop.TheVariants.{Memory};
@@ -13,7 +13,6 @@ ghost use Rattle.toml_edit_command.specs.Words.{Says};
 ghost use Rattle.toml_edit_command.specs.Written.{held, IsPrintFor};
 ghost use Rattle.toml_edit_edits.specs.Said.{SaysEdits};
 ghost use Rattle.toml_edit_json.specs.Values.{json_text};
-ghost use Rattle.toml_edit_model.specs.Tree.{Node};
 ghost use Rattle.toml_edit_parser.specs.Options.{version_of};
 ghost use Rattle.toml_edit_tree.specs.View.{item_view};
 
@@ -70,29 +69,26 @@ fn command_of(alloc: Global, options: ParseOptions, call: Call<'_>) -> Result<Co
     }
 }
 
-/// Returns the JSON text of the item at the path; the empty path leads to the root.
+/// Returns the JSON text of the item at the path.
 pub fn json(alloc: Global, flags: u32, text: &[u8], path: &[u8]) -> Result<Vec<u8>, Stop>
     ensures made { IfOk result (λ s. IsJsonBy flags text.now path.now s.items) }
-    ensures stops { IfErr result (StopsJsonBy flags text.now path.now) }
+    ensures stops { IfErr result (StopsItemBy flags text.now path.now) }
 {
     let document = read(alloc, text, options_of(flags)?)?;
-    json_at(alloc, &document, path)
+    json_of(alloc, item_at(alloc, &document, path)?)
 }
 
-/// Returns the JSON text of the item at the path in the document.
-fn json_at(alloc: Global, document: &DocumentMut, path: &[u8]) -> Result<Vec<u8>, Stop>
-    ensures made { IfOk result (λ s. (n : Node) × IsItemAt path.now (held document.now).tree n
-        × (s.items ≡ json_text n)) }
+/// Returns the item at the path in the document; the empty path leads to the root.
+pub fn item_at<'d>(alloc: Global, document: &'d DocumentMut, path: &[u8]) -> Result<&'d Item, Stop>
+    ensures found { IfOk result
+        (λ item. IsItemAt path.now (held document.now).tree (item_view item.now)) }
     ensures stops { IfErr result (StopsItem path.now (held document.now).tree) }
 {
     if path.is_empty() {
-        return json_of(alloc, document.as_item());
+        return Ok(document.as_item());
     }
     let keys = path_of(alloc, path)?;
-    match document.get_at(keys.as_slice()) {
-        Some(item) => json_of(alloc, item),
-        None => Err(Stop::NoSuchPath),
-    }
+    document.get_at(keys.as_slice()).ok_or(Stop::NoSuchPath)
 }
 
 /// Returns the JSON text of the item.
@@ -107,7 +103,7 @@ fn json_of(alloc: Global, item: &Item) -> Result<Vec<u8>, Stop>
 /// Returns the text, formatted by the default rules.
 pub fn format(alloc: Global, flags: u32, text: &[u8]) -> Result<Vec<u8>, Stop>
     ensures made { IfOk result (λ s. IsFormattedBy flags text.now s.items) }
-    ensures stops { IfErr result (StopsFormatBy flags text.now) }
+    ensures stops { IfErr result (StopsReadingBy flags text.now) }
 {
     let document = read(alloc, text, options_of(flags)?)?;
     let rules = Rules::for_text(text, document.is_exact());

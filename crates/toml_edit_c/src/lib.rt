@@ -13,16 +13,20 @@
 ghost use Rattle.std.specs.Prelude.{◌≡◌, ◌≤◌, ◌<◌};
 ghost use Rattle.toml_edit_c.specs.Answers.{Answers, Gives};
 ghost use Rattle.toml_edit_c.specs.Asks.{ask, get_words, print_words, remove_words, set_words};
-ghost use Rattle.toml_edit_c.specs.Formats.{IsFormattedBy, StopsFormatWith};
-ghost use Rattle.toml_edit_c.specs.Json.{IsJsonBy, StopsJsonWith};
-ghost use Rattle.toml_edit_c.specs.Made.{IsMadeBy, StopsWith};
+ghost use Rattle.toml_edit_c.specs.Formats.{IsFormattedBy};
+ghost use Rattle.toml_edit_c.specs.Items.{IsJsonBy, StopsItemBy};
+ghost use Rattle.toml_edit_c.specs.Made.{IsMadeBy, StopsReadingBy, StopsWith};
 ghost use Rattle.toml_edit_c.specs.Scripts.{IsEditedBy, StopsEditWith};
+ghost use Rattle.toml_edit_c.specs.Statuses.{IsStatusOf};
 
 mod answer;
 mod calls;
 pub mod check;
 mod given;
+pub mod index;
+pub mod list;
 pub mod run;
+pub mod spelled;
 
 pub use answer::Answer;
 use answer::{give, give_edited};
@@ -103,7 +107,7 @@ pub extern "C" fn toml_edit_json(
     room: &mut [u8],
 ) -> Answer
     ensures { Answers (IsJsonBy flags text.now path.now)
-        (StopsJsonWith flags text.now path.now) result room.old room.new }
+        (IsStatusOf (StopsItemBy flags text.now path.now)) result room.old room.new }
 {
     give(calls::json(alloc, flags, text, path), room)
 }
@@ -120,7 +124,7 @@ pub extern "C" fn toml_edit_format(
     room: &mut [u8],
 ) -> Answer
     ensures { Answers (IsFormattedBy flags text.now)
-        (StopsFormatWith flags text.now) result room.old room.new }
+        (IsStatusOf (StopsReadingBy flags text.now)) result room.old room.new }
 {
     give(calls::format(alloc, flags, text), room)
 }

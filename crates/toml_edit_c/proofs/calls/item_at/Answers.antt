@@ -2,7 +2,7 @@
 use Rattle.std.proofs.lemmas.Result.{err_from_is_err_and}
 use Rattle.toml_edit.specs.DocumentView.{tree_owned}
 use Rattle.toml_edit_c.proofs.Items.{no-path}
-use Rattle.toml_edit_c.proofs.calls.json_at.Goals as goal
+use Rattle.toml_edit_c.proofs.calls.item_at.Goals as goal
 
 pub returns-in_err-keys-clause-stops : goal.returns-in_err-keys-clause-stops
 returns-in_err-keys-clause-stops c =

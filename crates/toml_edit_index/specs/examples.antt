@@ -1,0 +1,2 @@
+-- Worked entries and nodes of an index.
+pub mod Indexed
