@@ -28,7 +28,7 @@ OUTER = ("std", "core", "fmt", "arrayvec", "bumpalo", "memchr", "itoa", "jiff")
 # The calls of upstream's trait are in two traits here.
 ALSO = {"AnyTable": "TableLike"}
 # Crates beside the library that programs call.
-BESIDE = ("toml_edit_fmt", "toml_edit_edits", "toml_edit_json", "toml_edit_items", "file_replace")
+BESIDE = ("toml_edit_fmt", "toml_edit_edits", "toml_edit_json", "toml_edit_items", "toml_edit_index", "file_replace")
 # What stands for a call of upstream.
 INSTEAD = {
     "as_float": "[`as_float_text`](%s.md#as_float_text)",

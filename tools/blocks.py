@@ -111,17 +111,17 @@ def entries():
 
 
 def rules_shown():
-    """Entries for the lines of GUIDE's table of the formatter's rules that show a text before and after."""
+    """Entries for the lines of TOMLFILE's table of the formatter's rules that show a text before and after."""
     found, heading = [], ""
     kinds = {"comments": "Comments::", "indentation": "Indentation::", "arrays": "Arrays::"}
-    for number, line in enumerate(read(TOP + "/docs/GUIDE.md").split("\n"), 1):
+    for number, line in enumerate(read(TOP + "/docs/TOMLFILE.md").split("\n"), 1):
         heading = line if line.startswith("## ") else heading
-        row = heading == "## Format" and re.match(r"\| `(\w+): ([^`]+)` \| `([^`]+)` \| `([^`]+)`", line)
+        row = heading == "## Rules" and re.match(r"\| `--[^|]*\| `(\w+): ([^`]+)` \| `([^`]+)` \| `([^`]+)`", line)
         if row:
             name, value = row[1], kinds.get(row[1], "") + row[2]
             before, after = ("x = " + text if text[0] in "[{" and name != "dots" else text for text in row.groups()[2:])
             code = ["let mut rules = Rules::default();", "rules.%s = %s;" % (name, value), "let document = format(alloc, document, &rules)?;"]
-            found.append({"line": number, "shown": ["GUIDE's rule " + name], "code": code, "before": [before], "after": [after], "file": "docs/GUIDE.md"})
+            found.append({"line": number, "shown": ["TOMLFILE's rule " + name], "code": code, "before": [before], "after": [after], "file": "docs/TOMLFILE.md"})
     return found
 
 

@@ -16,7 +16,7 @@
 - Each must-fail edit still fits: its file is there, has the old text once, and is changed in one function. So does each bug of tools/bugs.
 - Tables have an index of the kit's `indexmap`, in their source and in crates.txt, and DECISIONS and MIGRATING name it.
 - Help, TOMLFILE, the header of C, the manual page and the completions have the words of edits in the order of the code, with what each takes, and
-  the usage and the options of each command.
+  the usage and the options of each command, and the rules of the formatter.
 - The header of C, and what Rust declares of it, have the exports of the library, with as many parameters.
 - A page that says how much stack a call takes says what tools/stack.py and bindings/c/stack.c hold, and one that says how much is written at once
   what a sink holds. The definitions of docs/api/base-*.md are
@@ -58,6 +58,15 @@ EDIT_WORDS = {
     "tools/share/tomlfile.bash": r"-W '(set [a-z ]+)'",
     "tools/share/_tomlfile": r"\((set [a-z ]+)\)",
     "tools/share/tomlfile.fish": r"\"(set [a-z ]+)\"",
+}
+# Where the rules of the formatter stand, in their order.
+RULE_WORDS = {
+    "crates/toml_edit_files/src/help.rt": r"^  --([a-z-]+) [a-z0-9]+  ",
+    "docs/TOMLFILE.md": r"^\| `--([a-z-]+) [a-z0-9]+`",
+    "tools/share/tomlfile.1": r"fB--([a-z-]+)\\fR \\fB[a-z0-9]+\\fR[,.]",
+    "tools/share/tomlfile.bash": r"--([a-z-]+)",
+    "tools/share/_tomlfile": r"--([a-z-]+)",
+    "tools/share/tomlfile.fish": r"-l ([a-z-]+)",
 }
 ROWS = ("test_rows", "test_rows_tables", "test_rows_values")
 # Of what some page says how many there are.
@@ -361,6 +370,14 @@ class Check:
                     if option not in text and option.lstrip("-") not in text:
                         self.fault("tools/share/" + name, 1, "does not know `%s` of `%s`" % (option, command))
 
+    def rules(self):
+        """The help, the page, the manual page and the completions have the rules of the formatter."""
+        rules = re.findall(r'^ +"([a-z-]+)" => Some\(Rule::', read(TOP + "/crates/toml_edit_settings/src/rule.rt"), re.M)
+        for file, pattern in RULE_WORDS.items():
+            found = re.findall(pattern, read(TOP + "/" + file).replace("\\-", "-"), re.M)
+            if [rule for rule in found if rule in rules][:len(rules)] != rules:
+                self.fault(file, 1, "has other rules than the code: %s" % ", ".join(found))
+
     def exports(self):
         """What C and Rust declare is what the library exports."""
         source = "".join(read(TOP + "/" + file) for file in self.matching("crates/toml_edit_c/src/*.rt"))
@@ -576,7 +593,7 @@ def main():
             print("%s<!-- %s -->" % (format(number, ","), word))
         return 0
     parts = [check.reference, check.shown, check.examples, check.links, check.mentions, check.counts, check.index, check.edits, check.edit_words]
-    parts += [check.usages, check.exports, check.stack, check.held, check.base, check.called, check.twice, check.sizes, check.sentences, check.words]
+    parts += [check.usages, check.rules, check.exports, check.stack, check.held, check.base, check.called, check.twice, check.sizes, check.sentences, check.words]
     for part in parts if "--texts" in sys.argv else [*parts, check.runs]:
         part()
     for fault in check.faults:

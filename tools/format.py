@@ -1,5 +1,5 @@
 #!/usr/bin/env python3
-"""Tries the formatter on texts: twice each, and on what each rule is about.
+"""Tries the formatter on texts: twice each, on what each rule is about, and by `tomlfile fmt` with words for rules.
 
     tools/format.py [--in FOLDER | --unproved] [FILE..]
 
@@ -9,15 +9,17 @@ FILE is a text. Left out, these are the files of this machine whose names end in
 Of each text that is accepted, the second run changes nothing, and the comments of the formatted text are those of the text, in order, as a
 scanner of strings and comments finds them. Where Python's `tomllib` reads the text, which knows TOML 1.0 alone, it reads the same data from
 the formatted one. So with the default rules, with line endings kept, and with each rule off or at its other values; and by `text` of a text
-as it stands, not of the document that is read from it.
+as it stands, not of the document that is read from it; and by `tomlfile fmt` in settings of its own, and on texts that are made, each with
+others at random.
 
 Ends with the number of texts, and with 1 if one is otherwise.
 """
-import os, subprocess, sys, tempfile, tomllib
+import os, random, subprocess, sys, tempfile, tomllib
 
+import differential
 import unproved
 
-PROGRAM = "test_tools"
+PROGRAMS = ["test_tools", "tomlfile"]
 # Words of the program that are tried with each text.
 WORDS = [[], ["exact"], ["exact", "returns"], ["by-depth", "four"], ["narrow"], ["no-equals"], ["no-dots"], ["no-comments"], ["no-empty-lines"],
          ["no-indentation"], ["no-arrays"], ["no-inline-tables"], ["no-empty-lines", "no-indentation", "exact"], ["no-width"],
@@ -25,6 +27,26 @@ WORDS = [[], ["exact"], ["exact", "returns"], ["by-depth", "four"], ["narrow"], 
          ["text", "two-empty-lines", "no-commas"], ["text", "none-empty", "brackets", "no-braces"], ["text", "collapsed", "commas-stay"],
          ["text", "no-rows", "four"], ["text", "collapsed", "narrow", "no-commas", "aligned", "bare-keys", "all"]]
 OFF = ["no-equals", "no-dots", "no-comments", "no-empty-lines", "no-indentation", "no-arrays", "no-width", "no-inline-tables"]
+# Words for rules of `tomlfile fmt` that are tried with each text.
+SETTINGS = [words.split() for words in (
+    "", "--width 100 --indent 4 --blank-lines 2 --arrays collapsed", "--width 0", "--width 20 --rows off", "--width off --arrays collapsed",
+    "--indentation depth --indent 3 --comments aligned", "--indentation depth --indent 0 --width 40", "--indentation off --comments off",
+    "--comments 0 --bracket-space on --brace-space off", "--comments 2 --commas never --rows off", "--comments aligned --commas off --blank-lines 0",
+    "--blank-lines off --equals off --dots off", "--blank-lines 255 --indent 255 --width 255", "--arrays off --inline-tables off",
+    "--inline-tables off --comments aligned --width 30", "--arrays off --comments aligned --bare-keys on",
+    "--bare-keys on --left-alone off --dots off",
+    "--commas never --arrays collapsed --width 60 --indentation depth", "--bracket-space on --width 10 --comments aligned --indentation depth",
+    "--equals off --dots off --comments off --blank-lines off --indentation off --arrays off --inline-tables off --width off --left-alone off")]
+# The rules, each with values that are taken at random.
+SWITCH = ["on", "off"]
+RULES = {
+    "equals": SWITCH, "dots": SWITCH, "comments": ["off", "aligned", "0", "1", "2", "7"], "blank-lines": ["off", "0", "1", "2", "3"],
+    "indentation": ["off", "flush", "depth"], "indent": ["0", "1", "2", "4", "8"], "arrays": ["off", "kept", "collapsed"], "rows": SWITCH,
+    "commas": ["off", "always", "never"], "bracket-space": SWITCH, "brace-space": SWITCH, "width": ["off", "0", "7", "16", "40", "80"],
+    "inline-tables": SWITCH, "bare-keys": SWITCH, "left-alone": SWITCH,
+}
+# How many settings are taken at random, and how many texts are made for each.
+MADE = 200, 40
 # What each rule is about: the words, a text, and the formatted text.
 CASES = [
     ([], 'a=1\nb  =  "x"\n', 'a = 1\nb = "x"\n'),
@@ -139,9 +161,9 @@ def end_of_string(text, at, mark):
     return at
 
 
-def run(program, words, text):
-    """What the program writes, or None where it refuses the text."""
-    ran = subprocess.run([program, "format", *words], input=text, capture_output=True, timeout=60)
+def run(command, words, text):
+    """What a command writes, or None where it refuses the text."""
+    ran = subprocess.run([*command, *words], input=text, capture_output=True, timeout=60)
     if ran.returncode:
         return None
     return ran.stdout
@@ -155,12 +177,11 @@ def data_of(text):
         return None
 
 
-def fault(program, words, text):
-    """What is wrong with a text formatted, None if nothing, or "refused"."""
-    once = run(program, words, text)
+def fault(text, once, twice):
+    """What is wrong with a text formatted once and twice, None if nothing, or "refused"."""
     if once is None:
         return "refused"
-    if run(program, words, once) != once:
+    if twice != once:
         return "the second run changes it"
     if comments_of(text.decode()) != comments_of(once.decode()):
         return "the comments differ"
@@ -187,35 +208,100 @@ def texts():
     return sorted(ran.stdout.splitlines())
 
 
+def cases(command):
+    """The number of cases that are otherwise."""
+    bad = 0
+    for asked, before, after in CASES:
+        came = run(command, asked, before.encode())
+        came = came and came.decode()
+        again = came and run(command, asked, came.encode()).decode()
+        if came != after or again != after:
+            bad += 1
+            print("case %s\n%r\nwanted %r\ncame   %r\nagain  %r" % (" ".join(asked), before, after, came, again))
+    return bad
+
+
+def twice(command, words, texts):
+    """Each text formatted once and twice, by a run for each."""
+    for text in texts:
+        once = run(command, words, text)
+        yield once, once is not None and run(command, words, once)
+
+
+def in_files(program, words, texts):
+    """The texts as `tomlfile fmt` leaves them in files, or None for each that it refuses."""
+    with tempfile.TemporaryDirectory() as folder:
+        names = ["%d.toml" % number for number in range(len(texts))]
+        for name, text in zip(names, texts):
+            with open(folder + "/" + name, "wb") as file:
+                file.write(text)
+        ran = subprocess.run([program, "fmt", *words, *names], cwd=folder, capture_output=True, text=True, timeout=600)
+        if ran.returncode > 1:
+            sys.exit("tomlfile fmt %s: status %d\n%s" % (" ".join(words), ran.returncode, ran.stderr))
+        refused = {line.split(":")[0] for line in ran.stdout.splitlines()}
+        return [None if name in refused else read(folder + "/" + name) for name in names]
+
+
+def twice_in_files(program, words, texts):
+    """Each text formatted once and twice, by two runs for all."""
+    once = in_files(program, words, texts)
+    again = iter(in_files(program, words, [text for text in once if text is not None]))
+    return [(text, text is not None and next(again)) for text in once]
+
+
+def ways(how, program, lists, paths, refused):
+    """The number of texts that are otherwise, each by each list of words. Those that are refused are noted."""
+    bad = 0
+    for asked in lists:
+        taken = [path for path in paths if path not in refused]
+        texts = list(map(read, taken))
+        for path, text, results in zip(taken, texts, how(program, asked, texts)):
+            it = fault(text, *results)
+            if it == "refused" and data_of(text) is None:
+                refused.add(path)
+            elif it:
+                bad += 1
+                print("%s: %s: %s" % (path, " ".join(asked) or "default", it))
+        print("%s: %d texts, %d refused, %d faults" % (" ".join(asked) or "default", len(paths), len(refused), bad), flush=True)
+    return bad
+
+
+def settings(chance):
+    """Words for rules, some of them twice."""
+    names = chance.choices(list(RULES), k=chance.randint(0, 2 * len(RULES)))
+    return [word for name in names for word in ("--" + name, chance.choice(RULES[name]))]
+
+
+def made(program):
+    """The number of made texts that are otherwise, and of those that are accepted."""
+    bad, accepted = 0, 0
+    for number in range(MADE[0]):
+        asked = settings(random.Random("settings %d" % number))
+        texts = [differential.Maker("format %d %d" % (number, each)).document().encode() for each in range(MADE[1])]
+        for text, results in zip(texts, twice_in_files(program, asked, texts)):
+            it = fault(text, *results)
+            # Some have an integer that is too large, or are no TOML.
+            accepted += it != "refused"
+            if it and it != "refused":
+                bad += 1
+                print("%r: %s: %s" % (text, " ".join(asked), it))
+    return bad, accepted
+
+
 def main():
     words = sys.argv[1:]
     if words[:1] == ["--help"]:
         return print(__doc__.strip())
     with tempfile.TemporaryDirectory() as folder:
-        (program,), words = unproved.programs([PROGRAM], words, folder)
-        bad = 0
-        for asked, before, after in CASES:
-            came = run(program, asked, before.encode())
-            came = came and came.decode()
-            again = came and run(program, asked, came.encode()).decode()
-            if came != after or again != after:
-                bad += 1
-                print("case %s\n%r\nwanted %r\ncame   %r\nagain  %r" % (" ".join(asked), before, after, came, again))
+        (tools, program), words = unproved.programs(PROGRAMS, words, folder)
+        tools = [tools, "format"]
         paths = [path for path in words or texts() if read(path) is not None]
         refused = set()
-        for asked in WORDS:
-            for path in paths:
-                if path in refused:
-                    continue
-                it = fault(program, asked, read(path))
-                if it == "refused" and data_of(read(path)) is None:
-                    refused.add(path)
-                elif it:
-                    bad += 1
-                    print("%s: %s: %s" % (path, " ".join(asked) or "default", it))
-            print("%s: %d texts, %d refused, %d faults" % (" ".join(asked) or "default", len(paths), len(refused), bad), flush=True)
-    print("%d cases, %d texts, %d of them refused, %d ways each; %d faults" % (len(CASES), len(paths), len(refused), len(WORDS), bad))
-    return 1 if bad else 0
+        bad = cases(tools) + ways(twice, tools, WORDS, paths, refused) + ways(twice_in_files, program, SETTINGS, paths, refused)
+        bad_made, accepted = made(program)
+    print("%d cases, %d texts, %d of them refused, %d ways each and %d settings; %d made texts in %d settings, %d of them accepted; %d faults" % (
+        len(CASES), len(paths), len(refused), len(WORDS), len(SETTINGS), MADE[0] * MADE[1], MADE[0], accepted, bad + bad_made))
+    return 1 if bad + bad_made else 0
 
 
 if __name__ == "__main__":

@@ -10,9 +10,9 @@ _tomlfile() {
         '') COMPREPLY=($(compgen -W 'strict normal get has edit keys json check fmt --help --version' -- "$word")); return ;;
         get) [[ $word == -* ]] && COMPREPLY=($(compgen -W '--raw --lines --default --help' -- "$word")) ;;
         keys) [[ $word == -* ]] && COMPREPLY=($(compgen -W '--all --help' -- "$word")) ;;
-        fmt) [[ $word == -* ]] && COMPREPLY=($(compgen -W '--check --keys --sort --force --help' -- "$word")) ;;
+        fmt) [[ $word == -* ]] && COMPREPLY=($(compgen -W '--check --diff --keys --sort --force --help --equals --dots --comments --blank-lines --indentation --indent --arrays --rows --commas --bracket-space --brace-space --width --inline-tables --bare-keys --left-alone' -- "$word")) ;;
         edit)
-            [[ $word == -* ]] && COMPREPLY=($(compgen -W '--script --dry-run --output --locked --force --help' -- "$word"))
+            [[ $word == -* ]] && COMPREPLY=($(compgen -W '--script --dry-run --diff --output --locked --force --help' -- "$word"))
             if ((COMP_CWORD == at + 2)) || [[ ${COMP_WORDS[COMP_CWORD - 1]} == , ]]; then
                 COMPREPLY+=($(compgen -W 'set string header table section remove append insert take rename move sort comment' -- "$word"))
                 return

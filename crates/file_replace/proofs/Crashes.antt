@@ -4,7 +4,7 @@ use Rattle.std.specs.Prelude.{bytes_eq, unwrap_or}
 use Rattle.std.proofs.lemmas.Slice.Eq.{bytes_eq-Decides}
 use Rattle.std.proofs.lemmas.Bool.Decides.{eqb_tells}
 use Rattle.file_replace.specs.Crash.{File, first, of_run, any, Happening, asks, ends, sweeps, HoldsMade, HoldsOne, IsAllowed, IsNew, IsSafe, Made, Merges, State, Throughout, after, file_of, led, made_after, made_at, put, start, unmade}
-use Rattle.file_replace.specs.Events.{Text, Call, Event, found, leads_to, locked, cleared, writable, made, likened, wrote, synced, held, renamed, removed, synced_folder, done}
+use Rattle.file_replace.specs.Events.{Text, Call, Event, found, missing, listed, no_folder, leads_to, locked, cleared, writable, made, likened, wrote, synced, held, renamed, removed, synced_folder, done}
 use Rattle.file_replace.specs.Replacing.{Asked, AreOther, IsReplaced, StopsReplacing, Stops, all_done, compared, filling, replacing, taken}
 
 -- ---- numbers and names
@@ -321,6 +321,9 @@ module _ (asked : ℕ → Asked) (name : Text) (same : (q : ℕ) → (asked q).n
   step : (s : State) (r : ℕ) (c : Call) (d : Bool) → Holding asked name s → Keeps (asked r) (s.made r) c d
       → IsAllowed name s (asks r (record { call = c; is_done = d })) → Holding asked name (after name (asks r (record { call = c; is_done = d })) s)
   step s r (found n t) d h k free = quiet s r h
+  step s r (missing n) d h k free = quiet s r h
+  step s r (listed n ns) d h k free = quiet s r h
+  step s r (no_folder n) d h k free = quiet s r h
   step s r (leads_to n t) d h k free = quiet s r h
   step s r (locked n) d h k free = quiet s r h
   step s r (writable n) d h k free = quiet s r h

@@ -1,6 +1,6 @@
 //! Folders, of which files are read and replaced.
-ghost use Rattle.std.specs.Prelude.{◌≡◌, ◌≢◌, [], ◌∷◌, Option, List, IfOk, string_bytes};
-ghost use Rattle.file_replace.specs.Events.{Event, Notes, NotesFound, NotesWhether, cleared, done, found, held, leads_to, likened, locked, made, more, removed, renamed, synced, synced_folder, writable, wrote};
+ghost use Rattle.std.specs.Prelude.{◌≡◌, ◌≢◌, [], ◌∷◌, Option, List, IfOk, IfSome, string_bytes};
+ghost use Rattle.file_replace.specs.Events.{Event, IsInOrder, Notes, NotesFound, NotesWhether, cleared, done, found, held, leads_to, likened, locked, listing, looked_for, made, more, removed, renamed, synced, synced_folder, writable, wrote};
 
 use std::alloc::Global;
 use std::io;
@@ -14,6 +14,17 @@ pub trait Folder {
     fn read(&mut self, alloc: Global, name: &str) -> io::Result<Vec<u8>>
         ensures { NotesFound (history self.old) (history self.new)
             (λ text. found name.now text.items) result };
+
+    /// Returns what the file holds, or `None` if there is none.
+    fn find(&mut self, alloc: Global, name: &str) -> io::Result<Option<Vec<u8>>>
+        ensures { NotesFound (history self.old) (history self.new) (looked_for name.now) result };
+
+    /// Returns the names in the folder, in the order of their bytes, or `None` if there is no folder of
+    /// this name. A symbolic link is no folder, unless the name ends with `/`. A folder with a name that
+    /// is not UTF-8 is refused.
+    fn list(&mut self, alloc: Global, name: &str) -> io::Result<Option<Vec<String>>>
+        ensures names { history self.new ≡ more (listing name.now result ∷ []) (history self.old) }
+        ensures sorted { IfOk result (λ o. IfSome o IsInOrder) };
 
     /// Returns the name of the file that the name leads to, through symbolic links. A name that
     /// nothing has leads to itself. One that leads to no regular file is refused.

@@ -3,7 +3,7 @@ ghost use Rattle.std.specs.Prelude.{None};
 
 use crate::folder::Folder;
 use crate::left::{boot_of, clear, fresh_name};
-use crate::names::{folder_of, leads_to, target_of};
+use crate::names::{folder_of, leads_to, names_in, target_of};
 use std::alloc::Global;
 use std::fs::{self, File, Metadata, OpenOptions, Permissions, TryLockError};
 use std::io;
@@ -38,6 +38,23 @@ impl Folder for Host<'_> {
 
     fn read(&mut self, _alloc: Global, name: &str) -> io::Result<Vec<u8>> {
         fs::read(self.rt, name)
+    }
+
+    fn find(&mut self, _alloc: Global, name: &str) -> io::Result<Option<Vec<u8>>> {
+        match fs::read(self.rt, name) {
+            Ok(text) => Ok(Some(text)),
+            Err(error) if error.kind() == ErrorKind::NotFound => Ok(None),
+            Err(error) => Err(error),
+        }
+    }
+
+    fn list(&mut self, alloc: Global, name: &str) -> io::Result<Option<Vec<String>>> {
+        match fs::symlink_metadata(self.rt, name) {
+            Ok(metadata) if metadata.is_dir() => Ok(Some(names_in(self.rt, alloc, name)?)),
+            Ok(_) => Ok(None),
+            Err(error) if error.kind() == ErrorKind::NotFound => Ok(None),
+            Err(error) => Err(error),
+        }
     }
 
     fn target(&mut self, alloc: Global, name: &str) -> io::Result<String> {

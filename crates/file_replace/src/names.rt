@@ -1,4 +1,7 @@
 //! What names of the system lead to.
+ghost use Rattle.std.specs.Prelude.{IfOk};
+ghost use Rattle.file_replace.specs.Events.{IsInOrder};
+
 use std::alloc::Global;
 use std::fs::{self, File, Metadata};
 use std::io;
@@ -68,6 +71,18 @@ pub fn leads_to(rt: &HostRuntime, name: &str, file: &File) -> io::Result<bool> {
 /// Returns `true` if both are of one file.
 fn is_same(one: &Metadata, other: &Metadata) -> bool {
     one.dev() == other.dev() && one.ino() == other.ino()
+}
+
+/// Returns the names in a folder, in the order of their bytes.
+pub fn names_in(rt: &HostRuntime, alloc: Global, folder: &str) -> io::Result<Vec<String>>
+    ensures { IfOk result IsInOrder }
+{
+    let mut names = Vec::new(alloc);
+    for entry in fs::read_dir(rt, folder)? {
+        names.push(String::from_str(alloc, entry?.file_name())?)?;
+    }
+    names.sort()?;
+    Ok(names)
 }
 
 /// Returns the name of the folder of a file.

@@ -14,6 +14,8 @@ use std::process::Abort;
 #[derive(Drop)]
 enum Told {
     Found(Vec<u8>, Vec<u8>),
+    Missing(Vec<u8>),
+    NoFolder(Vec<u8>),
     LeadsTo(Vec<u8>, Vec<u8>),
     Locked(Vec<u8>),
     Writable(Vec<u8>),
@@ -143,12 +145,14 @@ impl<'r, R: Abort> Memory<'r, R> {
 
 impl<R: Abort> Folder for Memory<'_, R> {
     ghost use Rattle.std.specs.Prelude.{map, Some};
-    ghost use Rattle.file_replace.specs.Events.{Call, found, leads_to, locked, writable, cleared, made, likened, wrote, synced, held, renamed, removed, synced_folder};
-    ghost use Rattle.file_replace.specs.declared.tests.Told.TheVariants.{Found, LeadsTo, Locked, Writable, Cleared, Made, Likened, Wrote, Synced, Held, Renamed, Removed, SyncedFolder};
+    ghost use Rattle.file_replace.specs.Events.{Call, found, missing, no_folder, leads_to, locked, writable, cleared, made, likened, wrote, synced, held, renamed, removed, synced_folder};
+    ghost use Rattle.file_replace.specs.declared.tests.Told.TheVariants.{Found, Missing, NoFolder, LeadsTo, Locked, Writable, Cleared, Made, Likened, Wrote, Synced, Held, Renamed, Removed, SyncedFolder};
 
     ghost history = { λ m. Some (map (λ note. record {
       call = elim note.0 as (λ _. Call) [
         | Found n t ↦ found n.items t.items
+        | Missing n ↦ missing n.items
+        | NoFolder n ↦ no_folder n.items
         | LeadsTo n o ↦ leads_to n.items o.items
         | Locked n ↦ locked n.items
         | Writable n ↦ writable n.items
@@ -175,6 +179,19 @@ impl<R: Abort> Folder for Memory<'_, R> {
             }
             _ => Err(io::Error::from(ErrorKind::NotFound)),
         }
+    }
+
+    fn find(&mut self, alloc: Global, name: &str) -> io::Result<Option<Vec<u8>>> {
+        if self.text_of(name).is_none() {
+            self.note(Told::Missing(self.name(name)), true);
+            return Ok(None);
+        }
+        Ok(Some(self.read(alloc, name)?))
+    }
+
+    fn list(&mut self, _alloc: Global, name: &str) -> io::Result<Option<Vec<String>>> {
+        self.note(Told::NoFolder(self.name(name)), true);
+        Ok(None)
     }
 
     fn target(&mut self, alloc: Global, name: &str) -> io::Result<String> {

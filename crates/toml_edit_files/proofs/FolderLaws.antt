@@ -12,11 +12,11 @@ use Rattle.toml_edit_files.specs.declared.stop.Reason.TheVariants.{No, Mistaken,
 use Rattle.toml_edit_files.specs.declared.stop.Stop.{Stop}
 use Rattle.toml_edit_files.specs.declared.stop.Stop.TheVariants.{Message, Silent, Memory}
 
-more_none : (old : Option (List Event)) → old ≡ more [] old
+pub more_none : (old : Option (List Event)) → old ≡ more [] old
 more_none None = refl
 more_none (Some b) = ap (λ (es : List Event). Some es) (sym (append-nil b))
 
-more_more : (es fs : List Event) (old : Option (List Event)) → more fs (more es old) ≡ more (es ++ fs) old
+pub more_more : (es fs : List Event) (old : Option (List Event)) → more fs (more es old) ≡ more (es ++ fs) old
 more_more es fs None = refl
 more_more es fs (Some b) = ap (λ (gs : List Event). Some gs) (append_assoc b es fs)
 

@@ -1,7 +1,9 @@
 pub mod GetLaws
 pub mod EditLaws
 pub mod FolderLaws
+pub mod WalkLaws
 pub mod OutcomeLaws
+pub mod FoundLaws
 pub mod StopLaws
 pub mod FormatLaws
 pub mod RunLaws
@@ -11,3 +13,4 @@ pub mod UnmadeLaws
 pub mod RequestLaws
 pub mod SplitLaws
 pub mod OperandLaws
+pub mod RuleLaws

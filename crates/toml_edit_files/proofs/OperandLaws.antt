@@ -17,7 +17,7 @@ use Rattle.toml_edit_files.proofs.ApartLaws.{empty-says-none}
 use Rattle.toml_edit_files.proofs.OutcomeLaws.{is_false, is_true}
 use Rattle.toml_edit_files.proofs.RunLaws.{chosen, chosen_not}
 use Rattle.toml_edit_files.proofs.SplitLaws.{map-more, next-at, not-empty, option_of}
-use Rattle.toml_edit_files.specs.Requests.{AreFileAndPath, ArePaths, AreSorts, IsEdit, IsFmt, IsGet, IsHas, IsKind, IsNoneBy, SaysApart, SaysBy, shape_in}
+use Rattle.toml_edit_files.specs.Requests.{AreFileAndPath, ArePaths, AreSorts, IsEdit, IsFmt, IsGet, IsHas, IsKind, IsNoneBy, SaysApart, SaysBy, are_taken, rules_in, shape_in}
 use Rattle.toml_edit_files.specs.Split.{Words, last_of}
 use Rattle.toml_edit_files.specs.declared.help.Topic.TheVariants as topics
 use Rattle.toml_edit_files.specs.declared.words.Command.{Command}
@@ -447,3 +447,6 @@ module _ (version : Version) (s : Words) where
 
   pub fmt-wrong : ((es : List Edit) → AreSorts s.options es → ⊥) → IsNoneBy version topics.Fmt s
   fmt-wrong none = of-fmt (λ c is. none c.style.sorts.items is.sorts)
+
+  pub fmt-refused : are_taken (rules_in s.options) ≡ false → IsNoneBy version topics.Fmt s
+  fmt-refused wrong = of-fmt (λ c is. let e : true ≡ false = sym is.taken ∙ wrong in cc)

@@ -15,7 +15,7 @@ use Rattle.toml_edit_files.specs.Checks.{ChecksFile, IsReadAsRefused}
 use Rattle.toml_edit_files.specs.EditFiles.{EditsFile, HasNoEdits, is_in_place, is_shown, target_of}
 use Rattle.toml_edit_files.specs.Edited.{version_by}
 use Rattle.toml_edit_files.specs.Folders.{IsTextOf, OnlyLooks, Stops, is_stream}
-use Rattle.toml_edit_files.specs.FormatFiles.{FormatsDone, FormatsElsewhere, FormatsFile, FormatsInPlace, IsFormatted, IsNotFormatted, IsUnformatted}
+use Rattle.toml_edit_files.specs.FormatFiles.{FormatsDone, FormatsElsewhere, FormatsFile, FormatsInPlace, IsCompared, IsFormatted, IsNotFormatted, IsUnformatted}
 use Rattle.toml_edit_files.specs.Outcomes.{Tells, TellsOf, TellsOfFile, TellsRefused, TellsStop}
 use Rattle.toml_edit_files.specs.Runs.{Adds, AnswersQuestion, EndsCommand, HasNone, Writes, memory_line, write_line}
 use Rattle.toml_edit_files.specs.Stops.{IsUnread, reason_of}
@@ -124,12 +124,6 @@ or_right true true is = refl
 or_right false true is = refl
 or_right a false is = absurd (let e : false ≡ true = is in cc)
 
-pub line_so : (b : Bool) (line other : Text) → ((b ≡ true) × (line ≡ [])) ⊎ ((b ≡ false) × (line ≡ other)) → line ≡ (if b then [] else other)
-line_so true line other (inl h) = h.1
-line_so true line other (inr h) = absurd (let e : true ≡ false = h.0 in cc)
-line_so false line other (inl h) = absurd (let e : false ≡ true = h.0 in cc)
-line_so false line other (inr h) = h.1
-
 pub stream_so : (file : Text) (other : Bool) → other ≡ not (is_stream file) → other ≡ false → is_stream file ≡ true
 stream_so file other ne is = not_false (is_stream file) (sym ne ∙ is)
 
@@ -147,8 +141,8 @@ module _ (reading : Reading) (c : Fmt) (file before text : Text) (old new : Opti
         answer = chosen_not _ _ c.check unchecked (is_yes, is);
       })
 
-  pub formats_not : c.check ≡ true → yes ≡ bytes_eq text before
-      → output ≡ (if bytes_eq text before then [] else file ++ codes ": not formatted\n") → FormatsDone reading c file yes output old new left
+  pub formats_not : c.check ≡ true → yes ≡ bytes_eq text before → IsCompared c.diff file before text output
+      → FormatsDone reading c file yes output old new left
   formats_not checked is_yes is =
       chosen (FormatsElsewhere reading c file yes output old new left) (FormatsInPlace reading c file yes output old new) (c.check || is_stream file)
       (or_left c.check (is_stream file) checked)

@@ -1,6 +1,7 @@
 -- What `edit` does with files.
 use Rattle.std.specs.Prelude.{◌≡◌, ◌⊎◌, Bool, not, ◌&&◌, ◌||◌, IsTrue, MatchBool, List, [], ◌++◌, Option, Some, None, is_none, unwrap_or}
 use Rattle.std.specs.Option.{option_copied}
+use Rattle.line_diff.specs.Diff.{IsDiff}
 use Rattle.file_replace.specs.Events.{Text, Event}
 use Rattle.toml_edit_edits.specs.declared.edit.Edit.{Edit}
 use Rattle.toml_edit_files.specs.Checks.{IsReadAsRefused}
@@ -31,6 +32,11 @@ is_shown c = c.dry_run || is_stream (target_of c)
 abbrev pub is_in_place : EditCommand → Bool
 is_in_place c = not (is_shown c) && is_none c.output
 
+-- what is written of a text: how it differs from the one before, or the text
+abbrev pub IsShownAs : EditCommand → Text → Text → Text → Type 0
+IsShownAs c before text output =
+    MatchBool c.diff (IsDiff c.file.now before text output) (output ≡ text)
+
 module _ (reading : Reading) (c : EditCommand) (all : List Edit) (old new : Option (List Event)) where
   -- What the edits leave of the text of the file replaces it, unless it is the same, or the file holds
   -- another text by then. One that is locked is in its normal form.
@@ -53,7 +59,7 @@ module _ (reading : Reading) (c : EditCommand) (all : List Edit) (old new : Opti
     pub file : IsTextOf c.file.now old read left before
     pub locked : IsTrue c.locked → IsInForm reading before
     pub edited : IsEdited reading all before text
-    pub puts : MatchBool (is_shown c) ((output ≡ text) × (new ≡ read))
+    pub puts : MatchBool (is_shown c) (IsShownAs c before text output × (new ≡ read))
         ((output ≡ []) × IsPutAt c.force (target_of c) text read new)
 
 -- the file is edited once the script is read

@@ -2,7 +2,7 @@
 use Rattle.std.specs.Prelude.{◌≡◌, ◌⊎◌, Bool, true, false, MatchBool, List, [], ◌∷◌, Option, Some, None, IfSome, bytes_eq, codes}
 use Rattle.std.specs.Io.KnownBytes.{IsAtEnd}
 use Rattle.std.specs.List.{list_all}
-use Rattle.file_replace.specs.Events.{Text, Call, Event, found, leads_to, locked, writable, done, more}
+use Rattle.file_replace.specs.Events.{Text, Call, Event, found, missing, listed, no_folder, leads_to, locked, writable, done, more}
 use Rattle.file_replace.specs.Replacing.{Asked, IsReplaced, StopsReplacing}
 use Rattle.toml_edit_files.specs.Refusals.{IsNotUtf8}
 use Rattle.toml_edit_files.specs.declared.stop.Reason.{Reason}
@@ -15,12 +15,15 @@ is_stream name = bytes_eq name (codes "-")
 
 abbrev pub looks_at : Call → Bool
 looks_at (found name text) = true
+looks_at (missing name) = true
+looks_at (listed name names) = true
+looks_at (no_folder name) = true
 looks_at (leads_to name target) = true
 looks_at (locked name) = true
 looks_at (writable name) = true
 looks_at _ = false
 
--- nothing was asked but what files hold, where names lead, what may be written, and for locks
+-- nothing was asked but what files and folders hold, where names lead, what may be written, and for locks
 abbrev pub OnlyLooks : Option (List Event) → Option (List Event) → Type 0
 OnlyLooks old new =
     (es : List Event) × (list_all (λ e. looks_at e.call) es ≡ true) × (new ≡ more es old)

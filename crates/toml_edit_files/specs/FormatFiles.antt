@@ -1,10 +1,12 @@
 -- What `fmt` does with files.
-use Rattle.std.specs.Prelude.{◌≡◌, ◌≢◌, ◌⊎◌, Bool, true, false, not, ◌==◌, ◌&&◌, ◌||◌, if◌then◌else◌, IsTrue, MatchBool, List, [], ◌∷◌, ◌++◌, Option, Some, None, Result, Ok, Err, bytes_eq, codes, vec_len}
+use Rattle.std.specs.Prelude.{◌≡◌, ◌≢◌, ◌⊎◌, Bool, true, false, not, ◌==◌, ◌&&◌, ◌||◌, if◌then◌else◌, IsTrue, MatchBool, List, [], ◌∷◌, ◌++◌, map, Option, Some, None, Result, Ok, Err, bytes_eq, codes, vec_len}
 use Rattle.toml_edit_model.specs.Tree.{Tree}
 use Rattle.toml_edit_model.specs.Version.{v1_0}
 use Rattle.toml_edit_fmt.specs.Newlines.{rules_for}
 use Rattle.toml_edit_fmt.specs.TextView as fmt
 use Rattle.toml_edit_fmt_laws.specs.Rules.{Rules}
+use Rattle.toml_edit_settings.specs.RuleWords as words
+use Rattle.line_diff.specs.Diff.{IsDiff}
 use Rattle.file_replace.specs.Events.{Text, Event}
 use Rattle.toml_edit_edits.specs.Lists.{effect}
 use Rattle.toml_edit_edits.specs.Outcomes.{and_then}
@@ -26,9 +28,12 @@ use Rattle.toml_edit_files.specs.declared.words.Style.{Style}
 
 -- ---- the text of a file
 
--- lines that are made end in CR LF where line endings are kept and the first line does
+-- lines that are made end in CR LF where line endings are kept and the first line does; the rules that
+-- the words set are set last
 abbrev pub rules_by : Reading → Style → Text → Rules
-rules_by reading style t = record (rules_for (not reading.normal) t) { keys = style.keys }
+rules_by reading style t =
+    words.rules_by (map (λ r. (r.0.now, r.1.now)) style.rules.items)
+    (record (rules_for (not reading.normal) t) { keys = style.keys })
 
 -- a path where nothing is is passed over
 abbrev pub passing_over : Tree → Result Tree EditFault → Result Tree EditFault
@@ -96,6 +101,12 @@ IsUnformatted reading style file old new left stop =
 
 -- ---- what becomes of a file
 
+-- what is written of a file whose text is compared with the formatted one: how they differ, or a line
+abbrev pub IsCompared : Bool → Text → Text → Text → Text → Type 0
+IsCompared is_diff file before text output =
+    MatchBool is_diff (IsDiff file before text output)
+    (output ≡ (if bytes_eq text before then [] else file ++ codes ": not formatted\n"))
+
 module _ (reading : Reading) (c : Fmt) (file : Text) (is_yes : Bool) (output : Text)
     (old new : Option (List Event)) where
   -- The formatted text replaces the one before, unless it is the same, or the file holds another text
@@ -110,14 +121,14 @@ module _ (reading : Reading) (c : Fmt) (file : Text) (is_yes : Bool) (output : T
     pub puts : IsPut c.force name before text read new
     pub answer : (is_yes ≡ true) × (output ≡ [])
 
-  -- Under `--check` it is asked whether they are the same, and else the text is written.
+  -- Under `--check` and `--diff` it is asked whether they are the same, and else the text is written.
   pub record FormatsElsewhere (left : Option Text) : Type 0 where
     pub before : Text
     pub text : Text
     pub read : IsTextOf file old new left before
     pub formatted : IsFormatted reading c.style before text
     pub answer : MatchBool c.check ((is_yes ≡ bytes_eq text before)
-        × (output ≡ (if bytes_eq text before then [] else file ++ codes ": not formatted\n")))
+        × IsCompared c.diff file before text output)
         ((is_yes ≡ true) × (output ≡ text))
 
   abbrev pub FormatsDone : Option Text → Type 0

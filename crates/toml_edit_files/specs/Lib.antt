@@ -3,8 +3,10 @@ pub mod Stops
 pub mod Get
 pub mod Steps
 pub mod Folders
+pub mod Walks
 pub mod Notes
 pub mod Outcomes
+pub mod Found
 pub mod Edited
 pub mod Lines
 pub mod EditFiles

@@ -1,5 +1,5 @@
 -- What commands come to, on one file and on several.
-use Rattle.std.specs.Prelude.{◌≡◌, ◌≢◌, ◌<◌, ◌⊎◌, ℕ, max, if◌then◌else◌, List, [], ◌∷◌, ◌++◌, length, map, flat_map, Option, Result, Ok, Err, string_bytes}
+use Rattle.std.specs.Prelude.{◌≡◌, ◌≢◌, ◌<◌, ◌⊎◌, ◌-◌, ◌^◌, ℕ, max, min, not, ◌==◌, if◌then◌else◌, List, [], ◌∷◌, ◌++◌, length, map, filter, flat_map, Option, Result, Ok, Err, string_bytes}
 use Rattle.toml_edit_model.specs.Text.{newline}
 use Rattle.file_replace.specs.Events.{Text, Event}
 use Rattle.toml_edit_files.specs.Folders.{LeavesInput}
@@ -46,6 +46,10 @@ TellsOfFile outcome told = TellsOf outcome told
 abbrev pub WasRead : Told → Type 0
 WasRead told = (told.status ≢ 3) × (told.status ≢ 4)
 
+-- how many are not done: they have another status than 0
+abbrev pub undone_of : List Told → ℕ
+undone_of ts = length (filter (λ t. not (t.status == 0)) ts)
+
 -- the worst status, which is the greatest
 abbrev pub worst : List ℕ → ℕ
 worst [] = 0
@@ -63,12 +67,13 @@ module _ (Does : Text → Told → Option (List Event) → Option (List Event) �
       (next : Option (List Event)) × (rest : Option Text) × Does name told old next left
       × LeavesInput (WasRead told) name left rest × (told.status ≢ 3) × AreDone names more next new rest
 
-  -- the worst status of them, and what they write, one after another
+  -- the worst status of them, what they write, one after another, and how many are not done
   pub record DoesAll (names : List Text) (old new : Option (List Event)) (left : Option Text)
-      (all : Told) : Type 0 where
+      (all : Told) (undone : ℕ) : Type 0 where
     pub told : List Told
     pub done : AreDone names told old new left
     pub status : ((length told ≡ length names) × (all.status ≡ worst (map (λ t. t.status) told))
-        × (string_bytes all.notes ≡ flat_map (λ t. string_bytes t.notes) told))
+        × (string_bytes all.notes ≡ flat_map (λ t. string_bytes t.notes) told)
+        × (undone ≡ min (undone_of told) (2 ^ 64 - 1)))
         ⊎ ((length told < length names) × (all.status ≡ 3))
     pub output : string_bytes all.output ≡ flat_map (λ t. string_bytes t.output) told

@@ -1,5 +1,5 @@
 -- What the words of a call ask for.
-use Rattle.std.specs.Prelude.{◌≡◌, ◌≢◌, Bool, true, false, ◌||◌, if◌then◌else◌, IsTrue, MatchBool, List, [], ◌∷◌, ◌++◌, map, Option, Some, None, is_none, is_some, option_map, unwrap_or, bytes_eq, codes, string_bytes, Vec}
+use Rattle.std.specs.Prelude.{◌≡◌, ◌≢◌, Bool, true, false, ◌&&◌, ◌||◌, if◌then◌else◌, IsTrue, MatchBool, List, [], ◌∷◌, ◌++◌, map, Option, Some, None, is_none, is_some, option_map, option_to_list, unwrap_or, bytes_eq, codes, string_bytes, Vec}
 use Rattle.std.specs.declared.alloc.Global.{Global}
 use Rattle.std.specs.Option.{option_copied}
 use Rattle.toml_edit_model.specs.Keys.{names}
@@ -10,9 +10,10 @@ use Rattle.toml_edit_edits.specs.Said.{SaysEdit, SpellsKeys}
 use Rattle.toml_edit_edits.specs.declared.edit.Edit.{Edit}
 use Rattle.toml_edit_edits.specs.declared.edit.Edit.TheVariants.{Sort}
 use Rattle.toml_edit_words.specs.Spelled.{SpellsPath}
+use Rattle.toml_edit_settings.specs.RuleWords.{is_taken}
 use Rattle.toml_edit_files.specs.Edited.{version_by}
 use Rattle.toml_edit_files.specs.Help.{help_on, topic_of}
-use Rattle.toml_edit_files.specs.Split.{Words, has, last_of, split_words}
+use Rattle.toml_edit_files.specs.Split.{Words, has, last_of, rule_of, split_words}
 use Rattle.toml_edit_files.specs.declared.help.TheConstants.{VERSION}
 use Rattle.toml_edit_files.specs.declared.help.Topic.{Topic}
 use Rattle.toml_edit_files.specs.declared.help.Topic.TheVariants as topics
@@ -128,7 +129,8 @@ module _ (version : Version) where
     pub some : edits ≡ [] → c.script ≢ None
     pub script : option_copied c.script ≡ last_of (codes "--script") s.options
     pub output : option_copied c.output ≡ last_of (codes "--output") s.options
-    pub dry_run : c.dry_run ≡ has (codes "--dry-run") s.options
+    pub dry_run : c.dry_run ≡ (has (codes "--dry-run") s.options || has (codes "--diff") s.options)
+    pub diff : c.diff ≡ has (codes "--diff") s.options
     pub locked : c.locked ≡ has (codes "--locked") s.options
     pub force : c.force ≡ has (codes "--force") s.options
 
@@ -141,12 +143,26 @@ AreSorts (o ∷ os) es =
     × SpellsKeys o.1 path.items × AreSorts os more)
     (AreSorts os es)
 
+-- the rules that the options set, in their order, each with its value
+abbrev pub rules_in : List (Text × Text) → List (Text × Text)
+rules_in [] = []
+rules_in (o ∷ os) =
+    option_to_list (option_map (λ name. (name, o.1)) (rule_of o.0)) ++ rules_in os
+
+-- each rule takes its value
+abbrev pub are_taken : List (Text × Text) → Bool
+are_taken [] = true
+are_taken (r ∷ rs) = is_taken r.0 r.1 && are_taken rs
+
 pub record IsFmt (s : Words) (c : Fmt) : Type 0 where
   pub files : map (λ f. f.now) c.files.items ≡ s.operands
   pub some : s.operands ≢ []
   pub sorts : AreSorts s.options c.style.sorts.items
+  pub rules : map (λ r. (r.0.now, r.1.now)) c.style.rules.items ≡ rules_in s.options
+  pub taken : IsTrue (are_taken (rules_in s.options))
   pub keys : c.style.keys ≡ has (codes "--keys") s.options
-  pub check : c.check ≡ has (codes "--check") s.options
+  pub check : c.check ≡ (has (codes "--check") s.options || has (codes "--diff") s.options)
+  pub diff : c.diff ≡ has (codes "--diff") s.options
   pub force : c.force ≡ has (codes "--force") s.options
 
 -- ---- commands

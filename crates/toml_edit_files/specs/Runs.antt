@@ -11,9 +11,12 @@ use Rattle.toml_edit_files.specs.EditFiles.{EditsFile, HasNoEdits, target_of}
 use Rattle.toml_edit_files.specs.Edited.{IsReadFrom, version_by}
 use Rattle.toml_edit_files.specs.Folders.{OnlyLooks, Stops}
 use Rattle.toml_edit_files.specs.FormatFiles.{FormatsFile}
-use Rattle.toml_edit_files.specs.Outcomes.{DoesAll, Tells, TellsAlone, TellsStop}
+use Rattle.toml_edit_files.specs.Found.{DoesFound}
+use Rattle.toml_edit_files.specs.Outcomes.{Tells, TellsAlone, TellsStop}
 use Rattle.toml_edit_files.specs.Requests.{IsNoRequest, SaysRequest}
 use Rattle.toml_edit_files.specs.Stops.{IsMistaken, IsUnread, reason_of}
+use Rattle.toml_edit_files.specs.declared.check.TheConstants.{UNCHECKED}
+use Rattle.toml_edit_files.specs.declared.fmt.TheConstants.{UNFORMATTED}
 use Rattle.toml_edit_files.specs.declared.told.Told.{Told}
 use Rattle.toml_edit_files.specs.declared.stop.Stop.{Stop}
 use Rattle.toml_edit_files.specs.declared.words.Command.{Command}
@@ -47,9 +50,10 @@ module _ (old new : Option (List Event)) (left : Option Text) where
       ⊎ ((stop : Stop) × Stops (target_of c) old new (reason_of stop)
       × HasNoEdits reading c edits.items old new left stop × TellsStop stop told)
   EndsCommand reading (Check files) told =
-      DoesAll (ChecksFile (version_by reading)) (map (λ f. f.now) files.items) old new left told
+      DoesFound (ChecksFile (version_by reading)) UNCHECKED.now (map (λ f. f.now) files.items) old new left
+      told
   EndsCommand reading (Fmt c) told =
-      DoesAll (FormatsFile reading c) (map (λ f. f.now) c.files.items) old new left told
+      DoesFound (FormatsFile reading c) UNFORMATTED.now (map (λ f. f.now) c.files.items) old new left told
 
   -- The words ask for a command, and so it ends; they ask for none, which has status 2; or memory runs
   -- out. Of the last two no file is read.

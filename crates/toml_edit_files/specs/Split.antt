@@ -1,9 +1,10 @@
 -- The options of a command, and its other words.
-use Rattle.std.specs.Prelude.{◌≡◌, ◌==◌, ◌-◌, ◌<◌, nat_eq, nat_lt, ℕ, Bool, true, false, not, ◌&&◌, ◌||◌, if◌then◌else◌, List, [], ◌∷◌, ◌++◌, map, Option, Some, None, is_none, is_some, option_and_then, bytes_eq, codes}
+use Rattle.std.specs.Prelude.{◌≡◌, ◌==◌, ◌-◌, ◌<◌, nat_eq, nat_lt, ℕ, Bool, true, false, not, ◌&&◌, ◌||◌, if◌then◌else◌, List, [], ◌∷◌, ◌++◌, map, Option, Some, None, is_none, is_some, option_and_then, bytes_eq, codes, drop}
 use Rattle.std.specs.List.{starts_with}
 use Rattle.std.specs.Option.{option_copied, option_map_or}
 use Rattle.toml_edit_model.specs.Text.{Text, is_empty}
 use Rattle.toml_edit_edits.specs.Said.{operands, verb_of}
+use Rattle.toml_edit_settings.specs.RuleWords.{is_rule}
 use Rattle.toml_edit_files.specs.Folders.{is_stream}
 use Rattle.toml_edit_files.specs.declared.help.Topic.{Topic}
 use Rattle.toml_edit_files.specs.declared.help.Topic.TheVariants.{Get, Edit, Keys, Check, Fmt}
@@ -11,20 +12,27 @@ use Rattle.toml_edit_files.specs.declared.split.Split.{Split}
 
 -- ---- options
 
+-- the name of the rule that an option sets, behind two dashes
+abbrev pub rule_of : Text → Option Text
+rule_of w =
+    if starts_with nat_eq w (codes "--") && is_rule (drop 2 w) then Some (drop 2 w) else None
+
 -- a word is an option of the command that takes no operand, or one that takes one
 abbrev pub is_flag : Topic → Text → Bool
 is_flag Get w = bytes_eq w (codes "--raw") || bytes_eq w (codes "--lines")
 is_flag Keys w = bytes_eq w (codes "--all")
 is_flag Edit w =
-    bytes_eq w (codes "--dry-run") || bytes_eq w (codes "--locked") || bytes_eq w (codes "--force")
+    bytes_eq w (codes "--dry-run") || bytes_eq w (codes "--diff") || bytes_eq w (codes "--locked")
+    || bytes_eq w (codes "--force")
 is_flag Fmt w =
-    bytes_eq w (codes "--check") || bytes_eq w (codes "--keys") || bytes_eq w (codes "--force")
+    bytes_eq w (codes "--check") || bytes_eq w (codes "--diff") || bytes_eq w (codes "--keys")
+    || bytes_eq w (codes "--force")
 is_flag _ w = false
 
 abbrev pub takes_operand : Topic → Text → Bool
 takes_operand Get w = bytes_eq w (codes "--default")
 takes_operand Edit w = bytes_eq w (codes "--script") || bytes_eq w (codes "--output")
-takes_operand Fmt w = bytes_eq w (codes "--sort")
+takes_operand Fmt w = bytes_eq w (codes "--sort") || is_some (rule_of w)
 takes_operand _ w = false
 
 -- a word is written as an option

@@ -3,3 +3,4 @@ pub mod Edited
 pub mod Outcomes
 pub mod Refusals
 pub mod Requests
+pub mod Walks

@@ -1,23 +1,29 @@
 //! The command `check`.
-ghost use Rattle.std.specs.Prelude.{IfErr, OnOk, map};
+ghost use Rattle.std.specs.Prelude.{IfErr, OnOk, map, string_bytes};
 ghost use Rattle.toml_edit_files.specs.Checks.{ChecksFile, IsReadAsAccepted, IsReadAsRefused};
 ghost use Rattle.toml_edit_files.specs.Edited.{IsAccepted, IsNotRead, version_by};
 ghost use Rattle.toml_edit_files.specs.Folders.{LeavesInput, OnlyLooks};
+ghost use Rattle.toml_edit_files.specs.Found.{DoesFound};
 ghost use Rattle.toml_edit_files.specs.Outcomes.{DoesAll, WasRead};
 ghost use Rattle.toml_edit_files.specs.Stops.{IsUnread, Reads};
 
 use crate::messages::refused;
 use crate::outcome::told_of_file;
 use crate::read::text_of;
-use crate::stop::{DONE, Step, Stop};
+use crate::stop::{DONE, NO_MEMORY, Step, Stop};
+use crate::tally::Tally;
 use crate::told::Told;
+use crate::walk::files_of;
 use crate::words::Reading;
 use file_replace::Folder;
 use std::alloc::Global;
 use toml_edit::{Document, ParseFault};
 use toml_edit_io::Input;
 
-/// Reads files, and tells which of them are refused: `FILE:LINE:COLUMN: MESSAGE`.
+/// What is said of files that are refused, or not read.
+pub const UNCHECKED: &str = "not accepted";
+
+/// Reads files, and those below folders, and tells which of them are refused: `FILE:LINE:COLUMN: MESSAGE`.
 pub fn check<F: Folder, I: Input>(
     alloc: Global,
     folder: &mut F,
@@ -25,17 +31,38 @@ pub fn check<F: Folder, I: Input>(
     files: &[&str],
     reading: Reading,
 ) -> Told
-    ensures { DoesAll (ChecksFile (version_by reading)) (map (λ file. file.now) files.now)
-        (F.history folder.old) (F.history folder.new) (I.remaining input.old) result }
+    ensures { DoesFound (ChecksFile (version_by reading)) UNCHECKED.now
+        (map (λ file. file.now) files.now) (F.history folder.old) (F.history folder.new)
+        (I.remaining input.old) result }
 {
-    let mut told = Told::new(alloc, DONE);
+    let files = match files_of(alloc, folder, files) {
+        Ok(files) => files,
+        Err(_) => return Told::new(alloc, NO_MEMORY),
+    };
+    let found = files.names.as_slice();
+    let tally = check_all(alloc, folder, input, found, reading);
+    tally.counted(alloc, &files, UNCHECKED)
+}
+
+/// Checks each file.
+fn check_all<F: Folder, I: Input>(
+    alloc: Global,
+    folder: &mut F,
+    input: &mut I,
+    files: &[String],
+    reading: Reading,
+) -> Tally
+    ensures { DoesAll (ChecksFile (version_by reading)) (map string_bytes files.now)
+        (F.history folder.old) (F.history folder.new) (I.remaining input.old) result.told result.undone }
+{
+    let mut tally = Tally::new(alloc);
     'files: for file in files {
-        let checked = check_file(alloc, folder, input, *file, reading);
-        if !told.add(checked) {
-            return told;
+        let checked = check_file(alloc, folder, input, file.as_str(), reading);
+        if !tally.add(checked) {
+            return tally;
         }
     }
-    told
+    tally
 }
 
 /// Tells whether a file is refused.

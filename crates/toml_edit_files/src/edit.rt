@@ -2,7 +2,7 @@
 ghost use Rattle.std.specs.Prelude.{◌≡◌, ◌⊎◌, ◌++◌, [], IfErr, IfOk, IsTrue, None, Ok, OnOk, Option, Some, string_bytes, true};
 ghost use Rattle.std.specs.Option.{option_copied};
 ghost use Rattle.toml_edit.specs.DocumentView.{IsPrintedAs, print_of, tree_owned};
-ghost use Rattle.toml_edit_files.specs.EditFiles.{EditsElsewhere, EditsFile, EditsInPlace, HasNoEdits, HasNoScript, IsUnmade, ScriptedFirst, is_in_place, is_shown, target_of};
+ghost use Rattle.toml_edit_files.specs.EditFiles.{EditsElsewhere, EditsFile, EditsInPlace, HasNoEdits, HasNoScript, IsShownAs, IsUnmade, ScriptedFirst, is_in_place, is_shown, target_of};
 ghost use Rattle.toml_edit_files.specs.Edited.{IsAccepted, IsEdited, IsFittingPrint, IsInForm, IsMisfit, IsNotEdited, IsNotInForm, IsNotMade, IsNotRead, IsNotWritten, IsTooNew, IsWritten, mark_of, unmarked, version_by};
 ghost use Rattle.toml_edit_files.specs.Folders.{OnlyLooks, Stops};
 ghost use Rattle.toml_edit_files.specs.Stops.{reason_of};
@@ -21,6 +21,7 @@ use crate::stop::{Reason, Step, Stop};
 use crate::told::{Note, PROGRAM};
 use crate::words::{EditCommand, Reading};
 use file_replace::Folder;
+use line_diff::unified_diff;
 use std::alloc::Global;
 use toml_edit::{Document, DocumentMut, Mem, ParseFault, ParseOptions, Version};
 use toml_edit_edits::{Edit, apply};
@@ -109,16 +110,34 @@ fn edit_elsewhere<F: Folder, I: Input>(
 {
     let text = text_of(alloc, folder, input, command.file)?;
     let edited = edited_text(alloc, command, text.as_str(), edits, reading)?;
-    if is_shown(command) {
-        return Ok(edited);
-    }
     let Done { output, notes, .. } = edited;
+    if is_shown(command) {
+        let output = shown(alloc, command, text.as_str(), output)?;
+        return Ok(Done {
+            yes: true,
+            output,
+            notes,
+        });
+    }
     put_at(alloc, folder, target_of(command), output, command.force)?;
     Ok(Done {
         yes: true,
         output: String::new(alloc),
         notes,
     })
+}
+
+/// Returns what is written of a text that the edits leave: the text, or how it differs from the one
+/// before.
+fn shown(alloc: Global, command: &EditCommand<'_>, before: &str, text: String) -> Mem<String>
+    ensures { IfOk result (λ output. IsShownAs command.now before.now (string_bytes text)
+        (string_bytes output)) }
+{
+    if command.diff {
+        unified_diff(alloc, command.file, before, text.as_str())
+    } else {
+        Ok(text)
+    }
 }
 
 /// Returns the edits of the script, if there is one, and those of the words.

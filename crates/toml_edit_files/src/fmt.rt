@@ -1,13 +1,13 @@
 //! The command `fmt`: files in the layout of the formatter.
-ghost use Rattle.std.specs.Prelude.{◌≡◌, ◌⊎◌, [], IfErr, IfOk, IsTrue, Ok, OnOk, Option, map, not, string_bytes};
+ghost use Rattle.std.specs.Prelude.{◌≡◌, ◌⊎◌, ◌++◌, [], IfErr, IfOk, IsTrue, Ok, OnOk, Option, bytes_eq, codes, if◌then◌else◌, map, string_bytes};
 ghost use Rattle.toml_edit.specs.DocumentView.{IsPrintedAs, tree_owned};
 ghost use Rattle.toml_edit_files.specs.Edited.{IsAccepted, IsNotRead, version_by};
 ghost use Rattle.toml_edit_files.specs.Folders.{LeavesInput, Stops};
-ghost use Rattle.toml_edit_files.specs.FormatFiles.{FormatsDone, FormatsFile, FormatsInPlace, IsFormatted, IsNotFormatted, IsNotLaid, IsNotSorted, IsUnformatted, is_laid_as_it_is, passing_over, sorted_by};
+ghost use Rattle.toml_edit_files.specs.FormatFiles.{FormatsDone, FormatsFile, FormatsInPlace, IsCompared, IsFormatted, IsNotFormatted, IsNotLaid, IsNotSorted, IsUnformatted, is_laid_as_it_is, passing_over, rules_by, sorted_by};
+ghost use Rattle.toml_edit_files.specs.Found.{DoesFound};
 ghost use Rattle.toml_edit_files.specs.Outcomes.{DoesAll, WasRead};
 ghost use Rattle.toml_edit_files.specs.Stops.{Reads, reason_of};
 ghost use Rattle.toml_edit_edits.specs.Lists.{effect};
-ghost use Rattle.toml_edit_fmt.specs.Newlines.{rules_for};
 ghost use Rattle.toml_edit_fmt.specs.RulesView.{rules_of};
 ghost use Rattle.toml_edit_fmt.specs.TextView as fmt;
 ghost use Rattle.toml_edit_model.specs.Text.{Text};
@@ -18,18 +18,26 @@ use crate::messages::refused_edit;
 use crate::outcome::{Done, told_of, told_of_file};
 use crate::put::{held_of, put};
 use crate::read::{STREAM, document_of, text_of};
-use crate::stop::{DONE, Step, Stop};
+use crate::stop::{NO_MEMORY, Step, Stop};
+use crate::tally::Tally;
 use crate::told::Told;
+use crate::walk::files_of;
 use crate::words::{Fmt, Reading, Style};
 use file_replace::Folder;
+use line_diff::unified_diff;
 use std::alloc::Global;
 use toml_edit::{DocumentMut, Mem};
 use toml_edit_edits::{Edit, EditFault, apply_edit};
 use toml_edit_fmt::{Rules, format_text};
 use toml_edit_io::Input;
+use toml_edit_settings::set_rules;
 
-/// Formats each file in place, one after another, and standard input for `-`. Under `--check` those
-/// are named that would change, and none does.
+/// What is said of files that a command does not format.
+pub const UNFORMATTED: &str = "not formatted";
+
+/// Formats each file in place, one after another, also those below folders, and standard input for `-`.
+/// Under `--check` those are named that would change, and none does; under `--diff` their differences
+/// are written.
 pub fn fmt<F: Folder, I: Input>(
     alloc: Global,
     folder: &mut F,
@@ -37,19 +45,40 @@ pub fn fmt<F: Folder, I: Input>(
     command: &Fmt<'_>,
     reading: Reading,
 ) -> Told
-    ensures { DoesAll (FormatsFile reading command.now)
+    ensures { DoesFound (FormatsFile reading command.now) UNFORMATTED.now
         (map (λ file. file.now) command.now.files.items) (F.history folder.old)
         (F.history folder.new) (I.remaining input.old) result }
 {
-    let mut told = Told::new(alloc, DONE);
-    let files = command.files.as_slice();
+    let names = command.files.as_slice();
+    let files = match files_of(alloc, folder, names) {
+        Ok(files) => files,
+        Err(_) => return Told::new(alloc, NO_MEMORY),
+    };
+    let found = files.names.as_slice();
+    let tally = fmt_all(alloc, folder, input, command, found, reading);
+    tally.counted(alloc, &files, UNFORMATTED)
+}
+
+/// Formats each file.
+fn fmt_all<F: Folder, I: Input>(
+    alloc: Global,
+    folder: &mut F,
+    input: &mut I,
+    command: &Fmt<'_>,
+    files: &[String],
+    reading: Reading,
+) -> Tally
+    ensures { DoesAll (FormatsFile reading command.now) (map string_bytes files.now)
+        (F.history folder.old) (F.history folder.new) (I.remaining input.old) result.told result.undone }
+{
+    let mut tally = Tally::new(alloc);
     'files: for file in files {
-        let formatted = fmt_file(alloc, folder, input, command, *file, reading);
-        if !told.add(formatted) {
-            return told;
+        let formatted = fmt_file(alloc, folder, input, command, file.as_str(), reading);
+        if !tally.add(formatted) {
+            return tally;
         }
     }
-    told
+    tally
 }
 
 /// Formats a file. Where standard input is refused, no output is its text.
@@ -102,12 +131,35 @@ fn done_of<F: Folder, I: Input>(
     if !command.check {
         return Ok(Done::new(alloc, true, text));
     }
-    let line = if text.as_str() == before {
-        String::new(alloc)
+    Ok(compared(alloc, command, file, before, text.as_str())?)
+}
+
+/// Compares the text of a file with the formatted one.
+fn compared(alloc: Global, command: &Fmt<'_>, file: &str, before: &str, text: &str) -> Mem<Done>
+    ensures yes { IfOk result (λ done. done.yes ≡ bytes_eq text.now before.now) }
+    ensures output { IfOk result (λ done. IsCompared command.now.diff file.now before.now text.now
+        (string_bytes done.output)) }
+    ensures quiet { IfOk result (λ done. string_bytes done.notes ≡ []) }
+{
+    let same = text == before;
+    let output = if command.diff {
+        unified_diff(alloc, file, before, text)?
     } else {
-        [file, ": not formatted\n"].concat(alloc)?
+        line_on(alloc, file, same)?
     };
-    Ok(Done::new(alloc, text.as_str() == before, line))
+    Ok(Done::new(alloc, same, output))
+}
+
+/// Returns the line on a file that is not formatted.
+fn line_on(alloc: Global, file: &str, is_formatted: bool) -> Mem<String>
+    ensures { IfOk result (λ line. string_bytes line
+        ≡ (if is_formatted then [] else file.now ++ codes ": not formatted\n")) }
+{
+    if is_formatted {
+        Ok(String::new(alloc))
+    } else {
+        [file, ": not formatted\n"].concat(alloc)
+    }
 }
 
 /// Formats a file in place.
@@ -133,14 +185,20 @@ fn in_place<F: Folder>(
 }
 
 /// Returns the text of a file, formatted.
-fn formatted(alloc: Global, file: &str, text: &str, style: &Style, reading: Reading) -> Step<String>
+fn formatted(
+    alloc: Global,
+    file: &str,
+    text: &str,
+    style: &Style<'_>,
+    reading: Reading,
+) -> Step<String>
     ensures formatted { IfOk result
         (λ s. IsFormatted reading style.now text.now (string_bytes s)) }
     ensures stops { IfErr result (λ stop. IsNotRead (version_by reading) file.now text.now stop
         ⊎ IsNotFormatted reading style.now text.now (reason_of stop)) }
 {
     let mut document = document_of(alloc, file, text, reading)?;
-    let rules = rules_by(text, reading, style.keys);
+    let rules = rules_by(text, reading, style);
     if is_laid_as_it_is(reading, style) {
         return laid_out(alloc, file, text, &rules, reading);
     }
@@ -150,7 +208,7 @@ fn formatted(alloc: Global, file: &str, text: &str, style: &Style, reading: Read
 }
 
 /// Returns `true` if a text is laid out as it stands: nothing is sorted or brought to normal form.
-fn is_laid_as_it_is(reading: Reading, style: &Style) -> bool
+fn is_laid_as_it_is(reading: Reading, style: &Style<'_>) -> bool
     ensures { result ≡ is_laid_as_it_is reading style.now }
 {
     style.sorts.is_empty() && !reading.normal
@@ -178,11 +236,12 @@ fn laid_out(alloc: Global, file: &str, text: &str, rules: &Rules, reading: Readi
 
 /// Returns the rules for a text: lines that are made end as its first one does, unless none but line
 /// feeds are to be written.
-fn rules_by(text: &str, reading: Reading, keys: bool) -> Rules
-    ensures { rules_of result ≡ record (rules_for (not reading.normal) text.now) { keys = keys } }
+fn rules_by(text: &str, reading: Reading, style: &Style<'_>) -> Rules
+    ensures { rules_of result ≡ rules_by reading style.now text.now }
 {
     let mut rules = Rules::for_text(text.as_bytes(), !reading.normal);
-    rules.keys = keys;
+    rules.keys = style.keys;
+    set_rules(&mut rules, style.rules.as_slice());
     rules
 }
 

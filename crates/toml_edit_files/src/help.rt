@@ -103,7 +103,7 @@ status is 1.
 ";
 
 pub const EDIT_HELP: &str = "\
-usage: tomlfile edit FILE EDIT [, EDIT].. [--script FILE] [--dry-run] [--output FILE] [--locked] [--force]
+usage: tomlfile edit FILE EDIT [, EDIT].. [--script FILE] [--dry-run] [--diff] [--output FILE] [--locked] [--force]
 
 Makes the edits one after another, all or none, and writes the file in place.
 The status is 1 if nothing is at a path.
@@ -124,6 +124,7 @@ The status is 1 if nothing is at a path.
 
   --script FILE  edits from a file first, one a line
   --dry-run      write to standard output, and no file
+  --diff         the same, as a diff of the file
   --output FILE  write to another file
   --locked       refuse a file of which other lines would change
   --force        replace a read-only file, or one whose owner can't be kept
@@ -157,24 +158,47 @@ pub const CHECK_HELP: &str = "\
 usage: tomlfile check FILE..
 
 Writes FILE:LINE:COLUMN: MESSAGE for each file that is not TOML. The status is 1
-if there is one, and 4 if a file can't be read.
+if there is one, and 4 if a file can't be read. A folder stands for the *.toml
+files below it, but none whose name, or whose folder's, begins with a dot.
 
   tomlfile check *.toml
+  tomlfile check .
 ";
 
 pub const FMT_HELP: &str = "\
-usage: tomlfile fmt FILE.. [--check] [--keys] [--sort PATH].. [--force]
+usage: tomlfile fmt FILE.. [--check] [--diff] [--keys] [--sort PATH].. [--RULE VALUE].. [--force]
 
 Formats each file in place: spaces, empty lines, indentation, and arrays with a
 line for each value where they have a newline or a comment, or are wide. Keys,
 values and comments stay as they are. A file that is not TOML is reported as by
-check, and the others are formatted.
+check, and the others are formatted; those of a folder, too, as by check.
 
   --check      change nothing, and name the files that are not formatted
+  --diff       the same, and write how they differ, as patch takes it
   --keys       write keys without quotes where they need none
   --sort PATH  sort the keys of the table at PATH, if it is there; '' is the file
   --force      replace a read-only file, or one whose owner can't be kept
 
+Each rule has an option, below with its usual value. The last one counts. N is at
+most 255; off leaves what the rule is about as it is.
+
+  --equals on          one space on both sides of =, or off
+  --dots on            no spaces at dots and inside the brackets of headers, or off
+  --comments 1         N spaces before a comment, aligned in one column, or off
+  --blank-lines 1      at most N empty lines in a row, or off
+  --indentation flush  lines begin flush, by the depth of their header, or off
+  --indent 2           a level of indentation is N spaces
+  --arrays kept        lines of arrays are kept, collapsed into one, or off
+  --rows on            several values may stay on a line, or off
+  --commas always      after the last of several lines: always, never, or off
+  --bracket-space off  no space inside of [] on one line, or on
+  --brace-space on     one space inside of {} on one line, or off
+  --width 80           arrays on a line of more than N columns get several, or off
+  --inline-tables on   inline tables are laid out, or off
+  --bare-keys off      keys keep their quotes; on is --keys
+  --left-alone on      comments may leave lines alone by fmt: off, or off
+
   tomlfile fmt Cargo.toml --sort dependencies
-  tomlfile fmt --check *.toml
+  tomlfile fmt *.toml --width 100 --indent 4 --arrays collapsed
+  tomlfile fmt --check .
 ";

@@ -17,7 +17,9 @@ mod request;
 mod script;
 mod split;
 mod stop;
+mod tally;
 mod told;
+mod walk;
 mod words;
 
 pub use program::{end_without_memory, run};

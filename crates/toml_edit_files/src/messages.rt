@@ -87,6 +87,16 @@ pub fn no_option(alloc: Global, topic: Topic, name: &str) -> Stop
     )
 }
 
+/// Returns that an option does not take a value.
+pub fn no_value(alloc: Global, name: &str, value: &str) -> Stop
+    ensures { IsFor Mistaken (reason_of result) }
+{
+    mistaken(
+        alloc,
+        format!(in alloc; "{name} does not take '{value}', see tomlfile fmt --help"),
+    )
+}
+
 /// Returns that a call on a file has failed.
 pub fn failed(alloc: Global, file: &str, error: &io::Error) -> Stop
     ensures { IsFailed file.now result }

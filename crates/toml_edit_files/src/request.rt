@@ -1,8 +1,8 @@
 //! Reading the words of a call.
-ghost use Rattle.std.specs.Prelude.{◌≡◌, ◌==◌, ◌&&◌, ◌∷◌, Any, IfErr, IfOk, List, None, Some, false, is_none, length, map, string_bytes};
+ghost use Rattle.std.specs.Prelude.{◌≡◌, ◌==◌, ◌&&◌, ◌∷◌, Any, IfErr, IfOk, IsTrue, List, None, Some, false, is_none, length, map, string_bytes};
 ghost use Rattle.toml_edit_files.specs.Edited.{version_by};
 ghost use Rattle.toml_edit_files.specs.Help.{help_on};
-ghost use Rattle.toml_edit_files.specs.Requests.{AreFileAndPath, ArePaths, AreSorts, IsNoCommand, IsKind, IsNoRequest, IsNoneAfter, IsNoneBy, SaysAfter, SaysApart, SaysBy, SaysCommand, SaysRequest, Shows, asks_help, help_by, is_help, is_help_option, is_version, marked, reading_in, shape_in};
+ghost use Rattle.toml_edit_files.specs.Requests.{AreFileAndPath, ArePaths, AreSorts, IsNoCommand, IsKind, IsNoRequest, IsNoneAfter, IsNoneBy, SaysAfter, SaysApart, SaysBy, SaysCommand, SaysRequest, Shows, are_taken, asks_help, help_by, is_help, is_help_option, is_version, marked, reading_in, rules_in, shape_in};
 ghost use Rattle.toml_edit_files.specs.Split.{Words, split_of};
 ghost use Rattle.toml_edit_model.specs.Text.{Text};
 ghost use Rattle.toml_edit_model.specs.Tree.{Key};
@@ -15,10 +15,10 @@ ghost use Rattle.toml_edit_items.specs.declared.shape.Shape.TheVariants.{Spelled
 ghost use Rattle.toml_edit_files.specs.declared.help.Topic.TheVariants as topics;
 
 use crate::help::{Topic, VERSION, page, topic_of};
-use crate::messages::{no_command, wrong_words};
+use crate::messages::{no_command, no_value, wrong_words};
 use crate::paths::{path_of, sort_path_of};
 use crate::script::edit_at;
-use crate::split::{Split, split_words};
+use crate::split::{Split, rule_of, split_words};
 use crate::stop::Step;
 use crate::words::{
     Command, EditCommand, Fmt, Get, Has, Json, Keys, Question, Reading, Request, Style,
@@ -27,6 +27,7 @@ use std::alloc::Global;
 use toml_edit::Key;
 use toml_edit_edits::Edit;
 use toml_edit_items::{Kind, Shape};
+use toml_edit_settings::takes;
 
 /// Reads the words of a call.
 pub fn request_of<'w>(alloc: Global, words: &'w [String]) -> Step<Request<'w>>
@@ -296,7 +297,8 @@ fn edit_of<'w>(alloc: Global, words: &Split<'w>, reading: Reading) -> Step<Comma
     let command = EditCommand {
         file,
         script,
-        dry_run: words.has("--dry-run"),
+        dry_run: words.has_either("--dry-run", "--diff"),
+        diff: words.has("--diff"),
         output: words.last("--output"),
         locked: words.has("--locked"),
         force: words.has("--force"),
@@ -354,13 +356,16 @@ fn fmt_of<'w>(alloc: Global, words: Split<'w>) -> Step<Command<'w>>
     }
     let style = Style {
         sorts: sorts_of(alloc, &words)?,
+        rules: rules_of(alloc, &words)?,
         keys: words.has("--keys"),
     };
-    let (check, force) = (words.has("--check"), words.has("--force"));
+    let check = words.has_either("--check", "--diff");
+    let (diff, force) = (words.has("--diff"), words.has("--force"));
     Ok(Command::Fmt(Fmt {
         files: words.operands,
         style,
         check,
+        diff,
         force,
     }))
 }
@@ -379,4 +384,25 @@ fn sorts_of(alloc: Global, words: &Split<'_>) -> Step<Vec<Edit>>
         }
     }
     Ok(sorts)
+}
+
+/// Reads the rules that the options set.
+fn rules_of<'w>(alloc: Global, words: &Split<'w>) -> Step<Vec<(&'w str, &'w str)>>
+    ensures rules { IfOk result
+        (λ rules. map (λ r. (r.0.now, r.1.now)) rules.items ≡ rules_in (split_of words.now).options) }
+    ensures taken { IfOk result
+        (λ _. IsTrue (are_taken (rules_in (split_of words.now).options))) }
+    ensures stops { Mistakes (are_taken (rules_in (split_of words.now).options) ≡ false) result }
+{
+    let mut rules = Vec::new(alloc);
+    'options: for option in words.options.as_slice() {
+        let (name, value) = *option;
+        if let Some(rule) = rule_of(name) {
+            match takes(rule, value) {
+                Ok(()) => rules.push((rule, value))?,
+                Err(_) => return Err(no_value(alloc, name, value)),
+            }
+        }
+    }
+    Ok(rules)
 }

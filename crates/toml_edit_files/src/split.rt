@@ -1,7 +1,7 @@
 //! The options of a command and its other words.
-ghost use Rattle.std.specs.Prelude.{[], ◌≡◌, ◌∷◌, ◌++◌, IfErr, IfOk, None, OnOk, Some, map, string_bytes};
+ghost use Rattle.std.specs.Prelude.{[], ◌≡◌, ◌∷◌, ◌++◌, ◌||◌, IfErr, IfOk, None, OnOk, Some, map, string_bytes};
 ghost use Rattle.std.specs.Option.{option_copied};
-ghost use Rattle.toml_edit_files.specs.Split.{checks_all, following, has, is_flag, is_option, is_plain, is_refused, last_of, split_of, split_words, step, takes, takes_operand};
+ghost use Rattle.toml_edit_files.specs.Split.{checks_all, following, has, is_flag, is_option, is_plain, is_refused, last_of, rule_of, split_of, split_words, step, takes, takes_operand};
 ghost use Rattle.toml_edit_files.specs.Steps.{Mistakes};
 ghost use Rattle.toml_edit_files.specs.Stops.{reason_of};
 
@@ -11,6 +11,7 @@ use crate::read::STREAM;
 use crate::stop::Step;
 use std::alloc::Global;
 use toml_edit_edits::Verb;
+use toml_edit_settings::is_rule;
 
 /// The options of a command, each with its operand, and its other words.
 #[derive(Drop)]
@@ -147,6 +148,14 @@ impl<'w> Split<'w> {
     {
         self.last(name).is_some()
     }
+
+    /// Returns `true` if there is an option of one of these names.
+    pub fn has_either(&self, name: &str, other: &str) -> bool
+        ensures { result ≡ (has name.now (split_of self.now).options
+            || has other.now (split_of self.now).options) }
+    {
+        self.has(name) || self.has(other)
+    }
 }
 
 /// Returns `true` if the word is an option of the command that takes no operand.
@@ -156,8 +165,14 @@ fn is_flag(topic: Topic, word: &str) -> bool
     match topic {
         Topic::Get => word == "--raw" || word == "--lines",
         Topic::Keys => word == "--all",
-        Topic::Edit => word == "--dry-run" || word == "--locked" || word == "--force",
-        Topic::Fmt => word == "--check" || word == "--keys" || word == "--force",
+        Topic::Edit => word == "--dry-run"
+            || word == "--diff"
+            || word == "--locked"
+            || word == "--force",
+        Topic::Fmt => word == "--check"
+            || word == "--diff"
+            || word == "--keys"
+            || word == "--force",
         _ => false,
     }
 }
@@ -169,8 +184,18 @@ fn takes_operand(topic: Topic, word: &str) -> bool
     match topic {
         Topic::Get => word == "--default",
         Topic::Edit => word == "--script" || word == "--output",
-        Topic::Fmt => word == "--sort",
+        Topic::Fmt => word == "--sort" || rule_of(word).is_some(),
         _ => false,
+    }
+}
+
+/// Returns the name of the rule that an option sets, or `None` if it sets none.
+pub fn rule_of(word: &str) -> Option<&str>
+    ensures { option_copied result ≡ rule_of word.now }
+{
+    match word.strip_prefix("--") {
+        Some(name) if is_rule(name) => Some(name),
+        _ => None,
     }
 }
 

@@ -95,6 +95,8 @@ pub struct EditCommand<'w> {
     pub file: &'w str,
     pub script: Option<&'w str>,
     pub dry_run: bool,
+    /// Whether the difference is written in place of the text.
+    pub diff: bool,
     pub output: Option<&'w str>,
     pub locked: bool,
     /// Whether a read-only file is replaced.
@@ -117,17 +119,22 @@ pub struct Json<'w> {
 #[derive(Drop)]
 pub struct Fmt<'w> {
     pub files: Vec<&'w str>,
-    pub style: Style,
+    pub style: Style<'w>,
     pub check: bool,
+    /// Whether the difference is written of a file that would change.
+    pub diff: bool,
     /// Whether a read-only file is replaced.
     pub force: bool,
 }
 
 /// What `fmt` changes besides the layout.
 #[derive(Drop)]
-pub struct Style {
+pub struct Style<'w> {
     /// Sorts, which are made first.
     pub sorts: Vec<Edit>,
-    /// Whether keys are bare where they can be.
+    /// The names of rules that are set, with their values, of which each takes its one. The last
+    /// counts.
+    pub rules: Vec<(&'w str, &'w str)>,
+    /// Whether keys are bare where they can be, unless a rule says it.
     pub keys: bool,
 }

@@ -1,14 +1,35 @@
 -- A replacement of the other file may have been begun.
-use Rattle.std.proofs.Common.{inl, inr, subst, sym}
+use Rattle.std.proofs.Common.{◌≡◌, ◌∙◌, inl, inr, refl, string_bytes, subst, sym, true}
+use Rattle.std.specs.Prelude.{IsTrue}
 use Rattle.file_replace.specs.Events.{Text}
-use Rattle.toml_edit_files.specs.EditFiles.{IsUnmade, target_of}
-use Rattle.toml_edit_files.specs.Edited.{version_by}
+use Rattle.toml_edit_files.specs.EditFiles.{IsShownAs, IsUnmade, is_shown, target_of}
+use Rattle.toml_edit_files.specs.Edited.{IsEdited, IsInForm, version_by}
 use Rattle.toml_edit_files.specs.Folders.{IsTextOf, MayBegin, Stops}
 use Rattle.toml_edit_files.specs.Stops.{IsFailed, reason_of}
 use Rattle.toml_edit_files.proofs.FolderLaws.{begins_then, stops_beginning}
+use Rattle.toml_edit_files.proofs.RunLaws.{chosen}
 use Rattle.toml_edit_files.proofs.StopLaws.{passed, unread_text}
 use Rattle.toml_edit_files.proofs.UnmadeLaws.{unedited}
 use Rattle.toml_edit_files.proofs.edit.edit_elsewhere.Goals as goal
+
+pub returns-then-is_shown-clause-edits : goal.returns-then-is_shown-clause-edits
+returns-then-is_shown-clause-edits g c =
+    let command = c.args.command.now in
+    let text = string_bytes c.in_ok-edited.edited.output in
+    let output = string_bytes c.in_ok-output.output in
+    let shown : is_shown command ≡ true = sym c.is_shown.ensures ∙ c.if-is_shown.true in
+    record {
+      before = string_bytes c.in_ok-text.text;
+      text = text;
+      read = g.F.Folder.history c.text_of.new.folder;
+      file = c.in_ok-text.ensures.text;
+      locked = subst (λ (t : Text). IsTrue command.locked → IsInForm c.args.reading t) c.as_str.ensures.value c.in_ok-edited.ensures.locked;
+      edited =
+          subst (λ (t : Text). IsEdited c.args.reading c.args.edits.now t text) c.as_str.ensures.value c.in_ok-edited.ensures.text;
+      puts =
+          chosen _ _ (is_shown command) shown
+          (subst (λ (t : Text). IsShownAs command t text output) c.as_str-then-is_shown.ensures.value c.in_ok-output.ensures, refl);
+    }
 
 pub returns-in_err-put_at-clause-stops : goal.returns-in_err-put_at-clause-stops
 returns-in_err-put_at-clause-stops g c =

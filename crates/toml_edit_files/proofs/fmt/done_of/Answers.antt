@@ -7,14 +7,13 @@ use Rattle.toml_edit_files.specs.Edited.{version_by}
 use Rattle.toml_edit_files.specs.Folders.{IsTextOf, is_stream}
 use Rattle.toml_edit_files.specs.FormatFiles.{IsFormatted, IsUnformatted}
 use Rattle.toml_edit_files.proofs.FormatLaws.{none-formatted}
-use Rattle.toml_edit_files.proofs.RunLaws.{formats_not, formats_out, line_so, stream_so}
+use Rattle.toml_edit_files.proofs.RunLaws.{formats_not, formats_out, stream_so}
 use Rattle.toml_edit_files.proofs.StopLaws.{passed, unread_text}
 use Rattle.toml_edit_files.specs.Stops.{IsFor, Reads, reason_of}
 use Rattle.toml_edit_files.specs.declared.stop.Reason.TheVariants.{Failed}
 use Rattle.toml_edit_files.proofs.StopLaws.{leaves_if, reads_passed}
 use Rattle.toml_edit_files.proofs.fmt.done_of.Goals as goal
 use Rattle.toml_edit_files.proofs.fmt.done_of.Goals.{else-not-command-via-then-not-command+else-ne, else-not-command-via-else-not-command}
-use Rattle.toml_edit_files.proofs.fmt.done_of.Goals.{then-eq, else-eq+in_ok-line}
 
 pub returns-then-ne-clause-unmade : goal.returns-then-ne-clause-unmade
 returns-then-ne-clause-unmade g c =
@@ -64,32 +63,14 @@ pub returns-clause-done : goal.returns-clause-done
 returns-clause-done g c =
     let command = c.args.command.now in
     let file = c.args.file.now in
-    let before = string_bytes c.in_ok-before.before in
-    let text = string_bytes c.in_ok-text.text in
+    let old = g.F.Folder.history c.args.folder.now in
+    let new = g.F.Folder.history c.text_of.new.folder in
+    let left = g.I.Input.remaining c.args.input.now in
     let checked : command.check ≡ true = grind (arith, c.if-not-command-2.false) in
-    let same : bytes_eq c.as_str.result.now c.as_str-before.result.now ≡ bytes_eq text before =
-    ap (λ (t : Text). bytes_eq t c.as_str-before.result.now) c.as_str.ensures.value ∙ ap (λ (t : Text). bytes_eq text t) c.as_str-before.ensures.value in
-    let same-2 : bytes_eq c.as_str-2.result.now c.as_str-before.result.now ≡ bytes_eq text before =
-    ap (λ (t : Text). bytes_eq t c.as_str-before.result.now) c.as_str-2.ensures.value ∙ ap (λ (t : Text). bytes_eq text t) c.as_str-before.ensures.value in
-    let line : string_bytes c.if-eq.line ≡ (if c.eq.result then [] else file ++ codes ": not formatted\n") =
-    line_so c.eq.result (string_bytes c.if-eq.line) (file ++ codes ": not formatted\n")
-    (elim c.if-eq.branch [
-      | then-eq w ↦
-          let is = w.line-is in let made = w.new-line.ensures in
-          inl (w.if-eq.true, search rules)
-      | else-eq+in_ok-line w ↦
-          inr (
-            w.if-eq.false,
-            ap string_bytes w.line-is ∙ w.in_ok-line.ensures.ok ∙ ap (λ (t : Text). file ++ t) (append-nil (codes ": not formatted\n")),
-          )
-    ])
-    in
-    formats_not c.args.reading command file before text (g.F.Folder.history c.args.folder.now) (g.F.Folder.history c.text_of.new.folder)
-    (g.I.Input.remaining c.args.input.now) c.in_ok-before.ensures.text
-    (subst (λ (t : Text). IsFormatted c.args.reading command.style t text) c.as_str-before.ensures.value c.in_ok-text.ensures.formatted)
-    c.new-2.result.yes (string_bytes c.new-2.result.output) checked (c.new-2.ensures.yes ∙ c.eq-2.ensures ∙ same-2)
-    (ap string_bytes c.new-2.ensures.output
-    ∙ subst (λ b. string_bytes c.if-eq.line ≡ (if b then [] else file ++ codes ": not formatted\n")) (c.eq.ensures ∙ same) line)
+    formats_not c.args.reading command file c.as_str-before.result.now c.as_str.result.now old new left
+    (subst (λ (t : Text). IsTextOf file old new left t) (sym c.as_str-before.ensures.value) c.in_ok-before.ensures.text)
+    (subst (λ (t : Text). IsFormatted c.args.reading command.style c.as_str-before.result.now t) (sym c.as_str.ensures.value) c.in_ok-text.ensures.formatted)
+    c.in_ok-compared.field-0.yes (string_bytes c.in_ok-compared.field-0.output) checked c.in_ok-compared.ensures.yes c.in_ok-compared.ensures.output
 
 pub returns-in_err-before-clause-rest : goal.returns-in_err-before-clause-rest
 returns-in_err-before-clause-rest g c =

@@ -53,7 +53,8 @@ returns-clause-says c =
           (c.as_slice-2.ensures.value ∙ nil);
       script = c.last-script.ensures;
       output = c.last.ensures;
-      dry_run = c.has.ensures;
+      dry_run = c.has_either.ensures;
+      diff = c.has.ensures;
       locked = c.has-2.ensures;
       force = c.has-3.ensures;
     }

@@ -1,9 +1,10 @@
 -- The files up to here are formatted.
 use Rattle.toml_edit_files.proofs.OutcomeLaws.{SoFar, names_from}
 use Rattle.toml_edit_files.specs.FormatFiles.{FormatsFile}
-use Rattle.toml_edit_files.proofs.fmt.fmt.Given as goal
+use Rattle.toml_edit_files.proofs.fmt.fmt_all.Given as goal
 
 abbrev pub invariant-files : goal.invariant-files
 invariant-files g l =
     SoFar (FormatsFile l.reading l.command) (names_from 0 l.files) (g.F.Folder.history l.initial.folder)
-    (g.I.Input.remaining l.initial.input) (names_from l.file-index l.files) (g.F.Folder.history l.folder) (g.I.Input.remaining l.input) l.told
+    (g.I.Input.remaining l.initial.input) (names_from l.file-index l.files) (g.F.Folder.history l.folder) (g.I.Input.remaining l.input)
+    l.tally.told l.tally.undone
