@@ -1311,7 +1311,7 @@ DIFFERENCES = {
     "replaces_a_table_by_a_value": "tomlkit 0.11 fails",
     "builds_dotted_keys": "the text is that of tomlkit's documentation, without an empty line",
     "deletes_inside_inline_tables": "no space is left behind",
-    "inserts": "a space stands behind each comma",
+    "inserts": "a space follows each comma",
     "refuses_strings": "an unescaped string has to be valid",
     "removes_from_an_out_of_order_table": "an empty line belongs to the header after it, and goes with that one",
     "adds_to_an_out_of_order_table": "tomlkit 0.11 fails",

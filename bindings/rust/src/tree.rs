@@ -326,7 +326,7 @@ fn read_value(text: &str, nodes: &Nodes, document: u64, at: usize) -> Value {
     let spelled = &text[nodes.span(at)];
     let (mut decor, origin) = (read_decor(text, nodes, at), (document, at));
     if nodes.name(at).is_some() {
-        // Before a value is what stands behind the equals sign, which a table of dotted keys lacks.
+        // A value has what follows its equals sign, which a table of dotted keys lacks.
         let between = text.get(nodes.key(at).end..nodes.span(at).start).and_then(|it| it.split_once('='));
         decor.prefix = between.map(|(_, space)| space.to_string());
     }

@@ -15,7 +15,7 @@ abbrev pub count_text : ℕ → ℕ → Text → Text
 count_text files undone word =
     decimal files ++ (codes " " ++ (noun files ++ (codes ", " ++ (decimal undone ++ (codes " " ++ word)))))
 
--- a line stands behind the messages if a folder was walked, and memory does not run out
+-- a line follows the messages if a folder was walked, and memory does not run out
 abbrev pub Counts : Bool → Text → Told → Told → Type 0
 Counts is_walked line told all =
     (string_bytes all.output ≡ string_bytes told.output)

@@ -20,7 +20,7 @@ use std::alloc::Global;
 use toml_edit::{Document, ParseFault};
 use toml_edit_io::Input;
 
-/// What is said of files that are refused, or not read.
+/// Describes files that are refused or cannot be read, in the count at the end.
 pub const UNCHECKED: &str = "not accepted";
 
 /// Reads files, and those below folders, and tells which of them are refused: `FILE:LINE:COLUMN: MESSAGE`.

@@ -32,7 +32,7 @@ use toml_edit_fmt::{Rules, format_text};
 use toml_edit_io::Input;
 use toml_edit_settings::set_rules;
 
-/// What is said of files that a command does not format.
+/// Describes files that are not formatted, in the count at the end.
 pub const UNFORMATTED: &str = "not formatted";
 
 /// Formats each file in place, one after another, also those below folders, and standard input for `-`.
